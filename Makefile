@@ -1,0 +1,12 @@
+# Geyserpan: the two commands are `make run` and `make test`.
+.PHONY: run test fmt
+
+run:
+	@echo "The program cgrun is not built yet. What is here: the definitions, and their proof (docs/PROMISES.md)."
+	@rt check
+
+test:
+	@rt ci
+
+fmt:
+	@rt fmt

@@ -1,0 +1,3 @@
+pub mod Affine
+pub mod Calls
+pub mod Steps

@@ -1,0 +1,3 @@
+// The deferred body graph: what its parts mean by value.
+pub mod affine;
+pub mod keys;
