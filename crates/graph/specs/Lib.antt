@@ -1,3 +1,6 @@
+pub mod Acts
 pub mod Affine
 pub mod Calls
+pub mod KeyLists
+pub mod Packed
 pub mod Steps
