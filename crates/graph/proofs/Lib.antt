@@ -1,0 +1,6 @@
+pub mod Answers
+pub mod Striking
+pub mod Effects
+pub mod Outcome
+pub mod Meeting
+pub mod OutcomeKept
