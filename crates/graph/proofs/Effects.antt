@@ -159,3 +159,10 @@ effect-here (fuse k i) s ss = effect-units _ (reshaped-pair i (onSingles fuseOps
 pub effect-at : (k : ℕ) (t : Step) (ss : List Station) → Holds (Effect (costs t) ss) (at k (atStation t) ss)
 effect-at k t [] = refuses
 effect-at k t (s ∷ ss) = holds-cond (eqb (s .node .key) k) (λ e. effect-here t s ss) (λ e. holds-map _ (λ c g. further s g) (effect-at k t ss))
+
+pub effect-size : {k : ℕ} {ss : List Station} {c : Change} → Effect k ss c → length (c .now) ≡ length ss
+effect-size (realised n pre o post us ss e h) = refl
+effect-size (moved n u us s ss e) = refl
+effect-size (finished n pre o post us ss e) = refl
+effect-size (reshaped n ss h) = refl
+effect-size (further s h) = ap suc (effect-size h)

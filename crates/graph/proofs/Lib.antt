@@ -4,3 +4,4 @@ pub mod Effects
 pub mod Outcome
 pub mod Meeting
 pub mod OutcomeKept
+pub mod Limits

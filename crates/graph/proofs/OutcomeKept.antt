@@ -22,7 +22,7 @@ use Rattle.graph.specs.Sessions.{Station, station, Session, store}
 use Rattle.graph.specs.Steps.{Step, admit, realise, move, finish, join, split, swap, fuse, Change, only, anyHits, putUnit, mayFuse, fused, enter, admitted, changed, admitHead, stepAt, step}
 use Rattle.graph.proofs.Answers.{Holds, refuses, holds, holds-map, by-bool, and-left, and-right}
 use Rattle.graph.proofs.Striking.{same-eq, struck-out, nil-out}
-use Rattle.graph.proofs.Effects.{Reshaped, joined, cut, swapped, fusing, before, after, Effect, realised, moved, finished, reshaped, further, costs, effect-at}
+use Rattle.graph.proofs.Effects.{Reshaped, joined, cut, swapped, fusing, before, after, Effect, realised, moved, finished, reshaped, further, effect-at, effect-size}
 use Rattle.graph.proofs.Outcome.{flat, flowNode, flowOps, Seen, front, plus, seen-path, plus-zero, plus-plus, plus-swap, flat-append, flowNode-append, flowOps-append, sum, sumOps, through, admitting, outcome, sum-store, sumOps-append, through-enter}
 use Rattle.graph.proofs.Meeting.{flow-key, pass-node, pass-op, hit-node, hit-op, flowNode-pass, flowOps-pass, flowNode-passes, flowOps-passes, anyHits-key, Commute, swap-commutes, meet, meet-sym, commute-op, commute-node, commute-visited, applied-composed}
 
@@ -153,34 +153,21 @@ module _ (w : Result → ℕ) where
   alike (after u {us} {vs} h) ss pre post =
       rw (append-assoc u (flat us) post, append-assoc u (flat vs) post, ← append-assoc pre u (flat us ++ post), ← append-assoc pre u (flat vs ++ post)) (alike h ss (pre ++ u) post)
 
-  -- what a step keeps of the stations
-  record Kept (ss : List Station) (c : Change) : Type 0 where
-    same : (os : List Op) → through w ss os ≡ plus (sum w (c .gone)) (through w (c .now) os)
-    size : length (c .now) ≡ length ss
-
-  effect-kept : {k : ℕ} {ss : List Station} {c : Change} → Effect k ss c → Kept ss c
-  effect-kept (realised n pre o post us ss e h) = record {
-    same = λ os.
-        let X = post ++ (flat us ++ os) in
-        rw (append-assoc (pre ++ (o ∷ post)) (flat us) os, append-assoc (pre ++ (actBy o n ∷ post)) (flat us) os, append-assoc pre (o ∷ post) (flat us ++ os), append-assoc pre (actBy o n ∷ post) (flat us ++ os))
-        ((λ i. front (acted-node n pre o X e h i) (through w ss (acted-ops n pre o X e h i))) ∙ sym (plus-zero _));
-    size = refl;
-  }
-  effect-kept (moved n u us s ss e) = record {
-    same = λ os.
-        rw (append-assoc u (flat us) os, flat-append (s .units) (u ∷ []), append-nil u, append-assoc (flat (s .units)) u)
-        ((λ i. front (flowNode-passes u (flat us ++ os) n e i) (through w (s ∷ ss) (flowOps-passes u (flat us ++ os) n e i))) ∙ sym (plus-zero _));
-    size = refl;
-  }
-  effect-kept (finished n pre o post us ss e) = record {
-    same = λ os.
-        let X = flat us ++ os in
-        rw (append-assoc (pre ++ (o ∷ post)) (flat us) os, flat-putUnit (pre ++ post) us, append-assoc (pre ++ post) (flat us) os, append-assoc pre (o ∷ post) X, append-assoc pre post X)
-        (through-drop (station n [] ∷ ss) pre (post ++ X) o (finish-idle o n ss e));
-    size = refl;
-  }
-  effect-kept (reshaped n ss h) = record { same = λ os. alike h (station n [] ∷ ss) [] os ∙ sym (plus-zero _); size = refl }
-  effect-kept (further s h) = record { same = λ os. ap (front _) (effect-kept h .same _); size = ap suc (effect-kept h .size) }
+  -- what a step at a station keeps, whatever comes in
+  effect-kept : {k : ℕ} {ss : List Station} {c : Change} → Effect k ss c → (os : List Op) → through w ss os ≡ plus (sum w (c .gone)) (through w (c .now) os)
+  effect-kept (realised n pre o post us ss e h) os =
+      let X = post ++ (flat us ++ os) in
+      rw (append-assoc (pre ++ (o ∷ post)) (flat us) os, append-assoc (pre ++ (actBy o n ∷ post)) (flat us) os, append-assoc pre (o ∷ post) (flat us ++ os), append-assoc pre (actBy o n ∷ post) (flat us ++ os))
+      ((λ i. front (acted-node n pre o X e h i) (through w ss (acted-ops n pre o X e h i))) ∙ sym (plus-zero _))
+  effect-kept (moved n u us s ss e) os =
+      rw (append-assoc u (flat us) os, flat-append (s .units) (u ∷ []), append-nil u, append-assoc (flat (s .units)) u)
+      ((λ i. front (flowNode-passes u (flat us ++ os) n e i) (through w (s ∷ ss) (flowOps-passes u (flat us ++ os) n e i))) ∙ sym (plus-zero _))
+  effect-kept (finished n pre o post us ss e) os =
+      let X = flat us ++ os in
+      rw (append-assoc (pre ++ (o ∷ post)) (flat us) os, flat-putUnit (pre ++ post) us, append-assoc (pre ++ post) (flat us) os, append-assoc pre (o ∷ post) X, append-assoc pre post X)
+      (through-drop (station n [] ∷ ss) pre (post ++ X) o (finish-idle o n ss e))
+  effect-kept (reshaped n ss h) os = alike h (station n [] ∷ ss) [] os ∙ sym (plus-zero _)
+  effect-kept (further s h) os = ap (front _) (effect-kept h _)
 
   -- what the top stream makes of the stations depends on nothing else of them
   entering-same : (o : Op) (k : ℕ) (ss ts : List Station) → length ts ≡ length ss → ((os : List Op) → through w ss os ≡ plus k (through w ts os)) →
@@ -208,8 +195,7 @@ module _ (w : Result → ℕ) where
 
   step-at : (k : ℕ) (t : Step) (s : Session) → Holds (Same s) (stepAt k t s)
   step-at k t s = holds-map _ (λ c h.
-      let g = effect-kept h in
-      ap (plus _) (admitting-same (s .topStream) (sum w (c .gone)) (s .stations) (c .now) (g .size) (g .same)) ∙ storing (c .gone) (s .results) _) (effect-at k t (s .stations))
+      ap (plus _) (admitting-same (s .topStream) (sum w (c .gone)) (s .stations) (c .now) (effect-size h) (effect-kept h)) ∙ storing (c .gone) (s .results) _) (effect-at k t (s .stations))
 
   step-admit : (s : Session) (cs : List Labelled) → Holds (λ t. plus (sum w (s .results)) (admitting w cs (s .stations)) ≡ outcome w t) (admitHead s cs)
   step-admit s [] = refuses
