@@ -5,3 +5,6 @@ pub mod Outcome
 pub mod Meeting
 pub mod OutcomeKept
 pub mod Limits
+pub mod Labels
+pub mod Weights
+pub mod Validity
