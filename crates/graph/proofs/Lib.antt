@@ -8,3 +8,4 @@ pub mod Limits
 pub mod Labels
 pub mod Weights
 pub mod Validity
+pub mod Verdicts
