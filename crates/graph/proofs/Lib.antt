@@ -9,3 +9,4 @@ pub mod Labels
 pub mod Weights
 pub mod Validity
 pub mod Verdicts
+pub mod Drains
