@@ -77,7 +77,7 @@ pub record Resting (s : Session) : Type 0 where
   pub units : backmost (s .stations) ≡ none
   pub calls : s .topStream ≡ []
 
-no-units : (b : Option ℕ) (us : List (List Op)) (k : ℕ) → orHere b us k ≡ none → (b ≡ none) × (us ≡ [])
+pub no-units : (b : Option ℕ) (us : List (List Op)) (k : ℕ) → orHere b us k ≡ none → (b ≡ none) × (us ≡ [])
 no-units (some j) us k e = absurd (let z : _≡_ {A = ℕ} 0 1 = cc in omega arith)
 no-units none [] k e = (refl, refl)
 no-units none (u ∷ us) k e = absurd (let z : _≡_ {A = ℕ} 0 1 = cc in omega arith)

@@ -10,3 +10,4 @@ pub mod Weights
 pub mod Validity
 pub mod Verdicts
 pub mod Drains
+pub mod Demand3

@@ -22,7 +22,8 @@ use Rattle.graph.specs.Valid.{Each, Key, ValidTargets, ValidAct, ValidHe
 use Rattle.graph.proofs.Answers.{Holds, refuses, holds, holds-map, holds-cond, by-bool, and-left, and-right, and-both}
 use Rattle.graph.proofs.Effects.{Effect, realised, moved, finished, reshaped, further, costs, effect-at, effect-size}
 use Rattle.graph.proofs.Limits.{each-append, each-left, each-right, above-lower, rising-above, ValidChange, valid-effect, valid-stored, valid-newNode, valid-addResult}
-use Rattle.graph.proofs.Labels.{total, is, one, stray, total-append, total-is, total-one, given-stray, stray-given, SameLabels, step-labels, store-rising}
+use Rattle.graph.proofs.Outcome.{sum as sumOf}
+use Rattle.graph.proofs.Labels.{total, byLabel, is, one, stray, total-append, total-is, total-one, total-results, given-stray, stray-given, SameLabels, step-labels, store-rising}
 
 pub valid-fresh : Valid fresh
 valid-fresh = record {
@@ -184,7 +185,7 @@ step-valid t s g = go (step t s) (step-local t s g) (step-labels t s) (step-stor
 -- CLAIMS
 -- the results that stay, of those that were there
 record Fewer (rs : List Result) (c : Claimed) : Type 0 where
-  labels : (v : ℕ → ℕ) → total v (labelsOfResults rs) ≡ v (c .result .label) + total v (labelsOfResults (c .others))
+  found : (w : Result → ℕ) → sumOf w rs ≡ w (c .result) + sumOf w (c .others)
   each : Each ValidResult rs → Each ValidResult (c .others)
   lower : (d : ℕ) → above d (labelsOfResults rs) ≡ true → above d (labelsOfResults (c .others)) ≡ true
   order : rising (labelsOfResults rs) ≡ true → rising (labelsOfResults (c .others)) ≡ true
@@ -194,13 +195,13 @@ take-fewer l [] = refuses
 take-fewer l (r ∷ rs) =
     holds-cond (eqb (r .label) l)
     (λ e. holds {a = record { result = r; others = rs }} (record {
-      labels = λ v. refl;
+      found = λ w. refl;
       each = λ h. h .1;
       lower = λ d h. above-lower d (r .label) (labelsOfResults rs) (omega (arith, ltb-true d (r .label) (and-left _ _ h))) (and-right (ltb d (r .label)) _ h);
       order = λ h. rising-above (r .label) (labelsOfResults rs) h;
     }))
     (λ e. holds-map _ (λ c h. record {
-      labels = λ v. omega (arith, h .labels v);
+      found = λ w. omega (arith, h .found w);
       each = λ x. (x .0, h .each (x .1));
       lower = λ d x. and-both (and-left (ltb d (r .label)) _ x) (h .lower (r .label) (and-right (ltb d (r .label)) _ x));
       order = λ x. h .lower (r .label) x;
@@ -208,14 +209,22 @@ take-fewer l (r ∷ rs) =
 
 -- what a claim gives, and that the session without it is valid
 pub record ValidClaim (s : Session) (c : Claimed) : Type 0 where
-  pub labels : (v : ℕ → ℕ) → total v (labelsOfResults (s .results)) ≡ v (c .result .label) + total v (labelsOfResults (c .others))
+  pub found : (w : Result → ℕ) → sumOf w (s .results) ≡ w (c .result) + sumOf w (c .others)
   pub valid : Valid (keeping s (c .others))
 
 claimed-valid : (s : Session) (c : Claimed) → Valid s → Fewer (s .results) c → ValidClaim s c
 claimed-valid s c g h =
-    let less : (v : ℕ → ℕ) → total v (live (keeping s (c .others))) ≤ total v (live s) = λ v. omega (arith, h .labels v, total-append v (pending s) (labelsOfResults (s .results)), total-append v (pending s) (labelsOfResults (c .others))) in
+    let t : Session = keeping s (c .others) in
+    let less : (v : ℕ → ℕ) → total v (live t) ≤ total v (live s) = λ v. omega (
+      arith,
+      h .found (byLabel v),
+      total-results v (s .results),
+      total-results v (c .others),
+      total-append v (pending s) (labelsOfResults (s .results)),
+      total-append v (pending s) (labelsOfResults (c .others)),
+    ) in
     record {
-      labels = h .labels;
+      found = h .found;
       valid = record {
         falling = g .falling;
         stations = g .stations;
@@ -223,9 +232,9 @@ claimed-valid s c g h =
         results = h .each (g .results);
         room = g .room;
         order = h .order (g .order);
-        given = stray-given (s .last) (live (keeping s (c .others))) (omega (arith, less (stray (s .last)), given-stray (s .last) (live s) (g .given)));
-        once = λ l. omega (arith, less (is l), total-is l (live s), total-is l (live (keeping s (c .others))), g .once l);
-        places = omega (arith, less one, total-one (live s), total-one (live (keeping s (c .others))), g .places);
+        given = stray-given (s .last) (live t) (omega (arith, less (stray (s .last)), given-stray (s .last) (live s) (g .given)));
+        once = λ l. omega (arith, less (is l), total-is l (live s), total-is l (live t), g .once l);
+        places = omega (arith, less one, total-one (live s), total-one (live t), g .places);
         labels = g .labels;
       };
     }
