@@ -11,3 +11,4 @@ pub mod Validity
 pub mod Verdicts
 pub mod Drains
 pub mod Demand3
+pub mod Cases

@@ -13,3 +13,4 @@ pub mod Acceptance
 pub mod Drain
 pub mod Valid
 pub mod Runs
+pub mod Cases
