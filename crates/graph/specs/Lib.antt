@@ -2,5 +2,6 @@ pub mod Acts
 pub mod Affine
 pub mod Calls
 pub mod KeyLists
+pub mod Kinds
 pub mod Packed
 pub mod Steps

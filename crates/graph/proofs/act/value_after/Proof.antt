@@ -1,0 +1,87 @@
+use native.Mathlib.Omega.{arith}
+use borrow.Author.Needs.{needs}
+use Rattle.graph.proofs.act.value_after.Statement.{statement}
+use Rattle.graph.proofs.act.value_after.Tie as tie
+use Rattle.graph.proofs.act.value_after.Reads as reads
+use Rattle.graph.proofs.act.value_after.Lts as lts
+use Rattle.graph.proofs.affine.Affine.apply.Reads as apply-reads
+
+-- src/act.rt:86:18
+enum-known-act : tie.Need-enum-known-act
+enum-known-act c = search needs
+
+-- src/act.rt:86:24
+apply-requires : tie.Need-apply-requires
+apply-requires c κs = search needs
+
+-- src/act.rt:87:25
+enum-told : tie.Need-enum-told
+enum-told c = search needs
+
+-- src/act.rt:88:27
+enum-told-2 : tie.Need-enum-told-2
+enum-told-2 c = search needs
+
+-- src/act.rt:89:21
+enum-told-3 : tie.Need-enum-told-3
+enum-told-3 c = search needs
+
+-- src/act.rt:90:21
+enum-told-4 : tie.Need-enum-told-4
+enum-told-4 c = search needs
+
+-- src/act.rt:91:22
+enum-told-5 : tie.Need-enum-told-5
+enum-told-5 c = search needs
+
+-- src/act.rt:92:25
+enum-told-6 : tie.Need-enum-told-6
+enum-told-6 c = search needs
+
+-- src/act.rt:82:1
+returns : tie.Need-returns
+returns c = ?
+
+-- src/act.rt:82:1
+returns-2 : tie.Need-returns-2
+returns-2 c = search needs
+
+-- src/act.rt:82:1
+returns-3 : tie.Need-returns-3
+returns-3 c = search needs
+
+-- src/act.rt:82:1
+returns-4 : tie.Need-returns-4
+returns-4 c = search needs
+
+-- src/act.rt:82:1
+returns-5 : tie.Need-returns-5
+returns-5 c = search needs
+
+-- src/act.rt:82:1
+returns-6 : tie.Need-returns-6
+returns-6 c = search needs
+
+-- src/act.rt:82:1
+returns-7 : tie.Need-returns-7
+returns-7 c = search needs
+
+pub value-after-spec : {M : Type 1} → statement M
+value-after-spec =
+    tie.close
+    (tie.spec
+    enum-known-act
+    apply-requires
+    enum-told
+    enum-told-2
+    enum-told-3
+    enum-told-4
+    enum-told-5
+    enum-told-6
+    returns
+    returns-2
+    returns-3
+    returns-4
+    returns-5
+    returns-6
+    returns-7)
