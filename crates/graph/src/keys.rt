@@ -67,13 +67,14 @@ impl Keys {
         ensures { λ r. ⌜ r ≡ packed (linked k (listed self)) ⌝ }
     {
         let n = self.len();
+        let mut key = self.key;
         if n == 8 {
             return self;
         }
-        let mut key = self.key;
         key[n] = k;
+        let more = n as u8 + 1;
         Keys {
-            count: n as u8 + 1,
+            count: more,
             key: key,
         }
     }
