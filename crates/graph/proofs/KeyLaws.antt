@@ -47,7 +47,7 @@ module _ (l : List ℕ) (i : ℕ) (h : length l ≤ i) where
 -- the list has a key at i
 module _ (l : List ℕ) (i : ℕ) (h : i < length l) where
   here : drop i l ≡ getD l i 0 ∷ drop (i + 1) l
-  here = rw (add-one) (drop-cons l i 0 h)
+  here = rw add-one (drop-cons l i 0 h)
 
   pub contains-hit : (k : ℕ) → k ≡ getD l i 0 → contains k (drop i l) ≡ true
   contains-hit k e = rw (here, eq-eqb k (getD l i 0) e)
@@ -78,7 +78,7 @@ module _ (l : List ℕ) (i : ℕ) (h : i < length l) where
   pub strike-miss : (k : ℕ) → (k ≡ getD l i 0 → ⊥) → strike k (take i l) ++ (getD l i 0 ∷ []) ≡ strike k (take (i + 1) l)
   strike-miss k n = rw (upTo, strike-append k (getD l i 0) (take i l), ne-eqb k (getD l i 0) n)
 
-  -- fewer than i + 1 keys before the place
+  -- what is kept of the keys before the place leaves room for one more
   pub strike-few : (k : ℕ) → length (strike k (take i l)) < length l
   strike-few k = omega (arith, length-strike k (take i l), length-take-le i l (omega arith))
 
@@ -93,7 +93,7 @@ same-length (t ∷ l) (u ∷ us) n = go (eqb t u) (same-length l us (λ e. n (ap
     go true e = e
     go false e = refl
 
--- THE STRUCT
+-- the struct of a list lists it
 pub listed-packed : (l : List ℕ) → listed (packed l) ≡ l
 unfolding packed
 listed-packed l = take-append-seam l (replicate (8 - length l) 0)
@@ -124,11 +124,11 @@ module _ (ks : Keys) (k n : ℕ) (p : ks ≡ packed (listed ks)) (e : n ≡ leng
       ∙ packed-more (listed ks) k (omega arith)
       ∙ rw (lt-leb 8 (length (listed ks)) (omega arith)) refl
 
--- what holds the keys of a list of at most eight is in the normal form
+-- the struct of a list is in the normal form
 pub normal : {ks : Keys} (l : List ℕ) → ks ≡ packed l → ks ≡ packed (listed ks)
 normal l p = p ∙ ap packed (sym (ap listed p ∙ listed-packed l))
 
--- link, on a list that has room
+-- link, on the struct of a list with room
 pub linked-next : {ks : Keys} (l : List ℕ) {k t : ℕ} → ks ≡ packed l → k ≡ t → length l < 8 → packed (linked k (listed ks)) ≡ packed (l ++ (t ∷ []))
 linked-next l p e h =
     (λ i. packed (linked (e i) ((ap listed p ∙ listed-packed l) i))) ∙ rw (lt-leb 8 (length l) h) refl
