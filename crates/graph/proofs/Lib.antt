@@ -1,5 +1,8 @@
 pub mod Answers
 pub mod Striking
+pub mod AffineLaws
+pub mod KeyLaws
+pub mod SwapTable
 pub mod Effects
 pub mod Outcome
 pub mod Meeting

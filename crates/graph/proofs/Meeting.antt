@@ -1,15 +1,11 @@
--- Where operations meet a node: an operation that passes it, two that may change places, two maps that are one.
+-- Where operations meet a node: an operation that passes it, and two that may change places.
 -- Assumes nothing.
 use mathlib.Core.Path.{_≡_, refl, sym, _∙_, ap}
-use Prim.Native.Nat.{ℕ, _+_, _*_, _%_, _/_}
-use native.Mathlib.Nat.{mul-comm, add-zero, mod-add-mod, add-mod-mod, add-mul-mod-self-left, div-add-mod}
-use native.Mathlib.Omega.{arith}
+use Prim.Native.Nat.{ℕ}
 use mathlib.Core.Bool.{Bool, true, false, cond, not, _&&_, _||_, true≢false}
 use mathlib.Core.List.{List, [], _∷_, _++_}
-use Rattle.graph.specs.declared.affine.Affine.{Affine}
 use Rattle.graph.specs.declared.act.Act.{Act}
 use Rattle.graph.specs.declared.act.Act.the-variants.{Map, Link, Unlink, Sum, Top, Pick, Near}
-use Rattle.graph.specs.Affine.{modulus, applied, composed}
 use Rattle.graph.specs.KeyLists.{contains, strike, disjoint}
 use Rattle.graph.specs.Acts.{isFold, newValue, newLinks, newHeld, mayShare}
 use Rattle.graph.specs.Nodes.{Node, Op, hits, actOn, actBy, visitNode, visitOp}
@@ -158,29 +154,3 @@ visit-act o n = cond-act (hits o n) (actBy o n) o refl
 pub commute-visited : (o q : Op) (n m : Node) → Commute o q → Commute (visitOp o n) (visitOp q m)
 commute-visited o q n m (parted f) = parted (λ k e. visit-targets q m k (by-bool (contains k (o .targets)) (λ e1. f k e1) (λ e1. absurd (true≢false (sym e ∙ visit-targets o n k e1)))))
 commute-visited o q n m (shares f) = shares (rw (visit-act o n, visit-act q m) f)
-
--- FUSE
--- for any modulus m: c((av + b) mod m) + d is, modulo m, (ca mod m)v + ((cb + d) mod m)
-mod-mul-go : (m c x q r : ℕ) → m * q + r ≡ x → c * x ≡ c * r + m * (c * q)
-mod-mul-go m c x q r h = omega (arith, ap (λ (k : ℕ). c * k) h)
-
-mod-mul : (m c x : ℕ) → (c * (x % m)) % m ≡ (c * x) % m
-mod-mul m c x = sym (ap (λ (k : ℕ). k % m) (mod-mul-go m c x (x / m) (x % m) (div-add-mod x m)) ∙ add-mul-mod-self-left (c * (x % m)) m (c * (x / m)))
-
-mod-mul-add : (m c x d : ℕ) → (c * (x % m) + d) % m ≡ (c * x + d) % m
-mod-mul-add m c x d = sym (mod-add-mod (c * (x % m)) m d) ∙ ap (λ (k : ℕ). (k + d) % m) (mod-mul m c x) ∙ mod-add-mod (c * x) m d
-
-compose-mod : (m a b c d v : ℕ) → (c * ((a * v + b) % m) + d) % m ≡ ((c * a + 0) % m * v + (c * b + d) % m) % m
-compose-mod m a b c d v =
-    mod-mul-add m c (a * v + b) d
-    ∙ ap (λ (k : ℕ). k % m) (regroup (a * v))
-    ∙ sym (mod-mul-add m v (c * a + 0) (c * b + d))
-    ∙ ap (λ (k : ℕ). (k + (c * b + d)) % m) (mul-comm v ((c * a + 0) % m))
-    ∙ sym (add-mod-mod ((c * a + 0) % m * v) (c * b + d) m)
-  where
-    regroup : (x : ℕ) → c * (a * v + b) + d ≡ v * (c * a + 0) + (c * b + d)
-    regroup x = omega arith
-
--- compose is 'first, then second'
-pub applied-composed : (f s : Affine) (v : ℕ) → applied (composed f s) v ≡ applied s (applied f v)
-applied-composed f s v = sym (compose-mod modulus (f .a) (f .b) (s .a) (s .b) v)

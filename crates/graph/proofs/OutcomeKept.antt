@@ -22,9 +22,10 @@ use Rattle.graph.specs.Sessions.{Station, station, Session, store}
 use Rattle.graph.specs.Steps.{Step, admit, realise, move, finish, join, split, swap, fuse, Change, only, anyHits, putUnit, mayFuse, fused, enter, admitted, changed, admitHead, stepAt, step}
 use Rattle.graph.proofs.Answers.{Holds, refuses, holds, holds-map, by-bool, and-left, and-right}
 use Rattle.graph.proofs.Striking.{same-eq, struck-out, nil-out}
+use Rattle.graph.proofs.AffineLaws.{applied-composed}
 use Rattle.graph.proofs.Effects.{Reshaped, joined, cut, swapped, fusing, before, after, Effect, realised, moved, finished, reshaped, further, effect-at, effect-size}
 use Rattle.graph.proofs.Outcome.{flat, flowNode, flowOps, Seen, front, plus, seen-path, plus-zero, plus-plus, plus-swap, flat-append, flowNode-append, flowOps-append, sum, sumOps, through, admitting, outcome, sum-store, sumOps-append, through-enter}
-use Rattle.graph.proofs.Meeting.{flow-key, pass-node, pass-op, hit-node, hit-op, flowNode-pass, flowOps-pass, flowNode-passes, flowOps-passes, anyHits-key, Commute, swap-commutes, meet, meet-sym, commute-op, commute-node, commute-visited, applied-composed}
+use Rattle.graph.proofs.Meeting.{flow-key, pass-node, pass-op, hit-node, hit-op, flowNode-pass, flowOps-pass, flowNode-passes, flowOps-passes, anyHits-key, Commute, swap-commutes, meet, meet-sym, commute-op, commute-node, commute-visited}
 
 -- an operation that targets none of the nodes that it has yet to meet
 abbrev Idle : Op → List Station → Type 0

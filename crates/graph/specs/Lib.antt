@@ -2,6 +2,7 @@ pub mod Refusals
 pub mod KeyLists
 pub mod Affine
 pub mod Acts
+pub mod Kinds
 pub mod Packed
 pub mod Calls
 pub mod Nodes

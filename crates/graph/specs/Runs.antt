@@ -68,20 +68,20 @@ stepEvents [] = []
 stepEvents (t ∷ ts) = steps t ∷ stepEvents ts
 
 -- the place of a step's kind in the tally: "one count for each of the eight step kinds"
-abbrev pub kindOf : Step → ℕ
-kindOf admit = 0
-kindOf (realise k) = 1
-kindOf (move k) = 2
-kindOf (finish k) = 3
-kindOf (join k i) = 4
-kindOf (split k i j) = 5
-kindOf (swap k i) = 6
-kindOf (fuse k i) = 7
+abbrev pub tallyPlace : Step → ℕ
+tallyPlace admit = 0
+tallyPlace (realise k) = 1
+tallyPlace (move k) = 2
+tallyPlace (finish k) = 3
+tallyPlace (join k i) = 4
+tallyPlace (split k i j) = 5
+tallyPlace (swap k i) = 6
+tallyPlace (fuse k i) = 7
 
 -- how many of the steps are of this kind
 abbrev pub ofKind : ℕ → List Step → ℕ
 ofKind k [] = 0
-ofKind k (t ∷ ts) = cond (eqb k (kindOf t)) 1 0 + ofKind k ts
+ofKind k (t ∷ ts) = cond (eqb k (tallyPlace t)) 1 0 + ofKind k ts
 
 -- the admits, realises, moves and finishes
 abbrev pub workSteps : List Step → ℕ
