@@ -6,7 +6,7 @@ use native.Mathlib.Nat.{add-zero, add-suc, suc-add, add-comm}
 use native.Mathlib.Numerals.{add-one}
 use native.Mathlib.Omega.{arith}
 use mathlib.Core.Bool.{Bool, true, false, cond, _&&_}
-use mathlib.Core.List.{List, [], _∷_, _++_}
+use mathlib.Core.List.{List, [], _∷_, _++_, append-assoc, append-nil}
 use mathlib.Core.Option.{Option, none, some}
 use lib.Dec.{eqb, leb}
 use lib.ListN.{length, length-append}
@@ -22,7 +22,7 @@ use Rattle.graph.specs.Steps.{Step, step}
 use Rattle.graph.specs.Acceptance.{accepted, accept, Claimed, claim, keeping}
 use Rattle.graph.specs.Drain.{weightOfCall, weightOfCalls, weightOf, backmost, orHere, drain}
 use Rattle.graph.specs.Valid.{count, Valid}
-use Rattle.graph.specs.Runs.{Event, calls, steps, drains, claims, Run, onCall, onStep, onDrain, onClaim, event, events, start, run, workSteps, stepAll, find, SameResult, Progress, Demand3, SameOutcome}
+use Rattle.graph.specs.Runs.{Event, calls, steps, drains, claims, Run, onCall, onStep, onDrain, onClaim, event, events, start, run, stepEvents, workSteps, andThen, stepAll, find, SameResult, Progress, Demand3, SameOutcome}
 use Rattle.graph.proofs.Answers.{Holds, refuses, holds, holds-at, and-left, and-right, eqb-same}
 use Rattle.graph.proofs.Striking.{same-eq, same-refl}
 use Rattle.graph.proofs.Effects.{costs}
@@ -290,6 +290,19 @@ graph-same x g e =
     let w : Result → ℕ = λ q. 0 in
     sym (resting-graph w (x .now .stations) (r .units)) ∙ ap (λ (cs : List Labelled). (admitting w cs (x .now .stations)) .nodes) (sym (r .calls)) ∙ ap (λ (y : Seen). y .nodes) (g .balance w)
 
+-- DRAIN: its steps, sent as events
+after-steps : (ts : List Step) (x : Run) (u : Session) → stepAll ts (x .now) ≡ done u →
+    events (stepEvents ts) x ≡ record { now = u; accepted = x .accepted; claimed = x .claimed; taken = x .taken ++ ts }
+after-steps [] x u e =
+    let p : x .now ≡ u = cc in
+    λ i. record { now = p i; accepted = x .accepted; claimed = x .claimed; taken = sym (append-nil (x .taken)) i }
+after-steps (t ∷ ts) x u e = go (step t (x .now)) (after-steps ts) e
+  where
+    go : (y : Answer Session) → ((z : Run) (v : Session) → stepAll ts (z .now) ≡ done v → events (stepEvents ts) z ≡ record { now = v; accepted = z .accepted; claimed = z .claimed; taken = z .taken ++ ts }) →
+        andThen y (stepAll ts) ≡ done u → events (stepEvents ts) (onStep t x y) ≡ record { now = u; accepted = x .accepted; claimed = x .claimed; taken = x .taken ++ (t ∷ ts) }
+    go (refused r) ih e = absurd (let z : _≡_ {A = ℕ} 0 1 = cc in omega arith)
+    go (done v) ih e = ih (onStep t x (done v)) u e ∙ (λ i. record { now = u; accepted = x .accepted; claimed = x .claimed; taken = append-assoc (x .taken) (t ∷ []) ts i })
+
 -- ONE THEOREM
 pub demand3 : (es : List Event) → Demand3 (run es)
 demand3 es =
@@ -302,7 +315,8 @@ demand3 es =
       graph = graph-same x g;
       progress = valid-progress (x .now) (g .valid);
       bound = omega (arith, g .bound);
-      drains = drain-drains (x .now) (g .valid) .steps;
+      oneByOne = drain-drains (x .now) (g .valid) .steps;
+      sameSteps = sym (after-steps ((drain (x .now)) .took) x ((drain (x .now)) .end) (drain-drains (x .now) (g .valid) .steps));
       drained = drain-ends (x .now) (g .valid);
       valid = g .valid;
     }

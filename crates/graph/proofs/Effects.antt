@@ -102,7 +102,7 @@ effect-realise n ss (u ∷ us) = holds-map _ (λ r h. rw (h .was, h .node, h .un
 effect-move : (n : Node) (ss : List Station) (us : List (List Op)) → Holds (Effect 1 (station n us ∷ ss)) (moveAt n ss us)
 effect-move n ss [] = refuses
 effect-move n [] (u ∷ us) = refuses
-effect-move n (s ∷ ss) (u ∷ us) = holds-cond (anyHits u n) (λ e. refuses) (λ e. holds (moved n u us s ss e))
+effect-move n (s ∷ ss) (u ∷ us) = holds-cond _ (λ e. refuses) (λ e. holds (moved n u us s ss e))
 
 effect-finish : (n : Node) (ss : List Station) (us : List (List Op)) → Holds (Effect 1 (station n us ∷ ss)) (finishAt n ss us)
 effect-finish n ss [] = refuses

@@ -129,8 +129,9 @@ pub record Demand3 (x : Run) : Type 0 where
   pub progress : (l : ℕ) → contains l (pending (x .now)) ≡ true → Progress (x .now)
   -- "The admits, realises, moves and finishes taken come together to at most 73 times the calls accepted"
   pub bound : workSteps (x .taken) ≤ 73 * length (x .accepted)
-  -- a drain takes its steps one by one, each answered 0, and leaves none pending
-  pub drains : stepAll ((drain (x .now)) .took) (x .now) ≡ done ((drain (x .now)) .end)
+  -- a drain's steps, sent one by one, are each answered 0 and lead to the same; it leaves none pending
+  pub oneByOne : stepAll ((drain (x .now)) .took) (x .now) ≡ done ((drain (x .now)) .end)
+  pub sameSteps : event drains x ≡ events (stepEvents ((drain (x .now)) .took)) x
   pub drained : pending ((drain (x .now)) .end) ≡ []
   pub valid : Valid (x .now)
 
