@@ -1,37 +1,36 @@
 -- DEMAND 3, of every list of events sent to a fresh session.
 -- Assumes nothing.
 use mathlib.Core.Path.{_≡_, refl, sym, _∙_, ap}
-use Prim.Native.Nat.{ℕ, zero, suc, _+_, _*_, _≤_, _<_}
+use Prim.Native.Nat.{ℕ, suc, _+_, _*_, _≤_, _<_}
 use native.Mathlib.Nat.{add-zero, add-suc, suc-add, add-comm}
 use native.Mathlib.Numerals.{add-one}
 use native.Mathlib.Omega.{arith}
 use mathlib.Core.Bool.{Bool, true, false, cond, _&&_}
 use mathlib.Core.List.{List, [], _∷_, _++_, append-assoc, append-nil}
 use mathlib.Core.Option.{Option, none, some}
-use lib.Dec.{eqb, leb}
+use lib.Dec.{eqb}
 use lib.ListN.{length, length-append}
 use borrow.Author.Tests.{eqb-true, eqb-false, ne-eqb, eq-eqb}
-use Rattle.graph.specs.declared.act.Act.{Act}
 use Rattle.graph.specs.Refusals.{Answer, refused, done}
 use Rattle.graph.specs.KeyLists.{contains, sameKeys}
 use Rattle.graph.specs.Calls.{Call, targetsOf}
 use Rattle.graph.specs.Nodes.{Node, Op, Result, visitOp, stored}
-use Rattle.graph.specs.OneAtATime.{Labelled, addOf, opOf, operation, labelled, World, passOp, process, processFrom, oneAtATime}
-use Rattle.graph.specs.Sessions.{Station, Session, graphOf, labelsOfResults, pending, live}
+use Rattle.graph.specs.OneAtATime.{Labelled, labelled, World, passOp, process, processFrom, oneAtATime}
+use Rattle.graph.specs.Sessions.{Station, Session, graphOf, labelsOfResults, pending}
 use Rattle.graph.specs.Steps.{Step, step}
-use Rattle.graph.specs.Acceptance.{accepted, accept, Claimed, claim, keeping}
-use Rattle.graph.specs.Drain.{weightOfCall, weightOfCalls, weightOf, backmost, orHere, drain}
-use Rattle.graph.specs.Valid.{count, Valid}
-use Rattle.graph.specs.Runs.{Event, calls, steps, drains, claims, Run, onCall, onStep, onDrain, onClaim, event, events, start, run, stepEvents, workSteps, andThen, stepAll, find, SameResult, Progress, Demand3, SameOutcome}
-use Rattle.graph.proofs.Answers.{Holds, refuses, holds, holds-at, and-left, and-right, eqb-same}
+use Rattle.graph.specs.Acceptance.{accepted, accept, Claimed, claim}
+use Rattle.graph.specs.Drain.{weightOfCall, weightOfCalls, weightOf, backmost, drain}
+use Rattle.graph.specs.Valid.{Valid}
+use Rattle.graph.specs.Runs.{Event, calls, steps, drains, claims, Run, onCall, onStep, onDrain, onClaim, events, start, run, stepEvents, workSteps, andThen, stepAll, find, SameResult, Demand3, SameOutcome}
+use Rattle.graph.proofs.Answers.{Holds, holds, holds-at, and-left, and-right, eqb-same}
 use Rattle.graph.proofs.Striking.{same-eq, same-refl}
 use Rattle.graph.proofs.Effects.{costs}
-use Rattle.graph.proofs.Outcome.{flat, Seen, plus, seen-path, sum, through, admitting, outcome, seen, processSeen, sum-append, process-seen, process-plus, outcome-accepted}
+use Rattle.graph.proofs.Outcome.{Seen, plus, seen-path, sum, through, admitting, outcome, seen, processSeen, sum-append, process-seen, process-plus, outcome-accepted}
 use Rattle.graph.proofs.OutcomeKept.{Same, step-same}
 use Rattle.graph.proofs.Labels.{byLabel, is, total, total-append, total-is, total-results, count-out, visit-labels, live-total}
 use Rattle.graph.proofs.Weights.{Lighter, step-lighter}
 use Rattle.graph.proofs.Validity.{valid-fresh, Stepped, step-valid, claim-valid, ValidClaim, Accepts, accept-valid, Fits, Sort, adds, operates, sort}
-use Rattle.graph.proofs.Drains.{Resting, no-units, pending-resting, valid-progress, work-cons, work-append, Drains, drain-drains, drain-ends}
+use Rattle.graph.proofs.Drains.{no-units, pending-resting, valid-progress, work-cons, work-append, drain-drains, drain-ends}
 
 -- ONE-AT-A-TIME RESULTS have the labels i, i + 1, i + 2, ..
 abbrev Labelling : ℕ → List Result → Type 0

@@ -3,7 +3,7 @@
 use mathlib.Core.Path.{_≡_, refl, sym, _∙_, ap, ap₂}
 use Prim.Native.Nat.{ℕ, zero, suc, _+_, _≤_, _<_}
 use native.Mathlib.Omega.{arith}
-use mathlib.Core.Bool.{Bool, true, false, cond, not, _&&_, _||_, true≢false, or-true}
+use mathlib.Core.Bool.{Bool, true, false, not, _||_, true≢false, or-true}
 use mathlib.Core.List.{List, [], _∷_, _++_}
 use mathlib.Core.Option.{Option, none, some}
 use lib.Dec.{eqb}
@@ -11,14 +11,14 @@ use lib.ListN.{length, length-append}
 use borrow.Author.Tests.{ne-eqb}
 use Rattle.graph.specs.Refusals.{Answer, refused, done, mapDone}
 use Rattle.graph.specs.KeyLists.{isNil, contains}
-use Rattle.graph.specs.Nodes.{Node, Op, Result, hits, mayFinish}
+use Rattle.graph.specs.Nodes.{Node, Op, Result, hits}
 use Rattle.graph.specs.OneAtATime.{Labelled, addOf, opOf}
-use Rattle.graph.specs.Sessions.{Station, station, Session, graphOf, labelsOfUnit, labelsOfUnits, labelsOfStations, labelsOfCalls, pending}
+use Rattle.graph.specs.Sessions.{Station, station, Session, labelsOfUnit, labelsOfUnits, labelsOfStations, labelsOfCalls, pending}
 use Rattle.graph.specs.Steps.{Step, admit, realise, move, finish, join, split, swap, fuse, step, anyHits}
-use Rattle.graph.specs.Allowed.{fromKey, anyFinishes, firstUnit, rule, allowed}
+use Rattle.graph.specs.Allowed.{fromKey, anyFinishes, rule, allowed}
 use Rattle.graph.specs.Drain.{orHere, backmost, Taken, taking, orElse, drainStepAt, drainStep, Drained, drainOn, drainFor, weightOf, drain}
-use Rattle.graph.specs.Valid.{Each, ValidOp, ValidUnit, ValidStation, ValidCall, KeysFall, Valid}
-use Rattle.graph.specs.Runs.{ofKind, workSteps, andThen, stepAll, Progress}
+use Rattle.graph.specs.Valid.{Each, ValidUnit, ValidStation, ValidCall, KeysFall, Valid}
+use Rattle.graph.specs.Runs.{workSteps, stepAll, Progress}
 use Rattle.graph.proofs.Answers.{Holds, refuses, holds, holds-at, isDone, isDone-map, or-left, eqb-same}
 use Rattle.graph.proofs.Effects.{costs}
 use Rattle.graph.proofs.OutcomeKept.{Same, step-same}

@@ -1,19 +1,19 @@
 -- What a step at a station does, as one relation: every law of the steps is an induction on it.
 -- Assumes nothing.
-use mathlib.Core.Path.{_≡_, refl, sym, _∙_, ap}
-use Prim.Native.Nat.{ℕ, zero, suc, _+_, _≤_, _<_}
+use mathlib.Core.Path.{_≡_, refl, ap}
+use Prim.Native.Nat.{ℕ, zero, suc, _≤_, _<_}
 use native.Mathlib.Omega.{arith}
-use mathlib.Core.Bool.{Bool, true, false, cond, not, _&&_, _||_}
+use mathlib.Core.Bool.{Bool, true, false}
 use mathlib.Core.List.{List, [], _∷_, _++_}
-use lib.Dec.{eqb, leb, ltb}
+use lib.Dec.{eqb, leb}
 use lib.ListN.{length, take, drop, take-append-drop, length-drop}
 use lib.Seq.{length-take-le}
 use borrow.Author.Tests.{leb-true, ltb-true}
-use Rattle.graph.specs.Refusals.{Answer, refused, done, mapDone}
+use Rattle.graph.specs.Refusals.{Answer}
 use Rattle.graph.specs.KeyLists.{isNil}
-use Rattle.graph.specs.Nodes.{Node, Op, Result, hits, actOn, actBy, mayFinish, stored}
-use Rattle.graph.specs.Sessions.{Station, station}
-use Rattle.graph.specs.Steps.{Step, admit, realise, move, finish, join, split, swap, fuse, Change, only, behind, at, Realised, realiseUnit, realiseAt, anyHits, atTail, moveAt, Finished, finishUnit, putUnit, finishAt, unitAt, pairAt, joinUnits, maySplit, splitUnit, onSingles, maySwap, swapOps, mayFuse, fused, fuseOps, onUnits, atStation}
+use Rattle.graph.specs.Nodes.{Node, Op, hits, actOn, actBy, mayFinish, stored}
+use Rattle.graph.specs.Sessions.{Station, station, Session}
+use Rattle.graph.specs.Steps.{Step, admit, realise, move, finish, join, split, swap, fuse, Change, only, behind, at, Realised, realiseUnit, realiseAt, anyHits, atTail, moveAt, Finished, finishUnit, putUnit, finishAt, unitAt, pairAt, joinUnits, maySplit, splitUnit, onSingles, maySwap, swapOps, mayFuse, fused, fuseOps, onUnits, admitHead, atStation, stepAt, step}
 use Rattle.graph.proofs.Answers.{Holds, refuses, holds, holds-map, holds-cond, and-left, and-right}
 
 -- units alone: join, split, swap and fuse, among units before and after them
@@ -166,3 +166,14 @@ effect-size (moved n u us s ss e) = refl
 effect-size (finished n pre o post us ss e) = refl
 effect-size (reshaped n ss h) = refl
 effect-size (further s h) = ap suc (effect-size h)
+
+-- a fact of every step: shown of admit, and of a step at any station
+pub by-station : (P : Step → Session → Type 0) (s : Session) → Holds (P admit) (admitHead s (s .topStream)) → ((k : ℕ) (t : Step) → Holds (P t) (stepAt k t s)) → (t : Step) → Holds (P t) (step t s)
+by-station P s a f admit = a
+by-station P s a f (realise k) = f k (realise k)
+by-station P s a f (move k) = f k (move k)
+by-station P s a f (finish k) = f k (finish k)
+by-station P s a f (join k i) = f k (join k i)
+by-station P s a f (split k i j) = f k (split k i j)
+by-station P s a f (swap k i) = f k (swap k i)
+by-station P s a f (fuse k i) = f k (fuse k i)

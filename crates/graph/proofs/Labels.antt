@@ -1,20 +1,20 @@
 -- Live labels: a sum over them is the total of the outcome, so every step keeps it; and results stand by rising label.
 -- Assumes nothing.
 use mathlib.Core.Path.{_≡_, refl, sym, _∙_, ap}
-use Prim.Native.Nat.{ℕ, suc, _+_, _≤_, _<_}
+use Prim.Native.Nat.{ℕ, _+_, _≤_, _<_}
 use native.Mathlib.Omega.{arith}
-use mathlib.Core.Bool.{Bool, true, false, cond, not, _&&_, _||_, true≢false}
+use mathlib.Core.Bool.{Bool, true, false, cond, _&&_}
 use mathlib.Core.List.{List, [], _∷_, _++_}
 use lib.Dec.{eqb, leb, ltb}
 use lib.ListN.{length}
-use borrow.Author.Tests.{leb-true, le-leb, ltb-true, ltb-false, lt-ltb, eqb-true, eqb-false, ne-eqb, eq-eqb}
+use borrow.Author.Tests.{leb-true, le-leb, ltb-false, lt-ltb, eq-eqb}
 use Rattle.graph.specs.Refusals.{Answer, refused, done}
 use Rattle.graph.specs.KeyLists.{contains, above, rising}
 use Rattle.graph.specs.Acts.{answer}
-use Rattle.graph.specs.Nodes.{Node, Op, Result, hits, actBy, visitNode, visitOp, resultsFor, stored, newNode, addResult}
+use Rattle.graph.specs.Nodes.{Node, Op, Result, hits, actBy, visitNode, visitOp, resultsFor, newNode}
 use Rattle.graph.specs.OneAtATime.{Labelled, addOf, opOf}
 use Rattle.graph.specs.Sessions.{Station, station, Session, insert, store, labelsOfUnit, labelsOfUnits, labelsOfStations, labelsOfCalls, labelsOfResults, pending, live}
-use Rattle.graph.specs.Steps.{Step, step, enter, admitted}
+use Rattle.graph.specs.Steps.{Step, step, enter}
 use Rattle.graph.specs.Valid.{Each, count, Given}
 use Rattle.graph.proofs.Answers.{Holds, refuses, holds, holds-at, or-left, or-right, and-left, and-right, and-both, eqb-same}
 use Rattle.graph.proofs.Outcome.{flat, flowOps, Seen, sum, sumOps, through, admitting, outcome, sum-store}

@@ -1,24 +1,24 @@
 -- The limits of nodes, operations and results: what acts and fuses keep, so does every effect.
 -- Assumes nothing.
-use mathlib.Core.Path.{_≡_, refl, sym, _∙_, ap}
-use Prim.Native.Nat.{ℕ, suc, _+_, _*_, _%_, _≤_, _<_}
+use mathlib.Core.Path.{_≡_, refl}
+use Prim.Native.Nat.{ℕ, _+_, _*_, _≤_, _<_}
 use native.Mathlib.Nat.{mod-lt}
 use native.Mathlib.Omega.{arith}
-use mathlib.Core.Bool.{Bool, true, false, cond, not, _&&_, _||_}
+use mathlib.Core.Bool.{Bool, true, false, cond, _&&_}
 use mathlib.Core.List.{List, [], _∷_, _++_}
-use lib.Dec.{eqb, leb, ltb, lit≤}
+use lib.Dec.{eqb, ltb, lit≤}
 use lib.ListN.{length, length-append}
 use borrow.Author.Tests.{leb-true, leb-false, ltb-true, lt-ltb}
 use Rattle.graph.specs.declared.affine.Affine.{Affine}
 use Rattle.graph.specs.declared.act.Act.{Act}
 use Rattle.graph.specs.declared.act.Act.the-variants.{Map, Link, Unlink, Sum, Top, Pick, Near}
-use Rattle.graph.specs.Affine.{modulus, plus, composed}
-use Rattle.graph.specs.KeyLists.{contains, strike, above, rising, isFull, linked, sameKeys}
+use Rattle.graph.specs.Affine.{modulus, plus}
+use Rattle.graph.specs.KeyLists.{contains, strike, above, rising, isFull, sameKeys}
 use Rattle.graph.specs.Acts.{isMap, affineOf, newValue, newLinks, newHeld, answer}
-use Rattle.graph.specs.Nodes.{Node, Op, Result, hits, actOn, actBy, resultsFor, stored, newNode, addResult}
-use Rattle.graph.specs.Sessions.{Station, station}
+use Rattle.graph.specs.Nodes.{Node, Op, actOn, actBy, resultsFor, stored, newNode, addResult}
+use Rattle.graph.specs.Sessions.{Station}
 use Rattle.graph.specs.Steps.{Change, putUnit, mayFuse, fused}
-use Rattle.graph.specs.Valid.{Each, Key, ValidTargets, ValidNode, ValidAct, ValidHeld, mostLabels, ValidOp, ValidUnit, ValidStation, ValidResult}
+use Rattle.graph.specs.Valid.{Each, Key, ValidTargets, ValidNode, ValidAct, ValidHeld, ValidOp, ValidUnit, ValidStation, ValidResult}
 use Rattle.graph.proofs.Answers.{and-left, and-right, and-both}
 use Rattle.graph.proofs.Striking.{strike-le}
 use Rattle.graph.proofs.Effects.{Reshaped, joined, cut, swapped, fusing, before, after, Effect, realised, moved, finished, reshaped, further}

@@ -2,7 +2,7 @@
 -- Accepting a call is one-at-a-time processing of it after the outcome.
 -- Assumes nothing.
 use mathlib.Core.Path.{_≡_, refl, sym, _∙_, ap}
-use Prim.Native.Nat.{ℕ, zero, suc, _+_}
+use Prim.Native.Nat.{ℕ, suc, _+_}
 use native.Mathlib.Nat.{zero-add, add-zero, add-assoc, add-comm, add-left-comm}
 use native.Mathlib.Omega.{arith}
 use mathlib.Core.List.{List, [], _∷_, _++_, append-assoc}
@@ -12,8 +12,8 @@ use lib.ListN.{length}
 use Rattle.graph.specs.Calls.{Call}
 use Rattle.graph.specs.Nodes.{Node, Op, Result, visitNode, visitOp, stored, newNode, addResult}
 use Rattle.graph.specs.OneAtATime.{Labelled, addOf, opOf, labelled, World, passNodes, passOp, process}
-use Rattle.graph.specs.Sessions.{Station, station, Session, insert, store}
-use Rattle.graph.specs.Steps.{Change, atTail, enter, admitted, changed}
+use Rattle.graph.specs.Sessions.{Station, Session, insert, store}
+use Rattle.graph.specs.Steps.{enter, admitted}
 use Rattle.graph.specs.Acceptance.{accepted}
 
 abbrev pub flat : List (List Op) → List Op

@@ -1,10 +1,10 @@
 -- Every step keeps the outcome.
 -- Assumes nothing.
 use mathlib.Core.Path.{_≡_, refl, sym, _∙_, ap}
-use Prim.Native.Nat.{ℕ, zero, suc, _+_}
+use Prim.Native.Nat.{ℕ, suc, _+_}
 use native.Mathlib.Nat.{zero-add}
 use native.Mathlib.Omega.{arith}
-use mathlib.Core.Bool.{Bool, true, false, cond, not, _&&_, _||_, true≢false}
+use mathlib.Core.Bool.{Bool, true, false, not, _&&_, _||_, true≢false}
 use mathlib.Core.List.{List, [], _∷_, _++_, append-assoc, append-nil}
 use lib.Dec.{leb}
 use lib.ListN.{length}
@@ -12,19 +12,18 @@ use borrow.Author.Tests.{not-true}
 use Rattle.graph.specs.declared.affine.Affine.{Affine}
 use Rattle.graph.specs.declared.act.Act.{Act}
 use Rattle.graph.specs.declared.act.Act.the-variants.{Map, Link, Unlink, Sum, Top, Pick, Near}
-use Rattle.graph.specs.Refusals.{Answer, refused, done}
 use Rattle.graph.specs.Affine.{composed}
 use Rattle.graph.specs.KeyLists.{isNil, contains, strike, sameKeys}
 use Rattle.graph.specs.Acts.{isMap, affineOf}
 use Rattle.graph.specs.Nodes.{Node, Op, Result, hits, actOn, actBy, visitNode, visitOp, mayFinish, resultsFor, stored, newNode}
 use Rattle.graph.specs.OneAtATime.{Labelled, addOf, opOf}
 use Rattle.graph.specs.Sessions.{Station, station, Session, store}
-use Rattle.graph.specs.Steps.{Step, admit, realise, move, finish, join, split, swap, fuse, Change, only, anyHits, putUnit, mayFuse, fused, enter, admitted, changed, admitHead, stepAt, step}
+use Rattle.graph.specs.Steps.{Step, Change, anyHits, putUnit, mayFuse, fused, enter, admitted, admitHead, stepAt, step}
 use Rattle.graph.proofs.Answers.{Holds, refuses, holds, holds-map, by-bool, and-left, and-right}
 use Rattle.graph.proofs.Striking.{same-eq, struck-out, nil-out}
 use Rattle.graph.proofs.AffineLaws.{applied-composed}
-use Rattle.graph.proofs.Effects.{Reshaped, joined, cut, swapped, fusing, before, after, Effect, realised, moved, finished, reshaped, further, effect-at, effect-size}
-use Rattle.graph.proofs.Outcome.{flat, flowNode, flowOps, Seen, front, plus, seen-path, plus-zero, plus-plus, plus-swap, flat-append, flowNode-append, flowOps-append, sum, sumOps, through, admitting, outcome, sum-store, sumOps-append, through-enter}
+use Rattle.graph.proofs.Effects.{Reshaped, joined, cut, swapped, fusing, before, after, Effect, realised, moved, finished, reshaped, further, effect-at, effect-size, by-station}
+use Rattle.graph.proofs.Outcome.{flat, flowNode, flowOps, Seen, front, plus, seen-path, plus-zero, plus-plus, plus-swap, flat-append, flowNode-append, flowOps-append, sum, through, admitting, outcome, sum-store, sumOps-append, through-enter}
 use Rattle.graph.proofs.Meeting.{flow-key, pass-node, pass-op, hit-node, hit-op, flowNode-pass, flowOps-pass, flowNode-passes, flowOps-passes, anyHits-key, Commute, swap-commutes, meet, meet-sym, commute-op, commute-node, commute-visited}
 
 -- an operation that targets none of the nodes that it has yet to meet
@@ -203,11 +202,4 @@ module _ (w : Result → ℕ) where
   step-admit s (c ∷ cs) = holds (storing ((admitted c (s .stations)) .gone) (s .results) _)
 
   pub step-same : (t : Step) (s : Session) → Holds (Same s) (step t s)
-  step-same admit s = step-admit s (s .topStream)
-  step-same (realise k) s = step-at k (realise k) s
-  step-same (move k) s = step-at k (move k) s
-  step-same (finish k) s = step-at k (finish k) s
-  step-same (join k i) s = step-at k (join k i) s
-  step-same (split k i j) s = step-at k (split k i j) s
-  step-same (swap k i) s = step-at k (swap k i) s
-  step-same (fuse k i) s = step-at k (fuse k i) s
+  step-same t s = by-station (λ t. Same s) s (step-admit s (s .topStream)) (λ k t. step-at k t s) t

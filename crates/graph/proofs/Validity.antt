@@ -1,27 +1,27 @@
 -- Every step, acceptance and claim keeps a session valid, from every valid session.
 -- Assumes nothing.
 use mathlib.Core.Path.{_≡_, refl, sym, _∙_, ap}
-use Prim.Native.Nat.{ℕ, zero, suc, _+_, _≤_, _<_}
+use Prim.Native.Nat.{ℕ, suc, _+_, _≤_, _<_}
 use native.Mathlib.Omega.{arith}
-use mathlib.Core.Bool.{Bool, true, false, cond, not, _&&_, true≢false}
+use mathlib.Core.Bool.{Bool, true, false, cond, _&&_, true≢false}
 use mathlib.Core.List.{List, [], _∷_, _++_}
 use lib.Dec.{eqb, leb, ltb, lit≤}
-use lib.ListN.{length, length-append}
+use lib.ListN.{length}
 use borrow.Author.Tests.{leb-true, leb-false, le-leb, ltb-true, ne-eqb, eqb-true, not-false}
 use Rattle.graph.specs.declared.act.Act.{Act}
-use Rattle.graph.specs.Refusals.{Answer, refused, done, mapDone, Test, on, unless}
+use Rattle.graph.specs.Refusals.{Answer, refused, done, Test, unless}
 use Rattle.graph.specs.Affine.{modulus}
 use Rattle.graph.specs.KeyLists.{isKey, areKeys, above, rising, contains}
-use Rattle.graph.specs.Calls.{Call, add, map, link, unlink, sum, top, pick, near, numbersOf, operandsOf, targetsOf, isAdd, areWords, formTests}
-use Rattle.graph.specs.Nodes.{Node, Op, Result, newNode, addResult}
+use Rattle.graph.specs.Calls.{Call, add, map, link, unlink, sum, top, pick, near, numbersOf, operandsOf, targetsOf, isAdd, areWords}
+use Rattle.graph.specs.Nodes.{Op, Result, addResult}
 use Rattle.graph.specs.OneAtATime.{Labelled, addOf, opOf, operation, labelled}
-use Rattle.graph.specs.Sessions.{Station, station, Session, fresh, insert, store, labelsOfStations, labelsOfCalls, labelsOfResults, pending, live, addsIn}
-use Rattle.graph.specs.Steps.{Step, admit, realise, move, finish, join, split, swap, fuse, Change, enter, admitted, changed, admitHead, stepAt, step}
+use Rattle.graph.specs.Sessions.{Station, Session, fresh, insert, store, labelsOfStations, labelsOfCalls, labelsOfResults, pending, live, addsIn}
+use Rattle.graph.specs.Steps.{Step, Change, enter, admitted, changed, admitHead, stepAt, step}
 use Rattle.graph.specs.Acceptance.{callTests, accepted, accept, Claimed, takeResult, claim, keeping}
-use Rattle.graph.specs.Valid.{Each, Key, ValidTargets, ValidAct, ValidHeld, mostLabels, ValidOp, ValidUnit, ValidStation, ValidCall, ValidResult, KeysFall, count, Given, Valid}
+use Rattle.graph.specs.Valid.{Each, Key, ValidAct, ValidHeld, mostLabels, ValidOp, ValidUnit, ValidStation, ValidCall, ValidResult, KeysFall, count, Given, Valid}
 use Rattle.graph.proofs.Answers.{Holds, refuses, holds, holds-map, holds-cond, by-bool, and-left, and-right, and-both}
-use Rattle.graph.proofs.Effects.{Effect, realised, moved, finished, reshaped, further, costs, effect-at, effect-size}
-use Rattle.graph.proofs.Limits.{each-append, each-left, each-right, above-lower, rising-above, ValidChange, valid-effect, valid-stored, valid-newNode, valid-addResult}
+use Rattle.graph.proofs.Effects.{Effect, realised, moved, finished, reshaped, further, effect-at, effect-size, by-station}
+use Rattle.graph.proofs.Limits.{each-append, above-lower, rising-above, ValidChange, valid-effect, valid-stored, valid-newNode, valid-addResult}
 use Rattle.graph.proofs.Outcome.{sum as sumOf}
 use Rattle.graph.proofs.Labels.{total, byLabel, is, one, stray, total-append, total-is, total-one, total-results, given-stray, stray-given, SameLabels, step-labels, store-rising}
 
@@ -115,14 +115,7 @@ local-admit s (opOf o ∷ cs) v r g =
     })
 
 step-local : (t : Step) (s : Session) → Valid s → Holds Local (step t s)
-step-local admit s g = local-admit s (s .topStream) (g .topStream) (g .room) g
-step-local (realise k) s g = local-at k (realise k) s g
-step-local (move k) s g = local-at k (move k) s g
-step-local (finish k) s g = local-at k (finish k) s g
-step-local (join k i) s g = local-at k (join k i) s g
-step-local (split k i j) s g = local-at k (split k i j) s g
-step-local (swap k i) s g = local-at k (swap k i) s g
-step-local (fuse k i) s g = local-at k (fuse k i) s g
+step-local t s g = by-station (λ t. Local) s (local-admit s (s .topStream) (g .topStream) (g .room) g) (λ k t. local-at k t s g) t
 
 -- what a step stores, and the last label, which no step changes
 record Stores (s t : Session) : Type 0 where
@@ -138,14 +131,7 @@ at-stores : (k : ℕ) (t : Step) (s : Session) → Holds (Stores s) (stepAt k t 
 at-stores k t s = holds-map _ (λ c h. record { new = c .gone; kept = refl; last = refl }) (effect-at k t (s .stations))
 
 step-stores : (t : Step) (s : Session) → Holds (Stores s) (step t s)
-step-stores admit s = admit-stores s (s .topStream)
-step-stores (realise k) s = at-stores k (realise k) s
-step-stores (move k) s = at-stores k (move k) s
-step-stores (finish k) s = at-stores k (finish k) s
-step-stores (join k i) s = at-stores k (join k i) s
-step-stores (split k i j) s = at-stores k (split k i j) s
-step-stores (swap k i) s = at-stores k (swap k i) s
-step-stores (fuse k i) s = at-stores k (fuse k i) s
+step-stores t s = by-station (λ t. Stores s) s (admit-stores s (s .topStream)) (λ k t. at-stores k t s) t
 
 -- the results' own labels are live
 count-results : (l : ℕ) (s : Session) → count l (labelsOfResults (s .results)) ≤ count l (live s)

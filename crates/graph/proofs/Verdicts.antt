@@ -1,6 +1,6 @@
 -- A step is answered with the number of the first of its tests that applies, and is done exactly where it is allowed.
 -- Assumes nothing.
-use mathlib.Core.Path.{_≡_, refl, sym, _∙_, ap}
+use mathlib.Core.Path.{_≡_, refl, sym, _∙_}
 use Prim.Native.Nat.{ℕ, zero, suc, _≤_}
 use native.Mathlib.Omega.{arith}
 use mathlib.Core.Bool.{Bool, true, false, cond, not, _&&_, _||_}
@@ -13,7 +13,7 @@ use Rattle.graph.specs.KeyLists.{isNil}
 use Rattle.graph.specs.Nodes.{Node, Op, hits, mayFinish}
 use Rattle.graph.specs.OneAtATime.{Labelled}
 use Rattle.graph.specs.Sessions.{Station, Session}
-use Rattle.graph.specs.Steps.{Step, admit, realise, move, finish, join, split, swap, fuse, Change, behind, at, realiseUnit, realiseAt, anyHits, moveAt, finishUnit, finishAt, unitAt, pairAt, joinUnits, maySplit, splitUnit, onSingles, maySwap, swapOps, mayFuse, fuseOps, onUnits, changed, admitHead, atStation, stepAt, step}
+use Rattle.graph.specs.Steps.{Step, admit, realise, move, finish, join, split, swap, fuse, Change, behind, at, realiseUnit, realiseAt, anyHits, moveAt, finishUnit, finishAt, unitAt, pairAt, joinUnits, maySplit, splitUnit, onSingles, maySwap, swapOps, mayFuse, fuseOps, admitHead, atStation, step}
 use Rattle.graph.specs.Allowed.{fromKey, unitsOf, fromUnit, anyFinishes, singles, firstUnit, firstTwo, rule, allowed, stepTests}
 use Rattle.graph.proofs.Answers.{isDone, isDone-map}
 

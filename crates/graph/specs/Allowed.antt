@@ -7,7 +7,7 @@ use mathlib.Core.Bool.{Bool, true, false, cond, not, _&&_, _||_}
 use mathlib.Core.List.{List, [], _∷_}
 use lib.Dec.{eqb, leb}
 use lib.ListN.{length}
-use Rattle.graph.specs.Refusals.{Test, on, firstOf}
+use Rattle.graph.specs.Refusals.{Test, on}
 use Rattle.graph.specs.KeyLists.{isNil}
 use Rattle.graph.specs.Nodes.{Node, Op, mayFinish}
 use Rattle.graph.specs.Sessions.{Station, Session}
