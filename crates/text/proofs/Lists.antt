@@ -6,8 +6,9 @@ use mathlib.Core.List.{List, [], _∷_, _++_, append-nil, append-assoc}
 use native.Mathlib.Omega.{arith}
 use lib.ListN.{length, drop, length-append}
 use Rattle.text.specs.Text.{decimal, further, commas}
+use Rattle.text.specs.Reads.{Gap}
 use Rattle.text.proofs.Decimals.{IsDecimal, decimal-is}
-use Rattle.text.proofs.Splits.{Gap, Clean, decimal-clean, same-number}
+use Rattle.text.proofs.Splits.{Clean, decimal-clean, same-number}
 
 pub further-gap : (ts : List ℕ) → Gap 44 (further ts)
 unfolding further
@@ -64,7 +65,7 @@ commas-clean stop h (t ∷ ts) = clean-append stop (decimal t) (further ts) (dec
 
 -- ---- a list read from its front: numbers with a comma after each, then the last
 
-pub passed : List ℕ → List ℕ
+unfoldable pub passed : List ℕ → List ℕ
 passed [] = []
 passed (t ∷ ts) = decimal t ++ (44 ∷ passed ts)
 

@@ -1,7 +1,7 @@
 -- Laws of `upTo`: the search for the next stop byte, a literal at a place, and the part before a stop.
 -- Assumes nothing.
 use Prim.Native.Nat.{ℕ, zero, suc, _+_, _-_, _<_, _≤_}
-use mathlib.Core.Bool.{Bool, true, false}
+use mathlib.Core.Bool.{Bool, true, false, cond, false≢true}
 use mathlib.Core.Path.{_≡_, refl, sym, ap, _∙_}
 use mathlib.Core.List.{List, [], _∷_, _++_, append-nil, append-assoc}
 use native.Mathlib.Nat.{le-of-eq, add-sub-cancel-left}
@@ -12,7 +12,7 @@ use lib.Dec.{eqb}
 use lib.ListN.{length, take, drop, getD, length-drop, drop-of-length-le, length-append, take-append-drop}
 use lib.Seq.{take-suc, drop-cons, append-snoc, take-all, take-append-seam, drop-append-seam, drop-drop}
 use Rattle.text.specs.Text.{upTo, decimal}
-use Rattle.text.specs.Reads.{PlaceOf}
+use Rattle.text.specs.Reads.{PlaceOf, Gap}
 use Rattle.text.specs.declared.cut.Place.the-variants.{At, Missing}
 use Rattle.text.proofs.Decimals.{Figures, IsDecimal, decimal-is, decimal-inj}
 
@@ -62,15 +62,24 @@ module _ (stop : ℕ) (l : List ℕ) (k : ℕ) (p : Passed stop l k) where
 
 -- ---- the part before a stop, and what is left
 
--- nothing, or what begins with the byte stop
-abbrev pub Gap : ℕ → List ℕ → Type 0
-Gap stop [] = Unit {0}
-Gap stop (c ∷ cs) = c ≡ stop
-
 -- without the byte stop
 abbrev pub Clean : ℕ → List ℕ → Type 0
 Clean stop [] = Unit {0}
 Clean stop (c ∷ cs) = (c ≡ stop → ⊥) × Clean stop cs
+
+unfoldable pub cleanTest : ℕ → List ℕ → Bool
+cleanTest stop [] = true
+cleanTest stop (c ∷ cs) = cond (eqb c stop) false (cleanTest stop cs)
+
+-- a literal's bytes are tested by computing
+pub clean-by : (stop : ℕ) (l : List ℕ) → cleanTest stop l ≡ true → Clean stop l
+unfolding cleanTest
+clean-by stop [] e = tt
+clean-by stop (c ∷ cs) e = go (eqb c stop) refl e (clean-by stop cs)
+  where
+    go : (b : Bool) → eqb c stop ≡ b → cond b false (cleanTest stop cs) ≡ true → (cleanTest stop cs ≡ true → Clean stop cs) → Clean stop (c ∷ cs)
+    go true h t ih = absurd (false≢true t)
+    go false h t ih = (eqb-false c stop h, ih t)
 
 upTo-clean : (stop : ℕ) (xs x : List ℕ) → Clean stop xs → Gap stop x → upTo stop (xs ++ x) ≡ xs
 upTo-clean stop [] [] k g = upTo-nil stop

@@ -1,7 +1,7 @@
 -- What the readers of parts and numbers answer.
 -- Assumes nothing.
 use Prim.Native.Nat.{ℕ, _+_, _<_, _≤_, _^_}
-use mathlib.Core.List.{List, _++_}
+use mathlib.Core.List.{List, [], _∷_, _++_}
 use mathlib.Core.Path.{_≡_}
 use lib.ListN.{length, drop}
 use Rattle.text.specs.Text.{decimal}
@@ -19,6 +19,11 @@ NumberOf s Not = (v : ℕ) → v < 2 ^ 32 → s ≡ decimal v → ⊥
 abbrev pub PlaceOf : List ℕ → ℕ → List ℕ → Place → Type 0
 PlaceOf s at literal (At n) = (n ≤ length s) × (drop at s ≡ literal ++ drop n s)
 PlaceOf s at literal Missing = (x : List ℕ) → drop at s ≡ literal ++ x → ⊥
+
+-- nothing, or what begins with the byte stop
+abbrev pub Gap : ℕ → List ℕ → Type 0
+Gap stop [] = Unit {0}
+Gap stop (c ∷ cs) = c ≡ stop
 
 -- the number of v's digits, at most ten for a 32-bit number
 pub record LengthOf (v r : ℕ) : Type 0 where

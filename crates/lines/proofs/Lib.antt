@@ -1,0 +1,6 @@
+pub mod KeyLists
+pub mod Chains
+pub mod Words
+pub mod Calls
+pub mod Steps
+pub mod Claims

@@ -1,0 +1,4 @@
+pub mod Keys
+pub mod Forms
+pub mod Answers
+pub mod Reads
