@@ -1,14 +1,15 @@
 -- Call lines: their grammar, their forms, and the answer to each form.
 -- Assumes nothing.
-use Prim.Native.Nat.{ℕ, _+_, _<_, _≤_, _^_}
+use Prim.Native.Nat.{ℕ, _-_, _<_, _≤_, _^_}
 use mathlib.Core.Path.{_≡_, refl, sym, ap, ap₂, subst, _∙_}
 use mathlib.Core.Bool.{Bool, true, false, cond}
 use mathlib.Core.List.{List, [], _∷_, _++_}
 use native.Mathlib.Omega.{arith}
-use borrow.Author.Tests.{le-leb, lt-leb}
+use borrow.Author.Tests.{le-leb, lt-leb, leb-true}
 use lib.Dec.{eqb, leb}
 use lib.ListN.{length, getD, take, replicate}
 use lib.Seq.{take-append-seam}
+use Rattle.graph.specs.declared.keys.Keys.{Keys}
 use Rattle.graph.specs.Calls.{Call, add, map, link, unlink, sum, top, pick, near}
 use Rattle.text.specs.Text.{ascii}
 use Rattle.text.proofs.Splits.{Clean, cleanTest, clean-by}
@@ -221,3 +222,45 @@ module _ (k : CallKind) (f : Fields) (r : CallLine) where
             let l : f .to .key ≡ padded ts = p .held (q .0) (omega (arith, p .count, few)) in
             h ∙ (λ i. record { refusal = 0; kind = k; x = f .x; y = f .y; to = record { count = n i; key = l i } })
             ∙ sym (answer-of k (f .x) (f .y) (f .z) ts t s ∙ rw (key, q .0, q .1, z))
+
+-- ---- what an answer with refusal 0 holds
+
+-- the limits that a served call keeps
+pub record Served (f : Call) : Type 0 where
+  pub keys : allKeys (callKeys f) ≡ true
+  pub few : length (callTargets f) ≤ 8
+  pub sorted : rising (callTargets f) ≡ true
+  pub answer : callAnswer f ≡ callRead f
+
+served : (f : Call) → callAnswer f .refusal ≡ 0 → Served f
+served f = go (allKeys (callKeys f)) (leb (length (callTargets f)) 8) (rising (callTargets f)) refl refl refl
+  where
+    go : (a b c : Bool) → allKeys (callKeys f) ≡ a → leb (length (callTargets f)) 8 ≡ b → rising (callTargets f) ≡ c → callAnswer f .refusal ≡ 0 → Served f
+    go false b c ea eb ec = rw ea (λ e. absurd (omega arith))
+    go true false c ea eb ec = rw (ea, eb) (λ e. absurd (omega arith))
+    go true true false ea eb ec = rw (ea, eb, ec) (λ e. absurd (omega arith))
+    go true true true ea eb ec = λ e. record { keys = ea; few = leb-true (length (callTargets f)) 8 eb; sorted = ec; answer = rw (ea, eb, ec) }
+
+targets-of : (f : Call) → callRead f .to ≡ keysOf (callTargets f)
+targets-of (add value) = refl
+targets-of (map a b to) = refl
+targets-of (link key to) = refl
+targets-of (unlink key to) = refl
+targets-of (sum start to) = refl
+targets-of (top start to) = refl
+targets-of (pick start to) = refl
+targets-of (near key start to) = refl
+
+pub call-of-read : (f : Call) → callOf (callRead f) ≡ f
+call-of-read f =
+    ap (λ (ks : Keys). callForm (callRead f .kind) (callRead f .x) (callRead f .y) (listed ks)) (targets-of f)
+    ∙ ap (callForm (callRead f .kind) (callRead f .x) (callRead f .y)) (take-append-seam (callTargets f) (replicate (8 - length (callTargets f)) 0))
+    ∙ call-back f
+
+-- the line is the text of the call that the answer holds, and that call keeps its limits
+pub call-served : (line : List ℕ) (r : CallLine) → CallRead line r → r .refusal ≡ 0 → IsCall line (callOf r) × Served (callOf r)
+call-served line r (form f i e) z =
+    let s = served f (ap (λ (q : CallLine). q .refusal) (sym e) ∙ z) in
+    let o : callOf r ≡ f = ap callOf (e ∙ s .answer) ∙ call-of-read f in
+    rw o (i, s)
+call-served line r (other n e) z = absurd (omega (arith, ap (λ (q : CallLine). q .refusal) (sym e) ∙ z))

@@ -10,8 +10,8 @@ use lib.ListN.{length, getD}
 use Rattle.graph.specs.Steps.{Step, admit, realise, move, finish, join, split, swap, fuse}
 use Rattle.text.specs.Text.{ascii}
 use Rattle.text.proofs.Splits.{Clean, cleanTest, clean-by}
-use Rattle.lines.specs.Keys.{isKey}
-use Rattle.lines.specs.Forms.{StepForm, work, drain, stepText, stepNumbers}
+use Rattle.lines.specs.Keys.{isKey, allKeys}
+use Rattle.lines.specs.Forms.{StepForm, work, drain, stepText, stepNumbers, stepKeys}
 use Rattle.lines.specs.Answers.{Below, TextOf, Reads, form, other, unless, stepLine, refusedStep, stepRead, stepAnswer, IsStep, StepRead, stepForm, stepOf}
 use Rattle.lines.specs.Reads.{Spare, Literals, stepWord, stepLiterals, hasPlace, StepMade}
 use Rattle.lines.specs.declared.step.StepKind.{StepKind}
@@ -211,3 +211,17 @@ module _ (k : StepKind) (f : Fields) (r : StepLine) where
 
   pub made-free : hasPlace k ≡ false → r ≡ stepLine k (f .x) (f .y) (f .z) → StepMade k f r
   made-free h q s = q ∙ sym (answer-free k (f .x) (f .y) (f .z) h s)
+
+-- ---- what an answer with refusal 0 holds
+
+-- the line is the text of the step that the answer holds, and its key is one
+pub step-served : (line : List ℕ) (r : StepLine) → StepRead line r → r .refusal ≡ 0 → IsStep line (stepOf r) × (allKeys (stepKeys (stepOf r)) ≡ true)
+step-served line r (form f i e) z = go (allKeys (stepKeys f)) refl
+  where
+    go : (a : Bool) → allKeys (stepKeys f) ≡ a → IsStep line (stepOf r) × (allKeys (stepKeys (stepOf r)) ≡ true)
+    go false ea = let a : stepAnswer f ≡ refusedStep 11 = rw ea in absurd (omega (arith, sym z ∙ ap (λ (q : StepLine). q .refusal) (e ∙ a)))
+    go true ea =
+        let a : stepAnswer f ≡ stepRead f = rw ea in
+        let o : stepOf r ≡ f = ap stepOf (e ∙ a) ∙ step-back f in
+        rw o (i, ea)
+step-served line r (other n e) z = absurd (omega (arith, ap (λ (q : StepLine). q .refusal) (sym e) ∙ z))
