@@ -1,0 +1,17 @@
+pub mod Answers
+pub mod Striking
+pub mod AffineLaws
+pub mod KeyLaws
+pub mod SwapTable
+pub mod Effects
+pub mod Outcome
+pub mod Meeting
+pub mod OutcomeKept
+pub mod Limits
+pub mod Labels
+pub mod Weights
+pub mod Validity
+pub mod Verdicts
+pub mod Drains
+pub mod Demand3
+pub mod Cases

@@ -1,3 +1,17 @@
+pub mod Refusals
+pub mod KeyLists
 pub mod Affine
+pub mod Acts
+pub mod Kinds
+pub mod Packed
 pub mod Calls
+pub mod Nodes
+pub mod OneAtATime
+pub mod Sessions
 pub mod Steps
+pub mod Allowed
+pub mod Acceptance
+pub mod Drain
+pub mod Valid
+pub mod Runs
+pub mod Cases

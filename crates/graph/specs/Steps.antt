@@ -1,7 +1,20 @@
--- The work steps of document 01, section 'Work steps', as their lines name them.
+-- The work steps: document 01, section 'Work steps'.
 -- Assumes nothing.
-use Prim.Native.Nat.{ℕ}
+use Prim.Native.Nat.{ℕ, zero, suc}
+use mathlib.Core.Bool.{Bool, true, false, cond, not, _&&_, _||_}
+use mathlib.Core.List.{List, [], _∷_, _++_}
+use lib.Dec.{eqb, leb, ltb}
+use lib.ListN.{length, take, drop}
+use Rattle.graph.specs.declared.act.Act.the-variants.{Map}
+use Rattle.graph.specs.Refusals.{Answer, refused, done, mapDone}
+use Rattle.graph.specs.Affine.{composed}
+use Rattle.graph.specs.KeyLists.{isNil, disjoint, sameKeys}
+use Rattle.graph.specs.Acts.{isMap, affineOf, mayShare}
+use Rattle.graph.specs.Nodes.{Node, Op, Result, hits, actOn, actBy, mayFinish, stored, newNode, addResult}
+use Rattle.graph.specs.OneAtATime.{Labelled, addOf, opOf}
+use Rattle.graph.specs.Sessions.{Station, station, Session, store}
 
+-- `at` is a node's key; `unit` counts from 1 at the streamlet's head
 pub data Step : Type 0 where
   admit : Step
   realise : (at : ℕ) → Step
@@ -11,3 +24,168 @@ pub data Step : Type 0 where
   split : (at unit after : ℕ) → Step
   swap : (at unit : ℕ) → Step
   fuse : (at unit : ℕ) → Step
+
+-- what a step makes of the stations, from some station on, and the results that it stores
+pub record Change : Type 0 where
+  pub now : List Station
+  pub gone : List Result
+
+abbrev pub only : List Station → Change
+only ss = record { now = ss; gone = [] }
+
+abbrev pub behind : Station → Change → Change
+behind s c = record { now = s ∷ c .now; gone = c .gone }
+
+-- a step at the station with key k, which sees the stations behind it; 20: "no node with that key"
+abbrev pub at : ℕ → (Station → List Station → Answer Change) → List Station → Answer Change
+at k f [] = refused 20
+at k f (s ∷ ss) = cond (eqb (s .node .key) k) (f s ss) (mapDone (behind s) (at k f ss))
+
+-- REALISE (document 000: MAP, FOLD): "in the head unit, the first operation that targets this node acts and strikes the
+-- key. Allowed where there is one."
+pub record Realised : Type 0 where
+  pub node : Node
+  pub unit : List Op
+
+abbrev pub realiseUnit : Node → List Op → Answer Realised
+realiseUnit n [] = refused 22
+realiseUnit n (o ∷ os) =
+    cond (hits o n) (done (record { node = actOn o n; unit = actBy o n ∷ os }))
+    (mapDone (λ r. record { node = r .node; unit = o ∷ r .unit }) (realiseUnit n os))
+
+abbrev pub realiseAt : Node → List Station → List (List Op) → Answer Change
+realiseAt n ss [] = refused 21
+realiseAt n ss (u ∷ us) = mapDone (λ r. only (station (r .node) (r .unit ∷ us) ∷ ss)) (realiseUnit n u)
+
+-- MOVE (PROP): "the head unit goes to the next station's tail. Allowed where no operation in it targets this node and the
+-- station isn't last."
+abbrev pub anyHits : List Op → Node → Bool
+anyHits [] n = false
+anyHits (o ∷ os) n = hits o n || anyHits os n
+
+abbrev pub atTail : List Op → Station → Station
+atTail u s = station (s .node) (s .units ++ (u ∷ []))
+
+abbrev pub moveUnit : Node → List Op → List (List Op) → List Station → Answer Change
+moveUnit n u us [] = refused 22
+moveUnit n u us (s ∷ ss) = cond (anyHits u n) (refused 22) (done (only (station n us ∷ atTail u s ∷ ss)))
+
+abbrev pub moveAt : Node → List Station → List (List Op) → Answer Change
+moveAt n ss [] = refused 21
+moveAt n ss (u ∷ us) = moveUnit n u us ss
+
+-- FINISH (COMPLETE, LAST): "in the head unit, the first operation that has no targets left, or, at the last station,
+-- doesn't target this node, stores its result and goes; allowed where there is one. An emptied unit goes too."
+pub record Finished : Type 0 where
+  pub op : Op
+  pub others : List Op
+
+abbrev pub finishUnit : Node → Bool → List Op → Answer Finished
+finishUnit n last [] = refused 22
+finishUnit n last (o ∷ os) =
+    cond (mayFinish o n last) (done (record { op = o; others = os }))
+    (mapDone (λ f. record { op = f .op; others = o ∷ f .others }) (finishUnit n last os))
+
+abbrev pub putUnit : List Op → List (List Op) → List (List Op)
+putUnit [] us = us
+putUnit (o ∷ os) us = (o ∷ os) ∷ us
+
+abbrev pub finishAt : Node → List Station → List (List Op) → Answer Change
+finishAt n ss [] = refused 21
+finishAt n ss (u ∷ us) = mapDone (λ f. record { now = station n (putUnit (f .others) us) ∷ ss; gone = stored (f .op) }) (finishUnit n (isNil ss) u)
+
+-- a step on unit number i, and on units i and i + 1; 21: "no unit of that number, or no unit after it where two are needed"
+abbrev pub unitAt : ℕ → (List Op → Answer (List (List Op))) → List (List Op) → Answer (List (List Op))
+unitAt zero f us = refused 21
+unitAt (suc i) f [] = refused 21
+unitAt (suc zero) f (u ∷ us) = mapDone (λ xs. xs ++ us) (f u)
+unitAt (suc (suc i)) f (u ∷ us) = mapDone (λ xs. u ∷ xs) (unitAt (suc i) f us)
+
+abbrev pub pairAt : ℕ → (List Op → List Op → Answer (List (List Op))) → List (List Op) → Answer (List (List Op))
+pairAt zero f us = refused 21
+pairAt (suc i) f [] = refused 21
+pairAt (suc zero) f (u ∷ []) = refused 21
+pairAt (suc zero) f (u ∷ v ∷ us) = mapDone (λ xs. xs ++ us) (f u v)
+pairAt (suc (suc i)) f (u ∷ us) = mapDone (λ xs. u ∷ xs) (pairAt (suc i) f us)
+
+-- JOIN (BATCH): "units 1 and 2 become one"
+abbrev pub joinUnits : List Op → List Op → Answer (List (List Op))
+joinUnits u v = done ((u ++ v) ∷ [])
+
+-- SPLIT (UNBATCH): "the unit is cut after that operation, both parts non-empty"
+abbrev pub maySplit : ℕ → List Op → Bool
+maySplit j u = leb 1 j && ltb j (length u)
+
+abbrev pub splitUnit : ℕ → List Op → Answer (List (List Op))
+splitUnit j u = cond (maySplit j u) (done (take j u ∷ drop j u ∷ [])) (refused 22)
+
+-- steps on "two neighbouring one-operation units"
+abbrev pub onSingles : (Op → Op → Answer (List (List Op))) → List Op → List Op → Answer (List (List Op))
+onSingles f [] v = refused 22
+onSingles f (o ∷ p ∷ os) v = refused 22
+onSingles f (o ∷ []) [] = refused 22
+onSingles f (o ∷ []) (q ∷ r ∷ os) = refused 22
+onSingles f (o ∷ []) (q ∷ []) = f o q
+
+-- SWAP (REORDERD, REORDERRR; not REORDERRW): "Allowed where their remaining targets are disjoint or both are folds."
+abbrev pub maySwap : Op → Op → Bool
+maySwap o q = disjoint (o .targets) (q .targets) || mayShare (o .act) (q .act)
+
+abbrev pub swapOps : Op → Op → Answer (List (List Op))
+swapOps o q = cond (maySwap o q) (done ((q ∷ []) ∷ (o ∷ []) ∷ [])) (refused 22)
+
+-- FUSE (FUSEM, amended: no FUSEMID, and the second label keeps its `left`): "both maps with equal remaining targets and
+-- together at most 4 labels, become one map, the first followed by the second"
+abbrev pub mayFuse : Op → Op → Bool
+mayFuse o q = (isMap (o .act) && isMap (q .act)) && (sameKeys (o .targets) (q .targets) && leb (length (o .labels ++ q .labels)) 4)
+
+abbrev pub fused : Op → Op → Op
+fused o q = record { act = Map (composed (affineOf (o .act)) (affineOf (q .act))); held = 0; targets = o .targets; labels = o .labels ++ q .labels }
+
+abbrev pub fuseOps : Op → Op → Answer (List (List Op))
+fuseOps o q = cond (mayFuse o q) (done ((fused o q ∷ []) ∷ [])) (refused 22)
+
+abbrev pub onUnits : (List (List Op) → Answer (List (List Op))) → Station → List Station → Answer Change
+onUnits f s ss = mapDone (λ us. only (station (s .node) us ∷ ss)) (f (s .units))
+
+-- ADMIT (ADD, FIRST, EMPTY): "takes the top stream's head. An add makes its node and stores the result. Another call
+-- becomes a unit of its own at the tail of the first streamlet; with no nodes it finishes, all targets left."
+abbrev pub enter : Op → List Station → Change
+enter o [] = record { now = []; gone = stored o }
+enter o (s ∷ ss) = only (atTail (o ∷ []) s ∷ ss)
+
+abbrev pub admitted : Labelled → List Station → Change
+admitted (addOf l v) ss = record { now = station (newNode (length ss) v) [] ∷ ss; gone = addResult l (length ss) ∷ [] }
+admitted (opOf o) ss = enter o ss
+
+abbrev pub changed : Session → List Labelled → Change → Session
+changed s cs c = record { stations = c .now; topStream = cs; results = store (c .gone) (s .results); last = s .last }
+
+-- 21: "no waiting call"
+abbrev pub admitHead : Session → List Labelled → Answer Session
+admitHead s [] = refused 21
+admitHead s (c ∷ cs) = done (changed s cs (admitted c (s .stations)))
+
+-- what a step does at its own station (an admit has none)
+abbrev pub atStation : Step → Station → List Station → Answer Change
+atStation admit s ss = refused 22
+atStation (realise k) s ss = realiseAt (s .node) ss (s .units)
+atStation (move k) s ss = moveAt (s .node) ss (s .units)
+atStation (finish k) s ss = finishAt (s .node) ss (s .units)
+atStation (join k i) s ss = onUnits (pairAt i joinUnits) s ss
+atStation (split k i j) s ss = onUnits (unitAt i (splitUnit j)) s ss
+atStation (swap k i) s ss = onUnits (pairAt i (onSingles swapOps)) s ss
+atStation (fuse k i) s ss = onUnits (pairAt i (onSingles fuseOps)) s ss
+
+abbrev pub stepAt : ℕ → Step → Session → Answer Session
+stepAt k t s = mapDone (changed s (s .topStream)) (at k (atStation t) (s .stations))
+
+abbrev pub step : Step → Session → Answer Session
+step admit s = admitHead s (s .topStream)
+step (realise k) s = stepAt k (realise k) s
+step (move k) s = stepAt k (move k) s
+step (finish k) s = stepAt k (finish k) s
+step (join k i) s = stepAt k (join k i) s
+step (split k i j) s = stepAt k (split k i j) s
+step (swap k i) s = stepAt k (swap k i) s
+step (fuse k i) s = stepAt k (fuse k i) s

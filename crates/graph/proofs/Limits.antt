@@ -1,0 +1,208 @@
+-- The limits of nodes, operations and results: what acts and fuses keep, so does every effect.
+-- Assumes nothing.
+use mathlib.Core.Path.{_≡_, refl, sym, _∙_, ap}
+use Prim.Native.Nat.{ℕ, suc, _+_, _*_, _%_, _≤_, _<_}
+use native.Mathlib.Nat.{mod-lt}
+use native.Mathlib.Omega.{arith}
+use mathlib.Core.Bool.{Bool, true, false, cond, not, _&&_, _||_}
+use mathlib.Core.List.{List, [], _∷_, _++_}
+use lib.Dec.{eqb, leb, ltb, lit≤}
+use lib.ListN.{length, length-append}
+use borrow.Author.Tests.{leb-true, leb-false, ltb-true, lt-ltb}
+use Rattle.graph.specs.declared.affine.Affine.{Affine}
+use Rattle.graph.specs.declared.act.Act.{Act}
+use Rattle.graph.specs.declared.act.Act.the-variants.{Map, Link, Unlink, Sum, Top, Pick, Near}
+use Rattle.graph.specs.Affine.{modulus, plus, composed}
+use Rattle.graph.specs.KeyLists.{contains, strike, above, rising, isFull, linked, sameKeys}
+use Rattle.graph.specs.Acts.{isMap, affineOf, newValue, newLinks, newHeld, answer}
+use Rattle.graph.specs.Nodes.{Node, Op, Result, hits, actOn, actBy, resultsFor, stored, newNode, addResult}
+use Rattle.graph.specs.Sessions.{Station, station}
+use Rattle.graph.specs.Steps.{Change, putUnit, mayFuse, fused}
+use Rattle.graph.specs.Valid.{Each, Key, ValidTargets, ValidNode, ValidAct, ValidHeld, mostLabels, ValidOp, ValidUnit, ValidStation, ValidResult}
+use Rattle.graph.proofs.Answers.{and-left, and-right, and-both}
+use Rattle.graph.proofs.Striking.{strike-le}
+use Rattle.graph.proofs.Effects.{Reshaped, joined, cut, swapped, fusing, before, after, Effect, realised, moved, finished, reshaped, further}
+
+module _ {A : Type 0} (P : A → Type 0) where
+  pub each-append : (xs ys : List A) → Each P xs → Each P ys → Each P (xs ++ ys)
+  each-append [] ys g h = h
+  each-append (x ∷ xs) ys g h = (g .0, each-append xs ys (g .1) h)
+
+  pub each-left : (xs ys : List A) → Each P (xs ++ ys) → Each P xs
+  each-left [] ys h = tt
+  each-left (x ∷ xs) ys h = (h .0, each-left xs ys (h .1))
+
+  pub each-right : (xs ys : List A) → Each P (xs ++ ys) → Each P ys
+  each-right [] ys h = h
+  each-right (x ∷ xs) ys h = each-right xs ys (h .1)
+
+positive : 0 < modulus
+positive = lit≤ tt
+
+cond-lt : (b : Bool) (x y m : ℕ) → x < m → y < m → cond b x y < m
+cond-lt true x y m g h = g
+cond-lt false x y m g h = h
+
+-- striking
+cond-each : (P : ℕ → Type 0) (b : Bool) (t : ℕ) (ts : List ℕ) → P t → Each P ts → Each P (cond b ts (t ∷ ts))
+cond-each P true t ts g h = h
+cond-each P false t ts g h = (g, h)
+
+each-strike : (k : ℕ) (ts : List ℕ) → Each Key ts → Each Key (strike k ts)
+each-strike k [] h = tt
+each-strike k (t ∷ ts) h = cond-each Key (eqb k t) t (strike k ts) (h .0) (each-strike k ts (h .1))
+
+pub above-lower : (i j : ℕ) (ts : List ℕ) → i ≤ j → above j ts ≡ true → above i ts ≡ true
+above-lower i j [] h e = refl
+above-lower i j (t ∷ ts) h e = and-both (lt-ltb i t (omega (arith, ltb-true j t (and-left _ _ e)))) (and-right (ltb j t) _ e)
+
+above-strike : (k d : ℕ) (ts : List ℕ) → above d ts ≡ true → above d (strike k ts) ≡ true
+above-strike k d [] e = refl
+above-strike k d (t ∷ ts) e = go (eqb k t) (and-left _ _ e) (above-strike k t ts (and-right (ltb d t) _ e))
+  where
+    go : (b : Bool) → ltb d t ≡ true → above t (strike k ts) ≡ true → above d (cond b (strike k ts) (t ∷ strike k ts)) ≡ true
+    go true l h = above-lower d t (strike k ts) (omega (arith, ltb-true d t l)) h
+    go false l h = and-both l h
+
+pub rising-above : (d : ℕ) (ts : List ℕ) → above d ts ≡ true → rising ts ≡ true
+rising-above d [] e = refl
+rising-above d (t ∷ ts) e = and-right (ltb d t) _ e
+
+rising-strike : (k : ℕ) (ts : List ℕ) → rising ts ≡ true → rising (strike k ts) ≡ true
+rising-strike k [] e = refl
+rising-strike k (t ∷ ts) e = go (eqb k t) (above-strike k t ts e)
+  where
+    go : (b : Bool) → above t (strike k ts) ≡ true → rising (cond b (strike k ts) (t ∷ strike k ts)) ≡ true
+    go true h = rising-above t (strike k ts) h
+    go false h = h
+
+valid-strike : (k : ℕ) (ts : List ℕ) → ValidTargets ts → ValidTargets (strike k ts)
+valid-strike k ts h = record { few = omega (arith, strike-le k ts, h .few); keys = each-strike k ts (h .keys); rise = rising-strike k ts (h .rise) }
+
+-- acts
+valid-value : (a : Act) (v : ℕ) → v < modulus → newValue a v < modulus
+valid-value (Map m) v h = mod-lt (m .a * v + m .b) positive
+valid-value (Link k) v h = h
+valid-value (Unlink k) v h = h
+valid-value Sum v h = h
+valid-value Top v h = h
+valid-value Pick v h = h
+valid-value (Near k) v h = h
+
+record ValidLinks (ls : List ℕ) : Type 0 where
+  few : length ls ≤ 8
+  keys : Each Key ls
+
+valid-linked : (k : ℕ) (ls : List ℕ) (b : Bool) → isFull ls ≡ b → Key k → ValidLinks ls → ValidLinks (cond b ls (ls ++ (k ∷ [])))
+valid-linked k ls true e g h = h
+valid-linked k ls false e g h = record { few = omega (arith, leb-false 8 (length ls) e, length-append ls (k ∷ [])); keys = each-append Key ls (k ∷ []) (h .keys) (g, tt) }
+
+valid-links : (a : Act) (ls : List ℕ) → ValidAct a → ValidLinks ls → ValidLinks (newLinks a ls)
+valid-links (Map m) ls g h = h
+valid-links (Link k) ls g h = valid-linked k ls (isFull ls) refl g h
+valid-links (Unlink k) ls g h = record { few = omega (arith, strike-le k ls, h .few); keys = each-strike k ls (h .keys) }
+valid-links Sum ls g h = h
+valid-links Top ls g h = h
+valid-links Pick ls g h = h
+valid-links (Near k) ls g h = h
+
+valid-held : (a : Act) (h v : ℕ) (ls : List ℕ) → v < modulus → ValidHeld a h → ValidHeld a (newHeld a h v ls)
+valid-held (Map m) h v ls g k = k
+valid-held (Link j) h v ls g k = cond-lt (isFull ls) (plus h 1) h modulus (mod-lt (1 * h + 1) positive) k
+valid-held (Unlink j) h v ls g k = k
+valid-held Sum h v ls g k = mod-lt (1 * h + v) positive
+valid-held Top h v ls g k = omega arith
+valid-held Pick h v ls g k = g
+valid-held (Near j) h v ls g k = cond-lt (contains j ls) (plus h v) h modulus (mod-lt (1 * h + v) positive) k
+
+valid-answer : (a : Act) (h : ℕ) → ValidHeld a h → answer a h < modulus
+valid-answer (Map m) h k = positive
+valid-answer (Link j) h k = k
+valid-answer (Unlink j) h k = positive
+valid-answer Sum h k = k
+valid-answer Top h k = k
+valid-answer Pick h k = k
+valid-answer (Near j) h k = k
+
+valid-actOn : (o : Op) (n : Node) → ValidOp o → ValidNode n → ValidNode (actOn o n)
+valid-actOn o n g h =
+    let l = valid-links (o .act) (n .links) (g .act) (record { few = h .few; keys = h .keys }) in
+    record { value = valid-value (o .act) (n .value) (h .value); few = l .few; keys = l .keys }
+
+valid-actBy : (o : Op) (n : Node) → ValidOp o → ValidNode n → ValidOp (actBy o n)
+valid-actBy o n g h = record {
+  act = g .act;
+  held = valid-held (o .act) (o .held) (n .value) (n .links) (h .value) (g .held);
+  targets = valid-strike (n .key) (o .targets) (g .targets);
+  named = g .named;
+  few = g .few;
+}
+
+valid-fused : (o q : Op) → mayFuse o q ≡ true → ValidOp o → ValidOp (fused o q)
+valid-fused o q e g =
+    let f : Affine = affineOf (o .act) in
+    let s : Affine = affineOf (q .act) in
+    record {
+      act = (mod-lt (s .a * f .a + 0) positive, mod-lt (s .a * f .b + s .b) positive);
+      held = refl;
+      targets = g .targets;
+      named = omega (arith, g .named, length-append (o .labels) (q .labels));
+      few = leb-true (length (o .labels ++ q .labels)) 4 (and-right (sameKeys (o .targets) (q .targets)) _ (and-right (isMap (o .act) && isMap (q .act)) _ e));
+    }
+
+pub valid-stored : (o : Op) → ValidOp o → Each ValidResult (stored o)
+valid-stored o g = go (o .labels)
+  where
+    go : (ls : List ℕ) → Each ValidResult (resultsFor ls (answer (o .act) (o .held)) (o .targets))
+    go [] = tt
+    go (l ∷ ls) = (record { value = valid-answer (o .act) (o .held) (g .held); left = g .targets }, go ls)
+
+pub valid-newNode : (n v : ℕ) → v < modulus → ValidNode (newNode n v)
+valid-newNode n v h = record { value = h; few = omega arith; keys = tt }
+
+pub valid-addResult : (l n : ℕ) → n < 64 → ValidResult (addResult l n)
+valid-addResult l n h = record { value = omega (arith, lit≤ {m = 65} {n = modulus} tt); left = record { few = omega arith; keys = tt; rise = refl } }
+
+-- units
+valid-reshaped : {us vs : List (List Op)} → Reshaped us vs → Each ValidUnit us → Each ValidUnit vs
+valid-reshaped (joined u v) g =
+    (record { some = omega (arith, g .0 .some, length-append u v); ops = each-append ValidOp u v (g .0 .ops) (g .1 .0 .ops) }, tt)
+valid-reshaped (cut u v a b) g =
+    (record { some = a; ops = each-left ValidOp u v (g .0 .ops) }, (record { some = b; ops = each-right ValidOp u v (g .0 .ops) }, tt))
+valid-reshaped (swapped o q e) g = (g .1 .0, (g .0, tt))
+valid-reshaped (fusing o q e) g = (record { some = omega arith; ops = (valid-fused o q e (g .0 .ops .0), tt) }, tt)
+valid-reshaped (before {us} {vs} ws h) g = each-append ValidUnit vs ws (valid-reshaped h (each-left ValidUnit us ws g)) (each-right ValidUnit us ws g)
+valid-reshaped (after u h) g = (g .0, valid-reshaped h (g .1))
+
+valid-put : (u : List Op) (us : List (List Op)) → Each ValidOp u → Each ValidUnit us → Each ValidUnit (putUnit u us)
+valid-put [] us g h = h
+valid-put (o ∷ os) us g h = (record { some = omega arith; ops = g }, h)
+
+pub record ValidChange (c : Change) : Type 0 where
+  pub now : Each ValidStation (c .now)
+  pub gone : Each ValidResult (c .gone)
+
+pub valid-effect : {k : ℕ} {ss : List Station} {c : Change} → Effect k ss c → Each ValidStation ss → ValidChange c
+valid-effect (realised n pre o post us ss e h) g =
+    let ops = g .0 .units .0 .ops in
+    let here : Each ValidOp (o ∷ post) = each-right ValidOp pre (o ∷ post) ops in
+    let new : Each ValidOp (pre ++ (actBy o n ∷ post)) = each-append ValidOp pre (actBy o n ∷ post) (each-left ValidOp pre (o ∷ post) ops) (valid-actBy o n (here .0) (g .0 .node), here .1) in
+    record {
+      now = (record { node = valid-actOn o n (here .0) (g .0 .node); units = (record { some = omega (arith, length-append pre (actBy o n ∷ post)); ops = new }, g .0 .units .1) }, g .1);
+      gone = tt;
+    }
+valid-effect (moved n u us s ss e) g = record {
+  now = (record { node = g .0 .node; units = g .0 .units .1 }, (record { node = g .1 .0 .node; units = each-append ValidUnit (s .units) (u ∷ []) (g .1 .0 .units) (g .0 .units .0, tt) }, g .1 .1));
+  gone = tt;
+}
+valid-effect (finished n pre o post us ss e) g =
+    let ops = g .0 .units .0 .ops in
+    let here : Each ValidOp (o ∷ post) = each-right ValidOp pre (o ∷ post) ops in
+    record {
+      now = (record { node = g .0 .node; units = valid-put (pre ++ post) us (each-append ValidOp pre post (each-left ValidOp pre (o ∷ post) ops) (here .1)) (g .0 .units .1) }, g .1);
+      gone = valid-stored o (here .0);
+    }
+valid-effect (reshaped n ss h) g = record { now = (record { node = g .0 .node; units = valid-reshaped h (g .0 .units) }, g .1); gone = tt }
+valid-effect (further s h) g =
+    let x = valid-effect h (g .1) in
+    record { now = (g .0, x .now); gone = x .gone }

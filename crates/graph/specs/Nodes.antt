@@ -1,0 +1,69 @@
+-- Nodes, operations and results, and what happens where an operation meets a node.
+-- Assumes nothing.
+use Prim.Native.Nat.{ℕ, suc}
+use mathlib.Core.Bool.{Bool, cond, not, _&&_, _||_}
+use mathlib.Core.List.{List, [], _∷_}
+use Rattle.graph.specs.declared.act.Act.{Act}
+use Rattle.graph.specs.Acts.{newValue, newLinks, newHeld, answer}
+use Rattle.graph.specs.KeyLists.{isNil, contains, strike}
+
+-- "a node (key, 32-bit unsigned value, list of linked keys)"
+pub record Node : Type 0 where
+  pub key : ℕ
+  pub value : ℕ
+  pub links : List ℕ
+
+-- an operation: an accepted call that visits nodes, with the targets that remain, and the labels that its result is for
+pub record Op : Type 0 where
+  pub act : Act
+  pub held : ℕ
+  pub targets : List ℕ
+  pub labels : List ℕ
+
+-- a call's result: its value, and `left`, "the keys left unstruck"
+pub record Result : Type 0 where
+  pub label : ℕ
+  pub value : ℕ
+  pub left : List ℕ
+
+-- does the operation target this node?
+abbrev pub hits : Op → Node → Bool
+hits o n = contains (n .key) (o .targets)
+
+-- "At each target it acts and strikes that key": the node and the operation after the act (document 000: MAP, FOLD)
+abbrev pub actOn : Op → Node → Node
+actOn o n = record { key = n .key; value = newValue (o .act) (n .value); links = newLinks (o .act) (n .links) }
+
+abbrev pub actBy : Op → Node → Op
+actBy o n = record { act = o .act; held = newHeld (o .act) (o .held) (n .value) (n .links); targets = strike (n .key) (o .targets); labels = o .labels }
+
+-- the node and the operation after they met: as they were, where the operation doesn't target the node
+abbrev pub visitNode : Op → Node → Node
+visitNode o n = cond (hits o n) (actOn o n) n
+
+abbrev pub visitOp : Op → Node → Op
+visitOp o n = cond (hits o n) (actBy o n) o
+
+-- "no targets left"
+abbrev pub nothingLeft : Op → Bool
+nothingLeft o = isNil (o .targets)
+
+-- "has no targets left, or, at the last station, doesn't target this node" (document 000: COMPLETE, LAST)
+abbrev pub mayFinish : Op → Node → Bool → Bool
+mayFinish o n last = nothingLeft o || (last && not (hits o n))
+
+-- the results that a finished operation stores: each of its labels gets the same value and the same `left`
+abbrev pub resultsFor : List ℕ → ℕ → List ℕ → List Result
+resultsFor [] v ts = []
+resultsFor (l ∷ ls) v ts = record { label = l; value = v; left = ts } ∷ resultsFor ls v ts
+
+abbrev pub stored : Op → List Result
+stored o = resultsFor (o .labels) (answer (o .act) (o .held)) (o .targets)
+
+-- an add's node, where there are n: "with its value, no links and a key one above the number of nodes"
+abbrev pub newNode : ℕ → ℕ → Node
+newNode n v = record { key = suc n; value = v; links = [] }
+
+-- "its result is its key, its `left` empty"
+abbrev pub addResult : ℕ → ℕ → Result
+addResult l n = record { label = l; value = suc n; left = [] }
