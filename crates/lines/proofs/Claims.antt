@@ -8,9 +8,10 @@ use native.Mathlib.Omega.{arith}
 use lib.ListN.{length}
 use Rattle.text.specs.Text.{ascii, decimal}
 use Rattle.text.proofs.Splits.{cancel, same-number}
-use Rattle.lines.specs.Forms.{claimText}
+use Rattle.lines.specs.Forms.{claimText, claimNumbers}
 use Rattle.lines.specs.Answers.{TextOf, Reads, form, other, claimAnswer, refusedClaim, IsClaim, ClaimRead}
 use Rattle.lines.specs.Reads.{Outcome, FieldsOf}
+use Rattle.lines.proofs.KeyLists.{words-below, below-words}
 use Rattle.lines.specs.declared.claim.ClaimLine.{ClaimLine}
 use Rattle.lines.specs.declared.fields.Fields.{Fields}
 
@@ -23,10 +24,10 @@ claim-long line r h e = other (λ f i. omega (arith, i .short)) e
 
 module _ (line : List ℕ) (f : Fields) (o : FieldsOf (ascii "claim=" ∷ []) false line f) (r : ClaimLine) where
   pub claim-never : f .ok ≡ false → r ≡ refusedClaim 10 → ClaimRead line r
-  claim-never e q = other (λ l i. o .no e l 0 0 [] (i .fits .0) (omega arith) (omega arith) tt (i .same)) q
+  claim-never e q = other (λ l i. o .no e l 0 0 [] (words-below (claimNumbers l) (i .fits) .0) (omega arith) (omega arith) tt (i .same)) q
 
   pub claim-is : f .ok ≡ true → length line ≤ 255 → f .x < 2 ^ 32 → r ≡ claimAnswer (f .x) → ClaimRead line r
-  claim-is e short small q = form (f .x) (record { short = omega arith; fits = (small, tt); same = o .yes e .2 }) q
+  claim-is e short small q = form (f .x) (record { short = omega arith; fits = below-words (claimNumbers (f .x)) (small, tt); same = o .yes e .2 }) q
 
 -- the line is the text of the claim that the answer holds
 pub claim-served : (line : List ℕ) (r : ClaimLine) → ClaimRead line r → r .refusal ≡ 0 → IsClaim line (r .label)

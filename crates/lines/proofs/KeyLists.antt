@@ -2,11 +2,11 @@
 -- Assumes nothing.
 use Prim.Native.Nat.{ℕ, zero, suc, _+_, _-_, _<_, _≤_, _^_, min}
 use mathlib.Core.Path.{_≡_, refl, sym, ap, _∙_}
-use mathlib.Core.Bool.{Bool, true, false, false≢true}
+use mathlib.Core.Bool.{Bool, true, false, false≢true, _&&_}
 use mathlib.Core.List.{List, [], _∷_, _++_, append-nil}
 use native.Mathlib.Omega.{arith}
 use native.Mathlib.Numerals.{add-one}
-use borrow.Author.Tests.{leb-true, ltb-true}
+use borrow.Author.Tests.{leb-true, ltb-true, lt-ltb}
 use lib.Dec.{ltb, leb}
 use lib.ListN.{length, drop, getD, set, replicate, length-append, drop-of-length-le}
 use lib.Seq.{set-append-seam, append-snoc, drop-cons}
@@ -15,9 +15,12 @@ use Rattle.text.specs.Reads.{NumberOf}
 use Rattle.text.specs.declared.number.Number.the-variants.{Not}
 use Rattle.text.proofs.Splits.{Part, part, part-is, decimal-clean, same-number}
 use Rattle.text.proofs.Lists.{further-gap, passed, passed-last, passed-next}
-use Rattle.lines.specs.Keys.{both, isKey, allKeys, above, padded}
-use Rattle.lines.specs.Answers.{Below}
-use Rattle.lines.specs.Reads.{Outcome, lastOr, KeysOf}
+use Rattle.graph.specs.Calls.{areWords}
+use Rattle.graph.specs.KeyLists.{isKey, areKeys, above, rising}
+use Rattle.graph.specs.Packed.{packed}
+use Rattle.graph.specs.declared.keys.Keys.{Keys}
+use Rattle.graph.proofs.KeyLaws.{packed-more}
+use Rattle.lines.specs.Reads.{Outcome, Below, lastOr, KeysOf}
 use Rattle.lines.specs.declared.keylist.KeyList.{KeyList}
 
 pub outcome-yes : (b : Bool) {Y N : Type 0} → b ≡ true → Y → Outcome b Y N
@@ -28,44 +31,35 @@ outcome-no b e n = record { yes = λ f. absurd (false≢true (sym e ∙ f)); no 
 
 -- ---- one number more
 
-pub both-true : (a b : Bool) → both a b ≡ true → (a ≡ true) × (b ≡ true)
-both-true true b e = (refl, e)
-both-true false b e = absurd (false≢true e)
+pub and-true : (a b : Bool) → a && b ≡ true → (a ≡ true) × (b ≡ true)
+and-true true b e = (refl, e)
+and-true false b e = absurd (false≢true e)
 
-pub both-end : (a : Bool) → both a true ≡ a
-both-end true = refl
-both-end false = refl
+pub and-end : (a : Bool) → a && true ≡ a
+and-end true = refl
+and-end false = refl
 
-both-assoc : (a b c : Bool) → both a (both b c) ≡ both (both a b) c
-both-assoc true b c = refl
-both-assoc false b c = refl
+and-assoc : (a b c : Bool) → a && (b && c) ≡ a && b && c
+and-assoc true b c = refl
+and-assoc false b c = refl
 
-allKeys-snoc : (ts : List ℕ) (v : ℕ) → allKeys (ts ++ v ∷ []) ≡ both (allKeys ts) (isKey v)
-allKeys-snoc [] v = both-end (isKey v)
-allKeys-snoc (t ∷ ts) v = ap (both (isKey t)) (allKeys-snoc ts v) ∙ both-assoc (isKey t) (allKeys ts) (isKey v)
+areKeys-snoc : (ts : List ℕ) (v : ℕ) → areKeys (ts ++ v ∷ []) ≡ areKeys ts && isKey v
+areKeys-snoc [] v = and-end (isKey v)
+areKeys-snoc (t ∷ ts) v = ap (λ (b : Bool). isKey t && b) (areKeys-snoc ts v) ∙ and-assoc (isKey t) (areKeys ts) (isKey v)
 
-above-snoc : (d : ℕ) (ts : List ℕ) (v : ℕ) → above d (ts ++ v ∷ []) ≡ both (above d ts) (ltb (lastOr d ts) v)
-above-snoc d [] v = both-end (ltb d v)
-above-snoc d (t ∷ ts) v = ap (both (ltb d t)) (above-snoc t ts v) ∙ both-assoc (ltb d t) (above t ts) (ltb (lastOr t ts) v)
+above-snoc : (d : ℕ) (ts : List ℕ) (v : ℕ) → above d (ts ++ v ∷ []) ≡ above d ts && ltb (lastOr d ts) v
+above-snoc d [] v = and-end (ltb d v)
+above-snoc d (t ∷ ts) v = ap (λ (b : Bool). ltb d t && b) (above-snoc t ts v) ∙ and-assoc (ltb d t) (above t ts) (ltb (lastOr t ts) v)
 
 lastOr-snoc : (d : ℕ) (ts : List ℕ) (v : ℕ) → lastOr d (ts ++ v ∷ []) ≡ v
 lastOr-snoc d [] v = refl
 lastOr-snoc d (t ∷ ts) v = lastOr-snoc t ts v
 
-padded-snoc : (ts : List ℕ) (v : ℕ) → length ts < 8 → set (padded ts) (length ts) v ≡ padded (ts ++ v ∷ [])
-padded-snoc ts v h =
-    let len : length (ts ++ v ∷ []) ≡ length ts + 1 = length-append ts (v ∷ []) in
-    let n : 8 - length ts ≡ suc (8 - length (ts ++ v ∷ [])) = omega arith in
-    let zeros : _≡_ {A = List ℕ} (replicate (8 - length ts) 0) (0 ∷ replicate (8 - length (ts ++ v ∷ [])) 0) = ap (λ (k : ℕ). replicate {A = ℕ} k 0) n in
-    ap (λ (z : List ℕ). set (ts ++ z) (length ts) v) zeros
-    ∙ set-append-seam ts 0 (replicate (8 - length (ts ++ v ∷ [])) 0) v
-    ∙ sym (append-snoc ts v (replicate (8 - length (ts ++ v ∷ [])) 0))
-
 pub keys-more : (ts : List ℕ) (v : ℕ) (k r : KeyList) → KeysOf ts k
     → r .count ≡ min (k .count + 1) 9
     → r .last ≡ v
-    → r .keys ≡ both (k .keys) (isKey v)
-    → r .rising ≡ both (k .rising) (ltb (k .last) v)
+    → r .keys ≡ k .keys && isKey v
+    → r .rising ≡ k .rising && ltb (k .last) v
     → (k .count < 8 → v ≤ 64 → r .key ≡ set (k .key) (k .count) v)
     → KeysOf (ts ++ v ∷ []) r
 keys-more ts v k r p en el ek ei es =
@@ -73,14 +67,14 @@ keys-more ts v k r p en el ek ei es =
     record {
       count = omega (arith, p .count);
       last = el ∙ sym (lastOr-snoc 0 ts v);
-      keys = ek ∙ ap (λ (b : Bool). both b (isKey v)) (p .keys) ∙ sym (allKeys-snoc ts v);
+      keys = ek ∙ ap (λ (b : Bool). b && isKey v) (p .keys) ∙ sym (areKeys-snoc ts v);
       rising = ei ∙ cc (p .rising, p .last, above-snoc 0 ts v);
       held = λ a l.
-          let ab = both-true (allKeys ts) (isKey v) (sym (allKeys-snoc ts v) ∙ a) in
-          let v64 = leb-true v 64 (both-true (ltb 0 v) (leb v 64) (ab .1) .1) in
+          let ab = and-true (areKeys ts) (isKey v) (sym (areKeys-snoc ts v) ∙ a) in
+          let v64 = leb-true v 64 (and-true (leb 1 v) (leb v 64) (ab .1) .1) in
           let n : k .count ≡ length ts = omega (arith, p .count) in
-          let h : k .key ≡ padded ts = p .held (ab .0) (omega arith) in
-          es (omega arith) v64 ∙ cc (padded-snoc ts v (omega arith));
+          let h : k .key ≡ packed ts .key = p .held (ab .0) (omega arith) in
+          es (omega arith) v64 ∙ cc (ap (λ (q : Keys). q .key) (packed-more ts v (omega arith)));
     }
 
 -- ---- a list read number by number
@@ -175,6 +169,16 @@ empty-list [] e = refl
 empty-list (x ∷ xs) e = absurd (omega arith)
 
 -- keys are at least 1, so a list of them that rises strictly also rises from 0
-pub rising-keys : (ts : List ℕ) → allKeys ts ≡ true → Rattle.lines.specs.Keys.rising ts ≡ above 0 ts
+pub rising-keys : (ts : List ℕ) → areKeys ts ≡ true → rising ts ≡ above 0 ts
 rising-keys [] e = refl
-rising-keys (t ∷ ts) e = rw (both-true (ltb 0 t) (leb t 64) (both-true (isKey t) (allKeys ts) e .0) .0)
+rising-keys (t ∷ ts) e = rw (and-true (leb 1 t) (leb t 64) (and-true (isKey t) (areKeys ts) e .0) .0)
+
+-- ---- 32-bit numbers, as a test and as facts
+
+pub words-below : (l : List ℕ) → areWords l ≡ true → Below l
+words-below [] e = tt
+words-below (t ∷ ts) e = let p = and-true (ltb t (2 ^ 32)) (areWords ts) e in (ltb-true t (2 ^ 32) (p .0), words-below ts (p .1))
+
+pub below-words : (l : List ℕ) → Below l → areWords l ≡ true
+below-words [] b = refl
+below-words (t ∷ ts) b = rw (lt-ltb t (2 ^ 32) (b .0), below-words ts (b .1))

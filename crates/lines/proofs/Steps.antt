@@ -10,15 +10,16 @@ use lib.ListN.{length, getD}
 use Rattle.graph.specs.Steps.{Step, admit, realise, move, finish, join, split, swap, fuse}
 use Rattle.text.specs.Text.{ascii}
 use Rattle.text.proofs.Splits.{Clean, cleanTest, clean-by}
-use Rattle.lines.specs.Keys.{isKey, allKeys}
+use Rattle.graph.specs.KeyLists.{isKey, areKeys}
+use Rattle.graph.specs.Calls.{areWords}
 use Rattle.lines.specs.Forms.{StepForm, work, drain, stepText, stepNumbers, stepKeys}
-use Rattle.lines.specs.Answers.{Below, TextOf, Reads, form, other, unless, stepLine, refusedStep, stepRead, stepAnswer, IsStep, StepRead, stepForm, stepOf}
-use Rattle.lines.specs.Reads.{Spare, Literals, stepWord, stepLiterals, hasPlace, StepMade}
+use Rattle.lines.specs.Answers.{TextOf, Reads, form, other, stepLine, refusedStep, stepRead, stepAnswer, IsStep, StepRead, stepForm, stepOf}
+use Rattle.lines.specs.Reads.{Below, Spare, Literals, stepWord, stepLiterals, hasPlace, StepMade}
 use Rattle.lines.specs.declared.step.StepKind.{StepKind}
 use Rattle.lines.specs.declared.step.StepKind.the-variants.{Admit, Realise, Move, Finish, Join, Split, Swap, Fuse, Drain}
 use Rattle.lines.specs.declared.step.StepLine.{StepLine}
 use Rattle.lines.specs.declared.fields.Fields.{Fields}
-use Rattle.lines.proofs.KeyLists.{both-end}
+use Rattle.lines.proofs.KeyLists.{and-end, words-below, below-words}
 use Rattle.lines.proofs.Words.{Grammar, textIn, Never, kind-inj, text-inj}
 
 -- ---- the grammar
@@ -173,7 +174,7 @@ step-unique f g e =
 -- no step where the line is no text of the grammar
 pub step-never : (line : List ℕ) (r : StepLine) → Never steps line → r ≡ refusedStep 10 → StepRead line r
 step-never line r nv e =
-    other (λ f i. let p = parts f .fits (i .fits) in nv (stepRead f .kind) (stepRead f .at) (stepRead f .unit) (stepRead f .after) [] (p .0) (p .1) (p .2) tt (i .same ∙ text-of f)) e
+    other (λ f i. let p = parts f .fits (words-below (stepNumbers f) (i .fits)) in nv (stepRead f .kind) (stepRead f .at) (stepRead f .unit) (stepRead f .after) [] (p .0) (p .1) (p .2) tt (i .same ∙ text-of f)) e
 
 pub step-long : (line : List ℕ) (r : StepLine) → 255 < length line → r ≡ refusedStep 10 → StepRead line r
 step-long line r h e = other (λ f i. omega (arith, i .short)) e
@@ -181,47 +182,51 @@ step-long line r h e = other (λ f i. omega (arith, i .short)) e
 pub step-is : (line : List ℕ) (k : StepKind) (x y z : ℕ) (ts : List ℕ) (r : StepLine) → length line ≤ 255 → x < 2 ^ 32 → y < 2 ^ 32 → z < 2 ^ 32
     → line ≡ textIn steps k x y z ts → r ≡ stepAnswer (stepForm k x y z) → StepRead line r
 step-is line k x y z ts r short hx hy hz e a =
-    form (stepForm k x y z) (record { short = omega arith; fits = step-fits k x y z hx hy hz; same = e ∙ step-text k x y z ts }) a
+    form (stepForm k x y z) (record { short = omega arith; fits = below-words (stepNumbers (stepForm k x y z)) (step-fits k x y z hx hy hz); same = e ∙ step-text k x y z ts }) a
 
-answer-at : (k : StepKind) (x y z : ℕ) → hasPlace k ≡ true → Spare (stepLiterals k) x y z → stepAnswer (stepForm k x y z) ≡ unless (isKey x) (refusedStep 11) (stepLine k x y z)
-answer-at Admit x y z h s = absurd (false≢true h)
-answer-at Realise x y z h s = rw (both-end, s .0, s .1)
-answer-at Move x y z h s = rw (both-end, s .0, s .1)
-answer-at Finish x y z h s = rw (both-end, s .0, s .1)
-answer-at Join x y z h s = rw (both-end, s .0)
-answer-at Split x y z h s = rw both-end
-answer-at Swap x y z h s = rw (both-end, s .0)
-answer-at Fuse x y z h s = rw (both-end, s .0)
-answer-at Drain x y z h s = absurd (false≢true h)
+-- the form's own test
+tested : (f : StepForm) (a : Bool) → areKeys (stepKeys f) ≡ a → stepAnswer f ≡ cond a (stepRead f) (refusedStep 11)
+tested f true e = rw e
+tested f false e = rw e
 
-answer-free : (k : StepKind) (x y z : ℕ) → hasPlace k ≡ false → Spare (stepLiterals k) x y z → stepAnswer (stepForm k x y z) ≡ stepLine k x y z
-answer-free Admit x y z h s = rw (s .0, s .1, s .2)
-answer-free Realise x y z h s = absurd (false≢true (sym h))
-answer-free Move x y z h s = absurd (false≢true (sym h))
-answer-free Finish x y z h s = absurd (false≢true (sym h))
-answer-free Join x y z h s = absurd (false≢true (sym h))
-answer-free Split x y z h s = absurd (false≢true (sym h))
-answer-free Swap x y z h s = absurd (false≢true (sym h))
-answer-free Fuse x y z h s = absurd (false≢true (sym h))
-answer-free Drain x y z h s = rw (s .0, s .1, s .2)
+-- the step that these numbers are
+record Formed (k : StepKind) (x y z : ℕ) : Type 0 where
+  key : hasPlace k ≡ true → areKeys (stepKeys (stepForm k x y z)) ≡ isKey x
+  free : hasPlace k ≡ false → areKeys (stepKeys (stepForm k x y z)) ≡ true
+  value : stepRead (stepForm k x y z) ≡ stepLine k x y z
+
+formed : (k : StepKind) (x y z : ℕ) → Spare (stepLiterals k) x y z → Formed k x y z
+formed Admit x y z s = record { key = λ h. absurd (false≢true h); free = λ h. refl; value = rw (s .0, s .1, s .2) }
+formed Realise x y z s = record { key = λ h. and-end (isKey x); free = λ h. absurd (false≢true (sym h)); value = rw (s .0, s .1) }
+formed Move x y z s = record { key = λ h. and-end (isKey x); free = λ h. absurd (false≢true (sym h)); value = rw (s .0, s .1) }
+formed Finish x y z s = record { key = λ h. and-end (isKey x); free = λ h. absurd (false≢true (sym h)); value = rw (s .0, s .1) }
+formed Join x y z s = record { key = λ h. and-end (isKey x); free = λ h. absurd (false≢true (sym h)); value = rw (s .0) }
+formed Split x y z s = record { key = λ h. and-end (isKey x); free = λ h. absurd (false≢true (sym h)); value = refl }
+formed Swap x y z s = record { key = λ h. and-end (isKey x); free = λ h. absurd (false≢true (sym h)); value = rw (s .0) }
+formed Fuse x y z s = record { key = λ h. and-end (isKey x); free = λ h. absurd (false≢true (sym h)); value = rw (s .0) }
+formed Drain x y z s = record { key = λ h. absurd (false≢true h); free = λ h. refl; value = rw (s .0, s .1, s .2) }
 
 module _ (k : StepKind) (f : Fields) (r : StepLine) where
-  pub made-place : (b : Bool) → hasPlace k ≡ true → isKey (f .x) ≡ b → r ≡ unless b (refusedStep 11) (stepLine k (f .x) (f .y) (f .z)) → StepMade k f r
-  made-place b h e q s = q ∙ sym (answer-at k (f .x) (f .y) (f .z) h s ∙ rw e)
+  pub made-place : (b : Bool) → hasPlace k ≡ true → isKey (f .x) ≡ b → r ≡ cond b (stepLine k (f .x) (f .y) (f .z)) (refusedStep 11) → StepMade k f r
+  made-place b h e q s =
+      let m = formed k (f .x) (f .y) (f .z) s in
+      q ∙ sym (tested (stepForm k (f .x) (f .y) (f .z)) b (m .key h ∙ e) ∙ ap (λ (l : StepLine). cond b l (refusedStep 11)) (m .value))
 
   pub made-free : hasPlace k ≡ false → r ≡ stepLine k (f .x) (f .y) (f .z) → StepMade k f r
-  made-free h q s = q ∙ sym (answer-free k (f .x) (f .y) (f .z) h s)
+  made-free h q s =
+      let m = formed k (f .x) (f .y) (f .z) s in
+      q ∙ sym (tested (stepForm k (f .x) (f .y) (f .z)) true (m .free h) ∙ m .value)
 
 -- ---- what an answer with refusal 0 holds
 
 -- the line is the text of the step that the answer holds, and its key is one
-pub step-served : (line : List ℕ) (r : StepLine) → StepRead line r → r .refusal ≡ 0 → IsStep line (stepOf r) × (allKeys (stepKeys (stepOf r)) ≡ true)
-step-served line r (form f i e) z = go (allKeys (stepKeys f)) refl
+pub step-served : (line : List ℕ) (r : StepLine) → StepRead line r → r .refusal ≡ 0 → IsStep line (stepOf r) × (areKeys (stepKeys (stepOf r)) ≡ true)
+step-served line r (form f i e) z = go (areKeys (stepKeys f)) refl
   where
-    go : (a : Bool) → allKeys (stepKeys f) ≡ a → IsStep line (stepOf r) × (allKeys (stepKeys (stepOf r)) ≡ true)
-    go false ea = let a : stepAnswer f ≡ refusedStep 11 = rw ea in absurd (omega (arith, sym z ∙ ap (λ (q : StepLine). q .refusal) (e ∙ a)))
+    go : (a : Bool) → areKeys (stepKeys f) ≡ a → IsStep line (stepOf r) × (areKeys (stepKeys (stepOf r)) ≡ true)
+    go false ea = let a : stepAnswer f ≡ refusedStep 11 = tested f false ea in absurd (omega (arith, sym z ∙ ap (λ (q : StepLine). q .refusal) (e ∙ a)))
     go true ea =
-        let a : stepAnswer f ≡ stepRead f = rw ea in
+        let a : stepAnswer f ≡ stepRead f = tested f true ea in
         let o : stepOf r ≡ f = ap stepOf (e ∙ a) ∙ step-back f in
         rw o (i, ea)
 step-served line r (other n e) z = absurd (omega (arith, ap (λ (q : StepLine). q .refusal) (sym e) ∙ z))

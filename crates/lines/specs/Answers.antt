@@ -1,16 +1,17 @@
 -- What reading a line answers: the form that the line is the text of, or refusal 10, 11 or 12.
 -- Assumes nothing.
-use Prim.Native.Nat.{ℕ, _<_, _^_}
-use mathlib.Core.Bool.{Bool, true, false}
+use Prim.Native.Nat.{ℕ, _<_}
+use mathlib.Core.Bool.{true, not}
 use mathlib.Core.List.{List, [], _∷_}
 use mathlib.Core.Path.{_≡_}
-use lib.Dec.{leb}
 use lib.ListN.{length, drop}
 use Rattle.text.specs.Text.{upTo}
-use Rattle.graph.specs.Calls.{Call, add, map, link, unlink, sum, top, pick, near}
+use Rattle.graph.specs.Calls.{Call, add, map, link, unlink, sum, top, pick, near, areWords, formTests}
+use Rattle.graph.specs.KeyLists.{areKeys}
+use Rattle.graph.specs.Packed.{listed, packed}
+use Rattle.graph.specs.Refusals.{Answer, refused, done, Test, on, unless}
 use Rattle.graph.specs.Steps.{Step, admit, realise, move, finish, join, split, swap, fuse}
-use Rattle.lines.specs.Keys.{allKeys, rising, keysOf, listed}
-use Rattle.lines.specs.Forms.{callText, callNumbers, callTargets, callKeys, StepForm, work, drain, stepText, stepNumbers, stepKeys, claimText, claimNumbers}
+use Rattle.lines.specs.Forms.{callText, callNumbers, StepForm, work, drain, stepText, stepNumbers, stepKeys, claimText, claimNumbers}
 use Rattle.lines.specs.declared.call.CallKind.{CallKind}
 use Rattle.lines.specs.declared.call.CallKind.the-variants.{Add, Map, Link, Unlink, Sum, Top, Pick, Near}
 use Rattle.lines.specs.declared.call.CallLine.{CallLine}
@@ -23,15 +24,10 @@ use Rattle.lines.specs.declared.claim.ClaimLine.{ClaimLine}
 abbrev pub lineAt : List ℕ → ℕ → List ℕ
 lineAt frame at = upTo 10 (drop at frame)
 
--- 32-bit numbers
-abbrev pub Below : List ℕ → Type 0
-Below [] = Unit {0}
-Below (t ∷ ts) = (t < 2 ^ 32) × Below ts
-
 -- the line is the text of the form f, whose numbers are 32-bit numbers, and has at most 255 bytes
 pub record TextOf {F : Type 0} (text numbers : F → List ℕ) (line : List ℕ) (f : F) : Type 0 where
   pub short : length line < 256
-  pub fits : Below (numbers f)
+  pub fits : areWords (numbers f) ≡ true
   pub same : line ≡ text f
 
 -- r is the answer to the form that the line is the text of, or, where it is that of none, the answer `ten`
@@ -39,18 +35,18 @@ pub data Reads {F R : Type 0} (Is : F → Type 0) (answer : F → R) (ten r : R)
   form : (f : F) → Is f → r ≡ answer f → Reads Is answer ten r
   other : ((f : F) → Is f → ⊥) → r ≡ ten → Reads Is answer ten r
 
--- a test in a sequence: where it fails, its refusal answers
-abbrev pub unless : {R : Type 0} → Bool → R → R → R
-unless false refusal rest = refusal
-unless true refusal rest = rest
+-- a form that its tests refuse, or serve, by value
+abbrev pub settled : {F R : Type 0} → (ℕ → R) → (F → R) → Answer F → R
+settled refusal value (refused n) = refusal n
+settled refusal value (done f) = value f
 
 -- ---- calls
 
 abbrev pub callLine : CallKind → ℕ → ℕ → List ℕ → CallLine
-callLine kind x y to = record { refusal = 0; kind = kind; x = x; y = y; to = keysOf to }
+callLine kind x y to = record { refusal = 0; kind = kind; x = x; y = y; to = packed to }
 
 abbrev pub refusedCall : ℕ → CallLine
-refusedCall n = record { refusal = n; kind = Add; x = 0; y = 0; to = keysOf [] }
+refusedCall n = record { refusal = n; kind = Add; x = 0; y = 0; to = packed [] }
 
 -- a call by value: its numbers in the line's order
 abbrev pub callRead : Call → CallLine
@@ -63,13 +59,9 @@ callRead (top start to) = callLine Top start 0 to
 callRead (pick start to) = callLine Pick start 0 to
 callRead (near key start to) = callLine Near key start to
 
--- 11: a key outside 1 to 64; 12: more than eight targets, or not strictly rising
+-- refused by the first of the form's own tests that applies (11, 12), else the call
 abbrev pub callAnswer : Call → CallLine
-callAnswer f =
-    unless (allKeys (callKeys f)) (refusedCall 11)
-    (unless (leb (length (callTargets f)) 8) (refusedCall 12)
-    (unless (rising (callTargets f)) (refusedCall 12)
-    (callRead f)))
+callAnswer f = settled refusedCall callRead (unless (formTests f) f)
 
 abbrev pub IsCall : List ℕ → Call → Type 0
 IsCall line f = TextOf callText callNumbers line f
@@ -110,9 +102,12 @@ stepRead (work (swap at unit)) = stepLine Swap at unit 0
 stepRead (work (fuse at unit)) = stepLine Fuse at unit 0
 stepRead drain = stepLine Drain 0 0 0
 
--- 11: a key outside 1 to 64
+-- 11: "a key outside 1 to 64 in `at=`"
+abbrev pub stepFormTests : StepForm → List Test
+stepFormTests f = on (not (areKeys (stepKeys f))) 11 ∷ []
+
 abbrev pub stepAnswer : StepForm → StepLine
-stepAnswer f = unless (allKeys (stepKeys f)) (refusedStep 11) (stepRead f)
+stepAnswer f = settled refusedStep stepRead (unless (stepFormTests f) f)
 
 abbrev pub IsStep : List ℕ → StepForm → Type 0
 IsStep line f = TextOf stepText stepNumbers line f

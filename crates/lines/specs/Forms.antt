@@ -3,7 +3,7 @@
 use Prim.Native.Nat.{ℕ}
 use Prim.Native.String.{String}
 use mathlib.Core.List.{List, [], _∷_, _++_}
-use Rattle.graph.specs.Calls.{Call, add, map, link, unlink, sum, top, pick, near}
+use Rattle.graph.specs.Calls.{Call, add, map, link, unlink, sum, top, pick, near, numbersOf, operandsOf, targetsOf}
 use Rattle.graph.specs.Steps.{Step, admit, realise, move, finish, join, split, swap, fuse}
 use Rattle.text.specs.Text.{ascii, decimal, commas}
 
@@ -28,36 +28,7 @@ callText (near key start to) = field "call=near key=" key (field " start=" start
 
 -- every number of the line
 abbrev pub callNumbers : Call → List ℕ
-callNumbers (add value) = value ∷ []
-callNumbers (map a b to) = a ∷ b ∷ to
-callNumbers (link key to) = key ∷ to
-callNumbers (unlink key to) = key ∷ to
-callNumbers (sum start to) = start ∷ to
-callNumbers (top start to) = start ∷ to
-callNumbers (pick start to) = start ∷ to
-callNumbers (near key start to) = key ∷ start ∷ to
-
--- the targets
-abbrev pub callTargets : Call → List ℕ
-callTargets (add value) = []
-callTargets (map a b to) = to
-callTargets (link key to) = to
-callTargets (unlink key to) = to
-callTargets (sum start to) = to
-callTargets (top start to) = to
-callTargets (pick start to) = to
-callTargets (near key start to) = to
-
--- the numbers in `key=` and `to=`
-abbrev pub callKeys : Call → List ℕ
-callKeys (add value) = []
-callKeys (map a b to) = to
-callKeys (link key to) = key ∷ to
-callKeys (unlink key to) = key ∷ to
-callKeys (sum start to) = to
-callKeys (top start to) = to
-callKeys (pick start to) = to
-callKeys (near key start to) = key ∷ to
+callNumbers f = numbersOf f ++ (operandsOf f ++ targetsOf f)
 
 -- ---- steps
 

@@ -1,4 +1,3 @@
-pub mod Keys
 pub mod Forms
 pub mod Answers
 pub mod Reads

@@ -7,8 +7,11 @@ use mathlib.Core.Path.{_≡_}
 use lib.ListN.{length, drop}
 use Rattle.text.specs.Text.{ascii, decimal, commas}
 use Rattle.text.specs.Reads.{Gap}
-use Rattle.lines.specs.Keys.{isKey, allKeys, above, padded}
-use Rattle.lines.specs.Answers.{Below, callForm, callAnswer, stepForm, stepAnswer}
+use Rattle.graph.specs.Calls.{areWords}
+use Rattle.graph.specs.KeyLists.{isKey, areKeys, above}
+use Rattle.graph.specs.Packed.{packed}
+use Rattle.lines.specs.Forms.{callNumbers}
+use Rattle.lines.specs.Answers.{callForm, callAnswer, stepForm, stepAnswer}
 use Rattle.lines.specs.declared.call.CallKind.{CallKind}
 use Rattle.lines.specs.declared.call.CallKind.the-variants.{Add, Map, Link, Unlink, Sum, Top, Pick, Near}
 use Rattle.lines.specs.declared.call.CallLine.{CallLine}
@@ -29,6 +32,11 @@ pub record Outcome (ok : Bool) (Y N : Type 0) : Type 0 where
   pub yes : ok ≡ true → Y
   pub no : ok ≡ false → N
 
+-- 32-bit numbers
+abbrev pub Below : List ℕ → Type 0
+Below [] = Unit {0}
+Below (t ∷ ts) = (t < 2 ^ 32) × Below ts
+
 -- ---- a list of keys
 
 abbrev pub lastOr : ℕ → List ℕ → ℕ
@@ -39,9 +47,9 @@ lastOr d (t ∷ ts) = lastOr t ts
 pub record KeysOf (ts : List ℕ) (k : KeyList) : Type 0 where
   pub count : k .count ≡ min (length ts) 9
   pub last : k .last ≡ lastOr 0 ts
-  pub keys : k .keys ≡ allKeys ts
+  pub keys : k .keys ≡ areKeys ts
   pub rising : k .rising ≡ above 0 ts
-  pub held : allKeys ts ≡ true → length ts ≤ 8 → k .key ≡ padded ts
+  pub held : areKeys ts ≡ true → length ts ≤ 8 → k .key ≡ packed ts .key
 
 -- the bytes are the list of some 32-bit numbers, of which `k` keeps what `KeysOf` says; or they are no such list
 abbrev pub ListOf : List ℕ → KeyList → Type 0
@@ -151,7 +159,8 @@ keyOk Near x = isKey x
 -- the answer to the call that these fields are, whatever targets they hold
 abbrev pub CallMade : CallKind → Fields → CallLine → Type 0
 CallMade kind f r =
-    (ts : List ℕ) → KeysOf ts (f .to) → Tailed (callListed kind) ts → Spare (callLiterals kind) (f .x) (f .y) (f .z) → r ≡ callAnswer (callForm kind (f .x) (f .y) ts)
+    (ts : List ℕ) → KeysOf ts (f .to) → Tailed (callListed kind) ts → Spare (callLiterals kind) (f .x) (f .y) (f .z)
+    → areWords (callNumbers (callForm kind (f .x) (f .y) ts)) ≡ true → r ≡ callAnswer (callForm kind (f .x) (f .y) ts)
 
 -- ---- steps
 

@@ -44,10 +44,7 @@ fn refused_call(refusal: u8) -> CallLine
         kind: CallKind::Add,
         x: 0,
         y: 0,
-        to: Keys {
-            count: 0,
-            key: [0u8; 8],
-        },
+        to: Keys::none(),
     }
 }
 

@@ -4,10 +4,10 @@ use text::number::Number;
 use text::number::read_number;
 ghost use mathlib.Core.Path.{_≡_};
 ghost use mathlib.Core.List.{List, [], _∷_, _++_};
-ghost use mathlib.Core.Bool.{true, false};
+ghost use mathlib.Core.Bool.{true, false, _&&_};
 ghost use Prim.Native.Nat.{ℕ, _≤_, _<_};
 ghost use lib.ListN.{set};
-ghost use Rattle.lines.specs.Keys.{both, isKey};
+ghost use Rattle.graph.specs.KeyLists.{isKey};
 ghost use Rattle.lines.specs.Reads.{KeysOf, ListOf};
 
 // The numbers fed so far: how many (9 for more than eight), the first eight keys, the last number, whether all are
@@ -32,7 +32,7 @@ pub fn is_key(v: u32) -> bool
 }
 
 fn and(a: bool, b: bool) -> bool
-    ensures { λ r. ⌜ r ≡ both a b ⌝ }
+    ensures { λ r. ⌜ r ≡ a && b ⌝ }
 {
     if a { b } else { false }
 }

@@ -9,7 +9,7 @@ use lib.ListN.{length, drop}
 use Rattle.text.specs.Reads.{PlaceOf}
 use Rattle.text.specs.Text.{ascii, upTo}
 use Rattle.text.specs.declared.cut.Place.the-variants.{At}
-use Rattle.lines.proofs.Calls.{calls, call-long, call-never, call-is}
+use Rattle.lines.proofs.Calls.{calls, call-long, call-never, call-words, call-is}
 use Rattle.lines.proofs.Words.{no-head, no-word, no-rest, is-line, word-within}
 use Rattle.lines.proofs.call.read_call.Statement.{statement}
 use Rattle.lines.proofs.call.read_call.Tie as tie
@@ -122,7 +122,8 @@ returns-5 c =
     let o = rw (v .value-at .ensures) at (m .call-fields .ensures) in
     let f = m .call-fields .result in
     let t = is-line calls (l .part-to .result .now) (v .before .before .from .given .0 .0) (place-at (v .before .before)) (k .kind .given .0 .0) (word-at k) (m .call-fields .result) o (not-false (m .call-fields .result .ok) (c .before .if2 .left)) in
-    rw (← l .part-to .ensures) (call-is (l .part-to .result .now) (k .kind .given .0 .0) (f .x) (f .y) (f .z) (t .0) _ (v .before .before .before .before .before .before .if1 .left) (small m .0) (small m .1) (t .1) (t .2) (c .call-made .ensures (t .0) (t .3) (t .4) (t .5)))
+    let w = call-words (k .kind .given .0 .0) (f .x) (f .y) (t .0) (small m .0) (small m .1) (t .1) in
+    rw (← l .part-to .ensures) (call-is (l .part-to .result .now) (k .kind .given .0 .0) (f .x) (f .y) (f .z) (t .0) _ (v .before .before .before .before .before .before .if1 .left) w (t .2) (c .call-made .ensures (t .0) (t .3) (t .4) (t .5) w))
 
 pub read-call-spec : {M : Type 1} → statement M
 read-call-spec =

@@ -1,9 +1,9 @@
 -- `lines::keylist::KeyList::with` meets its contract: one number more, with a count that rests at 9 or not.
 -- Assumes nothing.
+use mathlib.Core.Bool.{Bool, _&&_}
 use mathlib.Core.Path.{refl, ap, _∙_}
 use native.Mathlib.Omega.{arith}
 use borrow.Author.Needs.{needs}
-use Rattle.lines.specs.Keys.{both}
 use Rattle.lines.proofs.KeyLists.{keys-more}
 use Rattle.lines.proofs.keylist.KeyList.with.Statement.{statement}
 use Rattle.lines.proofs.keylist.KeyList.with.Tie as tie
@@ -30,7 +30,7 @@ returns c =
       refl,
       λ ts p.
           keys-more ts (a .v) (a .self) _ p (omega (arith, p .count)) refl
-          (w .before .and .ensures ∙ ap (both (a .self .keys)) (w .before .before .is-key .ensures))
+          (w .before .and .ensures ∙ ap (λ (b : Bool). a .self .keys && b) (w .before .before .is-key .ensures))
           (w .and2 .ensures)
           (w .before .before .before .store .ensures),
     )
@@ -42,7 +42,7 @@ returns-2 c =
       refl,
       λ ts p.
           keys-more ts (a .v) (a .self) _ p (omega (arith, p .count)) refl
-          (w .before .and .ensures ∙ ap (both (a .self .keys)) (w .before .before .is-key .ensures))
+          (w .before .and .ensures ∙ ap (λ (b : Bool). a .self .keys && b) (w .before .before .is-key .ensures))
           (w .and2 .ensures)
           (w .before .before .before .store .ensures),
     )
