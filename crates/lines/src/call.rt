@@ -163,8 +163,8 @@ pub fn read_call(frame: &[u8], at: usize) -> CallLine
         return refused_call(10);
     };
     let fields = call_fields(kind, line, from + word.len());
-    if !fields.ok {
-        return refused_call(10);
+    if fields.ok {
+        return call_made(kind, fields);
     }
-    call_made(kind, fields)
+    refused_call(10)
 }

@@ -156,8 +156,8 @@ pub fn read_step(frame: &[u8], at: usize) -> StepLine
         return refused_step(10);
     };
     let fields = step_fields(kind, line, from + word.len());
-    if !fields.ok {
-        return refused_step(10);
+    if fields.ok {
+        return step_made(kind, fields);
     }
-    step_made(kind, fields)
+    refused_step(10)
 }

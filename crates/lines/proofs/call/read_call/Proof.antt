@@ -4,7 +4,6 @@ use Prim.Native.Nat.{_+_, _≤_, _<_, _^_}
 use mathlib.Core.Path.{_≡_, sym, _∙_}
 use native.Mathlib.Omega.{arith}
 use borrow.Author.Needs.{needs}
-use borrow.Author.Tests.{not-true, not-false}
 use lib.ListN.{length, drop}
 use Rattle.text.specs.Reads.{PlaceOf}
 use Rattle.text.specs.Text.{ascii, upTo}
@@ -93,37 +92,37 @@ add-call-fields c = omega (arith, within (c .before .before .before .before))
 call-fields-requires : tie.Need-call-fields-requires
 call-fields-requires c κs = omega (arith, within (c .before .before .before .before))
 
-refused-call-requires-4 : tie.Need-refused-call-requires-4
-refused-call-requires-4 c κs = search needs
+call-made-requires : tie.Need-call-made-requires
+call-made-requires c κs = search needs
 
 returns-4 : tie.Need-returns-4
 unfolding calls ascii
 returns-4 c =
-    let m = c .before .before .before in
+    let m = c .before .before in
+    let k = m .before .before in
+    let v = k .before .before .before in
+    let l = v .before .before .before .before .before .before .before in
+    let o = rw (v .value-at .ensures) at (m .call-fields .ensures) in
+    let f = m .call-fields .result in
+    let t = is-line calls (l .part-to .result .now) (v .before .before .from .given .0 .0) (place-at (v .before .before)) (k .kind .given .0 .0) (word-at k) (m .call-fields .result) o (c .before .if2 .taken) in
+    let w = call-words (k .kind .given .0 .0) (f .x) (f .y) (t .0) (small m .0) (small m .1) (t .1) in
+    rw (← l .part-to .ensures) (call-is (l .part-to .result .now) (k .kind .given .0 .0) (f .x) (f .y) (f .z) (t .0) _ (v .before .before .before .before .before .before .if1 .left) w (t .2) (c .call-made .ensures (t .0) (t .3) (t .4) (t .5) w))
+
+refused-call-requires-4 : tie.Need-refused-call-requires-4
+refused-call-requires-4 c κs = search needs
+
+returns-5 : tie.Need-returns-5
+unfolding calls ascii
+returns-5 c =
+    let m = c .before .before in
     let k = m .before .before in
     let v = k .before .before .before in
     let l = v .before .before .before .before .before .before .before in
     let o = rw (v .value-at .ensures) at (m .call-fields .ensures) in
     rw (← l .part-to .ensures)
     (call-never _ _
-    (no-rest calls _ _ (place-at (v .before .before)) (k .kind .given .0 .0) (word-at k) (m .call-fields .result) o (not-true (m .call-fields .result .ok) (c .before .if2 .taken)))
+    (no-rest calls _ _ (place-at (v .before .before)) (k .kind .given .0 .0) (word-at k) (m .call-fields .result) o (c .before .if2 .left))
     (c .refused-call4 .ensures))
-
-call-made-requires : tie.Need-call-made-requires
-call-made-requires c κs = search needs
-
-returns-5 : tie.Need-returns-5
-unfolding calls ascii
-returns-5 c =
-    let m = c .before .before .before in
-    let k = m .before .before in
-    let v = k .before .before .before in
-    let l = v .before .before .before .before .before .before .before in
-    let o = rw (v .value-at .ensures) at (m .call-fields .ensures) in
-    let f = m .call-fields .result in
-    let t = is-line calls (l .part-to .result .now) (v .before .before .from .given .0 .0) (place-at (v .before .before)) (k .kind .given .0 .0) (word-at k) (m .call-fields .result) o (not-false (m .call-fields .result .ok) (c .before .if2 .left)) in
-    let w = call-words (k .kind .given .0 .0) (f .x) (f .y) (t .0) (small m .0) (small m .1) (t .1) in
-    rw (← l .part-to .ensures) (call-is (l .part-to .result .now) (k .kind .given .0 .0) (f .x) (f .y) (f .z) (t .0) _ (v .before .before .before .before .before .before .if1 .left) w (t .2) (c .call-made .ensures (t .0) (t .3) (t .4) (t .5) w))
 
 pub read-call-spec : {M : Type 1} → statement M
 read-call-spec =
@@ -146,7 +145,7 @@ read-call-spec =
     returns-3
     add-call-fields
     call-fields-requires
-    refused-call-requires-4
-    returns-4
     call-made-requires
+    returns-4
+    refused-call-requires-4
     returns-5)

@@ -4,7 +4,6 @@ use Prim.Native.Nat.{_+_, _≤_, _<_, _^_}
 use mathlib.Core.Path.{_≡_, sym, _∙_}
 use native.Mathlib.Omega.{arith}
 use borrow.Author.Needs.{needs}
-use borrow.Author.Tests.{not-true, not-false}
 use lib.ListN.{length, drop}
 use Rattle.text.specs.Reads.{PlaceOf}
 use Rattle.text.specs.Text.{ascii, upTo}
@@ -93,36 +92,36 @@ add-step-fields c = omega (arith, within (c .before .before .before .before))
 step-fields-requires : tie.Need-step-fields-requires
 step-fields-requires c κs = omega (arith, within (c .before .before .before .before))
 
-refused-step-requires-4 : tie.Need-refused-step-requires-4
-refused-step-requires-4 c κs = search needs
+step-made-requires : tie.Need-step-made-requires
+step-made-requires c κs = search needs
 
 returns-4 : tie.Need-returns-4
 unfolding steps ascii
 returns-4 c =
-    let m = c .before .before .before in
+    let m = c .before .before in
+    let k = m .before .before in
+    let v = k .before .before .before in
+    let l = v .before .before .before .before .before .before .before in
+    let o = rw (v .value-at .ensures) at (m .step-fields .ensures) in
+    let f = m .step-fields .result in
+    let t = is-line steps (l .part-to .result .now) (v .before .before .from .given .0 .0) (place-at (v .before .before)) (k .kind .given .0 .0) (word-at k) (m .step-fields .result) o (c .before .if2 .taken) in
+    rw (← l .part-to .ensures) (step-is (l .part-to .result .now) (k .kind .given .0 .0) (f .x) (f .y) (f .z) (t .0) _ (v .before .before .before .before .before .before .if1 .left) (small m .0) (small m .1) (small m .2) (t .2) (c .step-made .ensures (t .5)))
+
+refused-step-requires-4 : tie.Need-refused-step-requires-4
+refused-step-requires-4 c κs = search needs
+
+returns-5 : tie.Need-returns-5
+unfolding steps ascii
+returns-5 c =
+    let m = c .before .before in
     let k = m .before .before in
     let v = k .before .before .before in
     let l = v .before .before .before .before .before .before .before in
     let o = rw (v .value-at .ensures) at (m .step-fields .ensures) in
     rw (← l .part-to .ensures)
     (step-never _ _
-    (no-rest steps _ _ (place-at (v .before .before)) (k .kind .given .0 .0) (word-at k) (m .step-fields .result) o (not-true (m .step-fields .result .ok) (c .before .if2 .taken)))
+    (no-rest steps _ _ (place-at (v .before .before)) (k .kind .given .0 .0) (word-at k) (m .step-fields .result) o (c .before .if2 .left))
     (c .refused-step4 .ensures))
-
-step-made-requires : tie.Need-step-made-requires
-step-made-requires c κs = search needs
-
-returns-5 : tie.Need-returns-5
-unfolding steps ascii
-returns-5 c =
-    let m = c .before .before .before in
-    let k = m .before .before in
-    let v = k .before .before .before in
-    let l = v .before .before .before .before .before .before .before in
-    let o = rw (v .value-at .ensures) at (m .step-fields .ensures) in
-    let f = m .step-fields .result in
-    let t = is-line steps (l .part-to .result .now) (v .before .before .from .given .0 .0) (place-at (v .before .before)) (k .kind .given .0 .0) (word-at k) (m .step-fields .result) o (not-false (m .step-fields .result .ok) (c .before .if2 .left)) in
-    rw (← l .part-to .ensures) (step-is (l .part-to .result .now) (k .kind .given .0 .0) (f .x) (f .y) (f .z) (t .0) _ (v .before .before .before .before .before .before .if1 .left) (small m .0) (small m .1) (small m .2) (t .2) (c .step-made .ensures (t .5)))
 
 pub read-step-spec : {M : Type 1} → statement M
 read-step-spec =
@@ -145,7 +144,7 @@ read-step-spec =
     returns-3
     add-step-fields
     step-fields-requires
-    refused-step-requires-4
-    returns-4
     step-made-requires
+    returns-4
+    refused-step-requires-4
     returns-5)
