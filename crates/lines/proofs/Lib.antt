@@ -4,3 +4,5 @@ pub mod Words
 pub mod Calls
 pub mod Steps
 pub mod Claims
+pub mod Answered
+pub mod Document
