@@ -3,8 +3,7 @@
 use Prim.Native.Nat.{ℕ}
 use mathlib.Core.List.{List}
 use mathlib.Core.Path.{_≡_, sym, ap, _∙_}
-use Rattle.graph.specs.Calls.{Call}
-use Rattle.lines.specs.Forms.{callText, callNumbers, StepForm, stepText, stepNumbers, claimText, claimNumbers}
+use Rattle.lines.specs.Forms.{callText, callNumbers, stepText, stepNumbers, claimText, claimNumbers}
 use Rattle.lines.specs.Answers.{TextOf, Reads, form, other, callAnswer, refusedCall, CallRead, stepAnswer, refusedStep, StepRead, claimAnswer, refusedClaim, ClaimRead}
 use Rattle.lines.specs.declared.call.CallLine.{CallLine}
 use Rattle.lines.specs.declared.step.StepLine.{StepLine}

@@ -1,22 +1,22 @@
 -- Call lines: their grammar, their forms, and the answer to each form.
 -- Assumes nothing.
 use Prim.Native.Nat.{ℕ, _<_, _≤_, _^_}
-use mathlib.Core.Path.{_≡_, refl, sym, ap, ap₂, subst, _∙_}
+use mathlib.Core.Path.{_≡_, refl, sym, ap, _∙_}
 use mathlib.Core.Bool.{Bool, true, false, cond, false≢true, _&&_}
-use mathlib.Core.List.{List, [], _∷_, _++_}
+use mathlib.Core.List.{List, _++_}
 use native.Mathlib.Omega.{arith}
 use borrow.Author.Tests.{le-leb, lt-leb, leb-true}
 use lib.Dec.{eqb, leb}
 use lib.ListN.{length, getD}
 use Rattle.graph.specs.declared.keys.Keys.{Keys}
 use Rattle.graph.specs.Calls.{Call, add, map, link, unlink, sum, top, pick, near, operandsOf, targetsOf, areWords}
-use Rattle.graph.specs.KeyLists.{areKeys, above, rising}
+use Rattle.graph.specs.KeyLists.{areKeys, rising}
 use Rattle.graph.specs.Packed.{listed, packed}
 use Rattle.graph.proofs.KeyLaws.{listed-packed}
 use Rattle.text.specs.Text.{ascii}
 use Rattle.text.proofs.Splits.{Clean, cleanTest, clean-by}
 use Rattle.lines.specs.Forms.{callText, callNumbers}
-use Rattle.lines.specs.Answers.{TextOf, Reads, form, other, callLine, refusedCall, callRead, callAnswer, IsCall, CallRead, callForm, callOf}
+use Rattle.lines.specs.Answers.{form, other, callLine, refusedCall, callRead, callAnswer, IsCall, CallRead, callForm, callOf}
 use Rattle.lines.specs.Reads.{Below, KeysOf, Tailed, Spare, Literals, callWord, callLiterals, callListed, keyOk, CallMade}
 use Rattle.lines.specs.declared.call.CallKind.{CallKind}
 use Rattle.lines.specs.declared.call.CallKind.the-variants.{Add, Map, Link, Unlink, Sum, Top, Pick, Near}

@@ -1,6 +1,6 @@
 -- A field, and what stands after it.
 -- Assumes nothing.
-use Prim.Native.Nat.{ℕ, _+_, _<_, _≤_, _^_}
+use Prim.Native.Nat.{ℕ, _+_, _<_, _≤_}
 use mathlib.Core.Path.{_≡_, refl, sym, ap, _∙_}
 use mathlib.Core.Bool.{Bool, true, false, false≢true}
 use mathlib.Core.List.{List, [], _∷_, _++_, append-nil}
@@ -12,7 +12,7 @@ use Rattle.text.specs.declared.cut.Place.the-variants.{At, Missing}
 use Rattle.text.specs.declared.number.Number.the-variants.{Is as NumberIs, Not as NumberNot}
 use Rattle.text.proofs.Splits.{Part, part, part-is, cancel, decimal-clean, same-number}
 use Rattle.text.proofs.Lists.{commas-clean}
-use Rattle.lines.specs.Reads.{Outcome, Below, KeysOf, ListOf, FieldOf, TailOf, FieldsOf, tailText, Tailed, fieldsText, Spare, Literals}
+use Rattle.lines.specs.Reads.{KeysOf, ListOf, FieldOf, TailOf, FieldsOf, tailText, fieldsText, Spare, Literals}
 use Rattle.lines.specs.declared.fields.Field.the-variants.{Is, Not}
 use Rattle.lines.specs.declared.fields.Fields.{Fields}
 use Rattle.lines.specs.declared.keylist.KeyList.{KeyList}

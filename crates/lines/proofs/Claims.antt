@@ -2,15 +2,15 @@
 -- Assumes nothing.
 use Prim.Native.Nat.{ℕ, _<_, _≤_, _^_}
 use mathlib.Core.Path.{_≡_, sym, ap, _∙_}
-use mathlib.Core.Bool.{Bool, true, false}
+use mathlib.Core.Bool.{true, false}
 use mathlib.Core.List.{List, [], _∷_, _++_}
 use native.Mathlib.Omega.{arith}
 use lib.ListN.{length}
 use Rattle.text.specs.Text.{ascii, decimal}
 use Rattle.text.proofs.Splits.{cancel, same-number}
 use Rattle.lines.specs.Forms.{claimText, claimNumbers}
-use Rattle.lines.specs.Answers.{TextOf, Reads, form, other, claimAnswer, refusedClaim, IsClaim, ClaimRead}
-use Rattle.lines.specs.Reads.{Outcome, FieldsOf}
+use Rattle.lines.specs.Answers.{form, other, claimAnswer, refusedClaim, IsClaim, ClaimRead}
+use Rattle.lines.specs.Reads.{FieldsOf}
 use Rattle.lines.proofs.KeyLists.{words-below, below-words}
 use Rattle.lines.specs.declared.claim.ClaimLine.{ClaimLine}
 use Rattle.lines.specs.declared.fields.Fields.{Fields}

@@ -1,11 +1,11 @@
 -- Document 01's own lines, computed: each form's text is the line printed there.
 -- Assumes nothing.
-use mathlib.Core.List.{List, [], _∷_}
+use mathlib.Core.List.{[], _∷_}
 use mathlib.Core.Path.{_≡_, refl}
-use Rattle.graph.specs.Calls.{Call, add, map, link, unlink, sum, top, pick, near}
-use Rattle.graph.specs.Steps.{Step, admit, realise, move, finish, join, split, swap, fuse}
+use Rattle.graph.specs.Calls.{add, map, link, unlink, sum, top, pick, near}
+use Rattle.graph.specs.Steps.{admit, realise, move, finish, join, split, swap, fuse}
 use Rattle.text.specs.Text.{ascii, digits, decimal, further, commas}
-use Rattle.lines.specs.Forms.{callText, StepForm, work, drain, stepText, claimText}
+use Rattle.lines.specs.Forms.{callText, work, drain, stepText, claimText}
 
 record Calls : Type 0 where
   adds : callText (add 5) ≡ ascii "call=add value=5"

@@ -1,6 +1,6 @@
 -- One number more in a list of keys, and a list read number by number.
 -- Assumes nothing.
-use Prim.Native.Nat.{ℕ, zero, suc, _+_, _-_, _<_, _≤_, _^_, min}
+use Prim.Native.Nat.{ℕ, suc, _+_, _-_, _<_, _≤_, _^_, min}
 use mathlib.Core.Path.{_≡_, refl, sym, ap, _∙_}
 use mathlib.Core.Bool.{Bool, true, false, false≢true, _&&_}
 use mathlib.Core.List.{List, [], _∷_, _++_, append-nil}
@@ -8,8 +8,8 @@ use native.Mathlib.Omega.{arith}
 use native.Mathlib.Numerals.{add-one}
 use borrow.Author.Tests.{leb-true, ltb-true, lt-ltb}
 use lib.Dec.{ltb, leb}
-use lib.ListN.{length, drop, getD, set, replicate, length-append, drop-of-length-le}
-use lib.Seq.{set-append-seam, append-snoc, drop-cons}
+use lib.ListN.{length, drop, getD, set, length-append, drop-of-length-le}
+use lib.Seq.{drop-cons}
 use Rattle.text.specs.Text.{upTo, decimal, further, commas}
 use Rattle.text.specs.Reads.{NumberOf}
 use Rattle.text.specs.declared.number.Number.the-variants.{Not}

@@ -3,17 +3,16 @@
 use Prim.Native.Nat.{ℕ, _+_, _<_, _≤_, _^_}
 use mathlib.Core.Path.{_≡_, refl, sym, ap, _∙_}
 use mathlib.Core.Bool.{Bool, true, false, cond, false≢true}
-use mathlib.Core.List.{List, [], _∷_, _++_}
+use mathlib.Core.List.{List, []}
 use native.Mathlib.Omega.{arith}
 use lib.Dec.{eqb}
 use lib.ListN.{length, getD}
-use Rattle.graph.specs.Steps.{Step, admit, realise, move, finish, join, split, swap, fuse}
+use Rattle.graph.specs.Steps.{admit, realise, move, finish, join, split, swap, fuse}
 use Rattle.text.specs.Text.{ascii}
 use Rattle.text.proofs.Splits.{Clean, cleanTest, clean-by}
 use Rattle.graph.specs.KeyLists.{isKey, areKeys}
-use Rattle.graph.specs.Calls.{areWords}
 use Rattle.lines.specs.Forms.{StepForm, work, drain, stepText, stepNumbers, stepKeys}
-use Rattle.lines.specs.Answers.{TextOf, Reads, form, other, stepLine, refusedStep, stepRead, stepAnswer, IsStep, StepRead, stepForm, stepOf}
+use Rattle.lines.specs.Answers.{form, other, stepLine, refusedStep, stepRead, stepAnswer, IsStep, StepRead, stepForm, stepOf}
 use Rattle.lines.specs.Reads.{Below, Spare, Literals, stepWord, stepLiterals, hasPlace, StepMade}
 use Rattle.lines.specs.declared.step.StepKind.{StepKind}
 use Rattle.lines.specs.declared.step.StepKind.the-variants.{Admit, Realise, Move, Finish, Join, Split, Swap, Fuse, Drain}

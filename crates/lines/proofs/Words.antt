@@ -11,7 +11,7 @@ use Rattle.text.specs.Reads.{PlaceOf, Gap}
 use Rattle.text.specs.declared.cut.Place.the-variants.{At, Missing}
 use Rattle.text.proofs.Splits.{Clean, Part, part, part-is, cancel, same-number}
 use Rattle.text.proofs.Lists.{commas-inj}
-use Rattle.lines.specs.Reads.{Outcome, Below, KeysOf, FieldsOf, tailText, Tailed, fieldsText, Spare, Literals}
+use Rattle.lines.specs.Reads.{Below, KeysOf, FieldsOf, tailText, Tailed, fieldsText, Spare, Literals}
 use Rattle.lines.specs.declared.fields.Fields.{Fields}
 use Rattle.lines.proofs.Chains.{fields-gap}
 

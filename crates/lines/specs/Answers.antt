@@ -10,7 +10,7 @@ use Rattle.graph.specs.Calls.{Call, add, map, link, unlink, sum, top, pick, nea
 use Rattle.graph.specs.KeyLists.{areKeys}
 use Rattle.graph.specs.Packed.{listed, packed}
 use Rattle.graph.specs.Refusals.{Answer, refused, done, Test, on, unless}
-use Rattle.graph.specs.Steps.{Step, admit, realise, move, finish, join, split, swap, fuse}
+use Rattle.graph.specs.Steps.{admit, realise, move, finish, join, split, swap, fuse}
 use Rattle.lines.specs.Forms.{callText, callNumbers, StepForm, work, drain, stepText, stepNumbers, stepKeys, claimText, claimNumbers}
 use Rattle.lines.specs.declared.call.CallKind.{CallKind}
 use Rattle.lines.specs.declared.call.CallKind.the-variants.{Add, Map, Link, Unlink, Sum, Top, Pick, Near}

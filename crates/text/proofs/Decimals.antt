@@ -9,7 +9,7 @@ use borrow.Author.Tests.{lt-ltb, le-ltb, ltb-true, ltb-false}
 use lib.Dec.{ltb}
 use native.Mathlib.Numerals.{add-one, unary-clauses}
 use lib.Seq.{drop-cons}
-use lib.ListN.{length, take, drop, getD, length-append, List·getD-append, drop-of-length-le}
+use lib.ListN.{length, drop, getD, length-append, List·getD-append, drop-of-length-le}
 use Rattle.text.specs.Text.{digits, decimal}
 
 digits-low : (k n : ℕ) → n < 10 → digits k n ≡ (48 + n) ∷ []

@@ -7,7 +7,7 @@ use native.Mathlib.Omega.{arith}
 use lib.ListN.{length, drop, length-append}
 use Rattle.text.specs.Text.{decimal, further, commas}
 use Rattle.text.specs.Reads.{Gap}
-use Rattle.text.proofs.Decimals.{IsDecimal, decimal-is}
+use Rattle.text.proofs.Decimals.{decimal-is}
 use Rattle.text.proofs.Splits.{Clean, decimal-clean, same-number}
 
 pub further-gap : (ts : List ℕ) → Gap 44 (further ts)

@@ -1,9 +1,9 @@
 -- Laws of `upTo`: the search for the next stop byte, a literal at a place, and the part before a stop.
 -- Assumes nothing.
-use Prim.Native.Nat.{ℕ, zero, suc, _+_, _-_, _<_, _≤_}
+use Prim.Native.Nat.{ℕ, suc, _+_, _-_, _<_, _≤_}
 use mathlib.Core.Bool.{Bool, true, false, cond, false≢true}
 use mathlib.Core.Path.{_≡_, refl, sym, ap, _∙_}
-use mathlib.Core.List.{List, [], _∷_, _++_, append-nil, append-assoc}
+use mathlib.Core.List.{List, [], _∷_, _++_, append-nil}
 use native.Mathlib.Nat.{le-of-eq, add-sub-cancel-left}
 use native.Mathlib.Numerals.{add-one}
 use native.Mathlib.Omega.{arith}
@@ -14,7 +14,7 @@ use lib.Seq.{take-suc, drop-cons, append-snoc, take-all, take-append-seam, drop-
 use Rattle.text.specs.Text.{upTo, decimal}
 use Rattle.text.specs.Reads.{PlaceOf, Gap}
 use Rattle.text.specs.declared.cut.Place.the-variants.{At, Missing}
-use Rattle.text.proofs.Decimals.{Figures, IsDecimal, decimal-is, decimal-inj}
+use Rattle.text.proofs.Decimals.{Figures, decimal-is, decimal-inj}
 
 -- what `&s[a..]` holds
 pub from-eq : (s : List ℕ) (a : ℕ) → take (length s - a) (drop a s) ≡ drop a s

@@ -1,10 +1,9 @@
 -- `text::cut::part_to` meets its contract. The loop's invariant: the bytes passed hold no stop.
 -- Assumes nothing.
 use Prim.Native.Nat.{_≤_, _-_}
-use mathlib.Core.Path.{_≡_, refl, sym, ap, _∙_}
+use mathlib.Core.Path.{refl, sym, ap, _∙_}
 use borrow.Author.Needs.{needs}
-use native.Mathlib.Omega.{arith}
-use lib.ListN.{length, drop, drop-of-length-le}
+use lib.ListN.{length, drop-of-length-le}
 use lib.Seq.{length-take-le}
 use native.Mathlib.Nat.{le-of-lt}
 use Rattle.text.specs.Text.{upTo}

@@ -1,7 +1,7 @@
 -- `text::put::put_bytes` meets its contract. The loop's invariant: the first i bytes of the literal are written.
 -- Assumes nothing.
 use Prim.Native.Nat.{_+_, _-_, _≤_}
-use mathlib.Core.Path.{_≡_, refl, sym, ap, _∙_}
+use mathlib.Core.Path.{_≡_, refl}
 use lib.ListN.{length, take, length-set}
 use Rattle.text.specs.Text.{Written}
 use Rattle.text.proofs.Pasting.{written-none, copy-more, copy-all}
