@@ -1,0 +1,301 @@
+-- Call lines: their grammar, their forms, and the answer to each form.
+-- Assumes nothing.
+use Prim.Native.Nat.{ℕ, _<_, _≤_, _^_}
+use mathlib.Core.Path.{_≡_, refl, sym, ap, _∙_}
+use mathlib.Core.Bool.{Bool, true, false, cond, false≢true, _&&_}
+use mathlib.Core.List.{List, _++_}
+use native.Mathlib.Omega.{arith}
+use borrow.Author.Tests.{le-leb, lt-leb, leb-true}
+use lib.Dec.{eqb, leb}
+use lib.ListN.{length, getD}
+use Rattle.graph.specs.declared.keys.Keys.{Keys}
+use Rattle.graph.specs.Calls.{Call, add, map, link, unlink, sum, top, pick, near, operandsOf, targetsOf, areWords}
+use Rattle.graph.specs.KeyLists.{areKeys, rising}
+use Rattle.graph.specs.Packed.{listed, packed}
+use Rattle.graph.proofs.KeyLaws.{listed-packed}
+use Rattle.text.specs.Text.{ascii}
+use Rattle.text.proofs.Splits.{Clean, cleanTest, clean-by}
+use Rattle.lines.specs.Forms.{callText, callNumbers}
+use Rattle.lines.specs.Answers.{form, other, callLine, refusedCall, callRead, callAnswer, IsCall, CallRead, callForm, callOf}
+use Rattle.lines.specs.Reads.{Below, KeysOf, Tailed, Spare, Literals, callWord, callLiterals, callListed, keyOk, CallMade}
+use Rattle.lines.specs.declared.call.CallKind.{CallKind}
+use Rattle.lines.specs.declared.call.CallKind.the-variants.{Add, Map, Link, Unlink, Sum, Top, Pick, Near}
+use Rattle.lines.specs.declared.call.CallLine.{CallLine}
+use Rattle.lines.specs.declared.fields.Fields.{Fields}
+use Rattle.lines.proofs.KeyLists.{and-true, rising-keys, words-below, below-words}
+use Rattle.lines.proofs.Words.{Grammar, textIn, Never, kind-inj, text-inj}
+
+-- ---- the grammar
+
+pub call-clean : (k : CallKind) → Clean 32 (callWord k)
+unfolding ascii cleanTest
+call-clean Add = clean-by 32 (callWord Add) refl
+call-clean Map = clean-by 32 (callWord Map) refl
+call-clean Link = clean-by 32 (callWord Link) refl
+call-clean Unlink = clean-by 32 (callWord Unlink) refl
+call-clean Sum = clean-by 32 (callWord Sum) refl
+call-clean Top = clean-by 32 (callWord Top) refl
+call-clean Pick = clean-by 32 (callWord Pick) refl
+call-clean Near = clean-by 32 (callWord Near) refl
+
+pub call-gaps : (k : CallKind) → Literals (callLiterals k)
+unfolding ascii
+call-gaps Add = (refl, tt)
+call-gaps Map = (refl, (refl, tt))
+call-gaps Link = (refl, tt)
+call-gaps Unlink = (refl, tt)
+call-gaps Sum = (refl, tt)
+call-gaps Top = (refl, tt)
+call-gaps Pick = (refl, tt)
+call-gaps Near = (refl, (refl, tt))
+
+-- the first letter tells the words apart
+kindAt : ℕ → CallKind
+kindAt b =
+    cond (eqb b 97) Add
+    (cond (eqb b 109) Map
+    (cond (eqb b 108) Link
+    (cond (eqb b 117) Unlink
+    (cond (eqb b 115) Sum
+    (cond (eqb b 116) Top
+    (cond (eqb b 112) Pick Near))))))
+
+first-letter : (k : CallKind) → k ≡ kindAt (getD (callWord k) 0 0)
+unfolding kindAt ascii
+first-letter Add = refl
+first-letter Map = refl
+first-letter Link = refl
+first-letter Unlink = refl
+first-letter Sum = refl
+first-letter Top = refl
+first-letter Pick = refl
+first-letter Near = refl
+
+pub call-apart : (j k : CallKind) → callWord j ≡ callWord k → j ≡ k
+call-apart j k e = first-letter j ∙ ap (λ (w : List ℕ). kindAt (getD w 0 0)) e ∙ sym (first-letter k)
+
+unfoldable pub calls : Grammar CallKind
+calls =
+    record {
+      head = ascii "call=";
+      word = callWord;
+      literals = callLiterals;
+      listed = callListed;
+      clean = call-clean;
+      gaps = call-gaps;
+      apart = call-apart;
+    }
+
+pub no-call-word : (w : List ℕ) → (w ≡ ascii "add" → ⊥) → (w ≡ ascii "map" → ⊥) → (w ≡ ascii "link" → ⊥) → (w ≡ ascii "unlink" → ⊥)
+    → (w ≡ ascii "sum" → ⊥) → (w ≡ ascii "top" → ⊥) → (w ≡ ascii "pick" → ⊥) → (w ≡ ascii "near" → ⊥) → (k : CallKind) → w ≡ callWord k → ⊥
+no-call-word w a m l u s t p n Add = a
+no-call-word w a m l u s t p n Map = m
+no-call-word w a m l u s t p n Link = l
+no-call-word w a m l u s t p n Unlink = u
+no-call-word w a m l u s t p n Sum = s
+no-call-word w a m l u s t p n Top = t
+no-call-word w a m l u s t p n Pick = p
+no-call-word w a m l u s t p n Near = n
+
+-- ---- the forms
+
+call-text : (k : CallKind) (x y z : ℕ) (ts : List ℕ) → textIn calls k x y z ts ≡ callText (callForm k x y ts)
+unfolding calls ascii
+call-text Add x y z ts = refl
+call-text Map x y z ts = refl
+call-text Link x y z ts = refl
+call-text Unlink x y z ts = refl
+call-text Sum x y z ts = refl
+call-text Top x y z ts = refl
+call-text Pick x y z ts = refl
+call-text Near x y z ts = refl
+
+call-fits : (k : CallKind) (x y : ℕ) (ts : List ℕ) → x < 2 ^ 32 → y < 2 ^ 32 → Below ts → Below (callNumbers (callForm k x y ts))
+call-fits Add x y ts hx hy b = (hx, tt)
+call-fits Map x y ts hx hy b = (hx, (hy, b))
+call-fits Link x y ts hx hy b = (hx, b)
+call-fits Unlink x y ts hx hy b = (hx, b)
+call-fits Sum x y ts hx hy b = (hx, b)
+call-fits Top x y ts hx hy b = (hx, b)
+call-fits Pick x y ts hx hy b = (hx, b)
+call-fits Near x y ts hx hy b = (hy, (hx, b))
+
+-- the call that was read fits
+pub call-words : (k : CallKind) (x y : ℕ) (ts : List ℕ) → x < 2 ^ 32 → y < 2 ^ 32 → Below ts → areWords (callNumbers (callForm k x y ts)) ≡ true
+call-words k x y ts hx hy b = below-words (callNumbers (callForm k x y ts)) (call-fits k x y ts hx hy b)
+
+-- a call is the form of its value
+pub call-back : (f : Call) → callForm (callRead f .kind) (callRead f .x) (callRead f .y) (targetsOf f) ≡ f
+call-back (add value) = refl
+call-back (map a b to) = refl
+call-back (link key to) = refl
+call-back (unlink key to) = refl
+call-back (sum start to) = refl
+call-back (top start to) = refl
+call-back (pick start to) = refl
+call-back (near key start to) = refl
+
+-- what a call's value leaves unused is zero
+record Parts (f : Call) : Type 0 where
+  tailed : Tailed (callListed (callRead f .kind)) (targetsOf f)
+  spare : Spare (callLiterals (callRead f .kind)) (callRead f .x) (callRead f .y) 0
+  fits : Below (callNumbers f) → (callRead f .x < 2 ^ 32) × (callRead f .y < 2 ^ 32) × Below (targetsOf f)
+
+parts : (f : Call) → Parts f
+parts (add value) = record { tailed = refl; spare = (refl, refl, refl); fits = λ b. (b .0, omega arith, tt) }
+parts (map a b to) = record { tailed = tt; spare = (refl, refl, refl); fits = λ b. (b .0, b .1 .0, b .1 .1) }
+parts (link key to) = record { tailed = tt; spare = (refl, refl, refl); fits = λ b. (b .0, omega arith, b .1) }
+parts (unlink key to) = record { tailed = tt; spare = (refl, refl, refl); fits = λ b. (b .0, omega arith, b .1) }
+parts (sum start to) = record { tailed = tt; spare = (refl, refl, refl); fits = λ b. (b .0, omega arith, b .1) }
+parts (top start to) = record { tailed = tt; spare = (refl, refl, refl); fits = λ b. (b .0, omega arith, b .1) }
+parts (pick start to) = record { tailed = tt; spare = (refl, refl, refl); fits = λ b. (b .0, omega arith, b .1) }
+parts (near key start to) = record { tailed = tt; spare = (refl, refl, refl); fits = λ b. (b .1 .0, b .0, b .1 .1) }
+
+text-of : (f : Call) → callText f ≡ textIn calls (callRead f .kind) (callRead f .x) (callRead f .y) 0 (targetsOf f)
+text-of f = ap callText (sym (call-back f)) ∙ sym (call-text (callRead f .kind) (callRead f .x) (callRead f .y) 0 (targetsOf f))
+
+-- a call line's text determines the call
+pub call-unique : (f g : Call) → callText f ≡ callText g → f ≡ g
+unfolding calls
+call-unique f g e =
+    let t = sym (text-of f) ∙ e ∙ text-of g in
+    let k : callRead f .kind ≡ callRead g .kind = kind-inj calls _ _ _ _ _ _ _ _ _ _ t in
+    let moved : textIn calls (callRead g .kind) (callRead f .x) (callRead f .y) 0 (targetsOf f) ≡ textIn calls (callRead g .kind) (callRead g .x) (callRead g .y) 0 (targetsOf g) = rw k at t in
+    let q = text-inj calls (callRead g .kind) _ _ 0 _ _ 0 _ _ (rw k at (parts f .spare)) (parts g .spare) (rw k at (parts f .tailed)) (parts g .tailed) moved in
+    sym (call-back f) ∙ cc (q .0, q .1, q .3, k) ∙ call-back g
+
+-- ---- the answer
+
+-- no call where the line is no text of the grammar
+pub call-never : (line : List ℕ) (r : CallLine) → Never calls line → r ≡ refusedCall 10 → CallRead line r
+unfolding calls
+call-never line r nv e =
+    other (λ f i. let p = parts f .fits (words-below (callNumbers f) (i .fits)) in nv (callRead f .kind) (callRead f .x) (callRead f .y) 0 (targetsOf f) (p .0) (p .1) (omega arith) (p .2) (i .same ∙ text-of f)) e
+
+pub call-long : (line : List ℕ) (r : CallLine) → 255 < length line → r ≡ refusedCall 10 → CallRead line r
+call-long line r h e = other (λ f i. omega (arith, i .short)) e
+
+pub call-is : (line : List ℕ) (k : CallKind) (x y z : ℕ) (ts : List ℕ) (r : CallLine) → length line ≤ 255 → areWords (callNumbers (callForm k x y ts)) ≡ true
+    → line ≡ textIn calls k x y z ts → r ≡ callAnswer (callForm k x y ts) → CallRead line r
+call-is line k x y z ts r short fits e a =
+    form (callForm k x y ts) (record { short = omega arith; fits = fits; same = e ∙ call-text k x y z ts }) a
+
+-- the form's own tests, in their order
+tested : (f : Call) (a b : Bool) → areWords (callNumbers f) ≡ true → areKeys (operandsOf f ++ targetsOf f) ≡ a → leb (length (targetsOf f)) 8 && rising (targetsOf f) ≡ b
+    → callAnswer f ≡ cond a (cond b (callRead f) (refusedCall 12)) (refusedCall 11)
+tested f true true w ea eb = rw (w, ea, eb)
+tested f true false w ea eb = rw (w, ea, eb)
+tested f false b w ea eb = rw (w, ea)
+
+-- the call that these numbers and targets are
+record Formed (k : CallKind) (x y : ℕ) (ts : List ℕ) : Type 0 where
+  keys : areKeys (operandsOf (callForm k x y ts) ++ targetsOf (callForm k x y ts)) ≡ keyOk k x && areKeys ts
+  targets : targetsOf (callForm k x y ts) ≡ ts
+  value : callRead (callForm k x y ts) ≡ callLine k x y ts
+
+formed : (k : CallKind) (x y z : ℕ) (ts : List ℕ) → Tailed (callListed k) ts → Spare (callLiterals k) x y z → Formed k x y ts
+formed Add x y z ts t s = record { keys = rw t; targets = sym t; value = rw (t, s .0) }
+formed Map x y z ts t s = record { keys = refl; targets = refl; value = refl }
+formed Link x y z ts t s = record { keys = refl; targets = refl; value = rw (s .0) }
+formed Unlink x y z ts t s = record { keys = refl; targets = refl; value = rw (s .0) }
+formed Sum x y z ts t s = record { keys = refl; targets = refl; value = rw (s .0) }
+formed Top x y z ts t s = record { keys = refl; targets = refl; value = rw (s .0) }
+formed Pick x y z ts t s = record { keys = refl; targets = refl; value = rw (s .0) }
+formed Near x y z ts t s = record { keys = refl; targets = refl; value = refl }
+
+module _ (k : CallKind) (f : Fields) (r : CallLine) where
+  -- the answer by its two tests, whatever their outcome
+  made-by : (a b : Bool) → ((ts : List ℕ) → KeysOf ts (f .to) → keyOk k (f .x) && areKeys ts ≡ a)
+      → ((ts : List ℕ) → KeysOf ts (f .to) → a ≡ true → leb (length ts) 8 && rising ts ≡ b)
+      → ((ts : List ℕ) → KeysOf ts (f .to) → a ≡ true → b ≡ true → r ≡ callLine k (f .x) (f .y) ts)
+      → (a ≡ true → b ≡ false → r ≡ refusedCall 12) → (a ≡ false → r ≡ refusedCall 11) → CallMade k f r
+  made-by true true ea eb e0 e12 e11 ts p t s w =
+      let m = formed k (f .x) (f .y) (f .z) ts t s in
+      e0 ts p refl refl ∙ sym (tested (callForm k (f .x) (f .y) ts) true true w (m .keys ∙ ea ts p) (rw (m .targets) (eb ts p refl)) ∙ m .value)
+  made-by true false ea eb e0 e12 e11 ts p t s w =
+      let m = formed k (f .x) (f .y) (f .z) ts t s in
+      e12 refl refl ∙ sym (tested (callForm k (f .x) (f .y) ts) true false w (m .keys ∙ ea ts p) (rw (m .targets) (eb ts p refl)))
+  made-by false b ea eb e0 e12 e11 ts p t s w =
+      let m = formed k (f .x) (f .y) (f .z) ts t s in
+      e11 refl ∙ sym (tested (callForm k (f .x) (f .y) ts) false _ w (m .keys ∙ ea ts p) refl)
+
+  pub made-key : keyOk k (f .x) ≡ false → r ≡ refusedCall 11 → CallMade k f r
+  made-key e h = made-by false false (λ ts p. rw e) (λ ts p z. absurd (false≢true z)) (λ ts p z. absurd (false≢true z)) (λ z. absurd (false≢true z)) (λ z. h)
+
+  module _ (key : keyOk k (f .x) ≡ true) where
+    pub made-targets : f .to .keys ≡ false → r ≡ refusedCall 11 → CallMade k f r
+    made-targets e h = made-by false false (λ ts p. rw (key, ← p .keys, e)) (λ ts p z. absurd (false≢true z)) (λ ts p z. absurd (false≢true z)) (λ z. absurd (false≢true z)) (λ z. h)
+
+    module _ (keys : f .to .keys ≡ true) where
+      all : (ts : List ℕ) → KeysOf ts (f .to) → keyOk k (f .x) && areKeys ts ≡ true
+      all ts p = rw (key, ← p .keys, keys)
+
+      unsorted : ((ts : List ℕ) → KeysOf ts (f .to) → leb (length ts) 8 && rising ts ≡ false) → r ≡ refusedCall 12 → CallMade k f r
+      unsorted e h =
+          made-by true false all (λ ts p z. e ts p) (λ ts p z y. absurd (false≢true y)) (λ z y. h) (λ z. absurd (false≢true (sym z)))
+
+      pub made-many : 8 < f .to .count → r ≡ refusedCall 12 → CallMade k f r
+      made-many e = unsorted (λ ts p. rw (lt-leb (length ts) 8 (omega (arith, p .count))))
+
+      rising-is : (ts : List ℕ) → KeysOf ts (f .to) → rising ts ≡ f .to .rising
+      rising-is ts p = rising-keys ts (sym (p .keys) ∙ keys) ∙ sym (p .rising)
+
+      module _ (few : f .to .count ≤ 8) where
+        short : (ts : List ℕ) → KeysOf ts (f .to) → leb (length ts) 8 ≡ true
+        short ts p = le-leb (length ts) 8 (omega (arith, p .count))
+
+        pub made-unsorted : f .to .rising ≡ false → r ≡ refusedCall 12 → CallMade k f r
+        made-unsorted e = unsorted (λ ts p. rw (short ts p, rising-is ts p, e))
+
+        pub made-call : f .to .rising ≡ true → r ≡ record { refusal = 0; kind = k; x = f .x; y = f .y; to = record { count = f .to .count; key = f .to .key } } → CallMade k f r
+        unfolding packed
+        made-call e h =
+            made-by true true all (λ ts p z. rw (short ts p, rising-is ts p, e))
+            (λ ts p z y.
+            let n : f .to .count ≡ length ts = omega (arith, p .count) in
+            let l = p .held (sym (p .keys) ∙ keys) (omega arith) in
+            h ∙ (λ i. record { refusal = 0; kind = k; x = f .x; y = f .y; to = record { count = n i; key = l i } }))
+            (λ z y. absurd (false≢true (sym y))) (λ z. absurd (false≢true (sym z)))
+
+-- ---- what an answer with refusal 0 holds
+
+-- the limits that a served call keeps
+pub record Served (f : Call) : Type 0 where
+  pub keys : areKeys (operandsOf f ++ targetsOf f) ≡ true
+  pub few : length (targetsOf f) ≤ 8
+  pub sorted : rising (targetsOf f) ≡ true
+  pub answer : callAnswer f ≡ callRead f
+
+served : (f : Call) → areWords (callNumbers f) ≡ true → callAnswer f .refusal ≡ 0 → Served f
+served f w z = go (areKeys (operandsOf f ++ targetsOf f)) (leb (length (targetsOf f)) 8 && rising (targetsOf f)) refl refl
+  where
+    go : (a b : Bool) → areKeys (operandsOf f ++ targetsOf f) ≡ a → leb (length (targetsOf f)) 8 && rising (targetsOf f) ≡ b → Served f
+    go true true ea eb =
+        let p = and-true (leb (length (targetsOf f)) 8) (rising (targetsOf f)) eb in
+        record { keys = ea; few = leb-true (length (targetsOf f)) 8 (p .0); sorted = p .1; answer = tested f true true w ea eb }
+    go true false ea eb = absurd (omega (arith, sym z ∙ ap (λ (q : CallLine). q .refusal) (tested f true false w ea eb)))
+    go false b ea eb = absurd (omega (arith, sym z ∙ ap (λ (q : CallLine). q .refusal) (tested f false b w ea eb)))
+
+targets-of : (f : Call) → callRead f .to ≡ packed (targetsOf f)
+targets-of (add value) = refl
+targets-of (map a b to) = refl
+targets-of (link key to) = refl
+targets-of (unlink key to) = refl
+targets-of (sum start to) = refl
+targets-of (top start to) = refl
+targets-of (pick start to) = refl
+targets-of (near key start to) = refl
+
+pub call-of-read : (f : Call) → callOf (callRead f) ≡ f
+call-of-read f =
+    ap (λ (ks : Keys). callForm (callRead f .kind) (callRead f .x) (callRead f .y) (listed ks)) (targets-of f)
+    ∙ ap (callForm (callRead f .kind) (callRead f .x) (callRead f .y)) (listed-packed (targetsOf f))
+    ∙ call-back f
+
+-- the line is the text of the call that the answer holds, and that call keeps its limits
+pub call-served : (line : List ℕ) (r : CallLine) → CallRead line r → r .refusal ≡ 0 → IsCall line (callOf r) × Served (callOf r)
+call-served line r (form f i e) z =
+    let s = served f (i .fits) (ap (λ (q : CallLine). q .refusal) (sym e) ∙ z) in
+    let o : callOf r ≡ f = ap callOf (e ∙ s .answer) ∙ call-of-read f in
+    rw o (i, s)
+call-served line r (other n e) z = absurd (omega (arith, ap (λ (q : CallLine). q .refusal) (sym e) ∙ z))

@@ -1,0 +1,184 @@
+-- One number more in a list of keys, and a list read number by number.
+-- Assumes nothing.
+use Prim.Native.Nat.{ℕ, suc, _+_, _-_, _<_, _≤_, _^_, min}
+use mathlib.Core.Path.{_≡_, refl, sym, ap, _∙_}
+use mathlib.Core.Bool.{Bool, true, false, false≢true, _&&_}
+use mathlib.Core.List.{List, [], _∷_, _++_, append-nil}
+use native.Mathlib.Omega.{arith}
+use native.Mathlib.Numerals.{add-one}
+use borrow.Author.Tests.{leb-true, ltb-true, lt-ltb}
+use lib.Dec.{ltb, leb}
+use lib.ListN.{length, drop, getD, set, length-append, drop-of-length-le}
+use lib.Seq.{drop-cons}
+use Rattle.text.specs.Text.{upTo, decimal, further, commas}
+use Rattle.text.specs.Reads.{NumberOf}
+use Rattle.text.specs.declared.number.Number.the-variants.{Not}
+use Rattle.text.proofs.Splits.{Part, part, part-is, decimal-clean, same-number}
+use Rattle.text.proofs.Lists.{further-gap, passed, passed-last, passed-next}
+use Rattle.graph.specs.Calls.{areWords}
+use Rattle.graph.specs.KeyLists.{isKey, areKeys, above, rising}
+use Rattle.graph.specs.Packed.{packed}
+use Rattle.graph.specs.declared.keys.Keys.{Keys}
+use Rattle.graph.proofs.KeyLaws.{packed-more}
+use Rattle.lines.specs.Reads.{Outcome, Below, lastOr, KeysOf}
+use Rattle.lines.specs.declared.keylist.KeyList.{KeyList}
+
+pub outcome-yes : (b : Bool) {Y N : Type 0} → b ≡ true → Y → Outcome b Y N
+outcome-yes b e y = record { yes = λ _. y; no = λ f. absurd (false≢true (sym f ∙ e)) }
+
+pub outcome-no : (b : Bool) {Y N : Type 0} → b ≡ false → N → Outcome b Y N
+outcome-no b e n = record { yes = λ f. absurd (false≢true (sym e ∙ f)); no = λ _. n }
+
+-- ---- one number more
+
+pub and-true : (a b : Bool) → a && b ≡ true → (a ≡ true) × (b ≡ true)
+and-true true b e = (refl, e)
+and-true false b e = absurd (false≢true e)
+
+pub and-end : (a : Bool) → a && true ≡ a
+and-end true = refl
+and-end false = refl
+
+and-assoc : (a b c : Bool) → a && (b && c) ≡ a && b && c
+and-assoc true b c = refl
+and-assoc false b c = refl
+
+areKeys-snoc : (ts : List ℕ) (v : ℕ) → areKeys (ts ++ v ∷ []) ≡ areKeys ts && isKey v
+areKeys-snoc [] v = and-end (isKey v)
+areKeys-snoc (t ∷ ts) v = ap (λ (b : Bool). isKey t && b) (areKeys-snoc ts v) ∙ and-assoc (isKey t) (areKeys ts) (isKey v)
+
+above-snoc : (d : ℕ) (ts : List ℕ) (v : ℕ) → above d (ts ++ v ∷ []) ≡ above d ts && ltb (lastOr d ts) v
+above-snoc d [] v = and-end (ltb d v)
+above-snoc d (t ∷ ts) v = ap (λ (b : Bool). ltb d t && b) (above-snoc t ts v) ∙ and-assoc (ltb d t) (above t ts) (ltb (lastOr t ts) v)
+
+lastOr-snoc : (d : ℕ) (ts : List ℕ) (v : ℕ) → lastOr d (ts ++ v ∷ []) ≡ v
+lastOr-snoc d [] v = refl
+lastOr-snoc d (t ∷ ts) v = lastOr-snoc t ts v
+
+pub keys-more : (ts : List ℕ) (v : ℕ) (k r : KeyList) → KeysOf ts k
+    → r .count ≡ min (k .count + 1) 9
+    → r .last ≡ v
+    → r .keys ≡ k .keys && isKey v
+    → r .rising ≡ k .rising && ltb (k .last) v
+    → (k .count < 8 → v ≤ 64 → r .key ≡ set (k .key) (k .count) v)
+    → KeysOf (ts ++ v ∷ []) r
+keys-more ts v k r p en el ek ei es =
+    let len : length (ts ++ v ∷ []) ≡ length ts + 1 = length-append ts (v ∷ []) in
+    record {
+      count = omega (arith, p .count);
+      last = el ∙ sym (lastOr-snoc 0 ts v);
+      keys = ek ∙ ap (λ (b : Bool). b && isKey v) (p .keys) ∙ sym (areKeys-snoc ts v);
+      rising = ei ∙ cc (p .rising, p .last, above-snoc 0 ts v);
+      held = λ a l.
+          let ab = and-true (areKeys ts) (isKey v) (sym (areKeys-snoc ts v) ∙ a) in
+          let v64 = leb-true v 64 (and-true (leb 1 v) (leb v 64) (ab .1) .1) in
+          let n : k .count ≡ length ts = omega (arith, p .count) in
+          let h : k .key ≡ packed ts .key = p .held (ab .0) (omega arith) in
+          es (omega arith) v64 ∙ cc (ap (λ (q : Keys). q .key) (packed-more ts v (omega arith)));
+    }
+
+-- ---- a list read number by number
+
+below-snoc : (ts : List ℕ) (v : ℕ) → Below ts → v < 2 ^ 32 → Below (ts ++ v ∷ [])
+below-snoc [] v b h = (h, tt)
+below-snoc (t ∷ ts) v b h = (b .0, below-snoc ts v (b .1) h)
+
+-- at least one number
+pub record Rest (l : List ℕ) : Type 0 where
+  pub first : ℕ
+  pub others : List ℕ
+  pub small : first < 2 ^ 32
+  pub below : Below others
+  pub text : l ≡ decimal first ++ further others
+
+-- the list up to `at` is read, and what is left holds a number, if all of `s` is a list
+pub record Listing (s : List ℕ) (k : KeyList) (at : ℕ) : Type 0 where
+  pub within : at ≤ length s
+  pub ok : k .ok ≡ true
+  pub read : List ℕ
+  pub below : Below read
+  pub text : s ≡ passed read ++ drop at s
+  pub kept : KeysOf read k
+  pub rest : (us : List ℕ) → Below us → s ≡ commas us → Rest (drop at s)
+
+pub listing-none : (s : List ℕ) (k : KeyList) → (length s ≡ 0 → ⊥) → k .ok ≡ true → KeysOf [] k → Listing s k 0
+unfolding passed commas
+listing-none s k ne ok p =
+    record { within = omega arith; ok = ok; read = []; below = tt; text = refl; kept = p; rest = rest }
+  where
+    rest : (us : List ℕ) → Below us → s ≡ commas us → Rest s
+    rest [] b e = absurd (ne (ap length e))
+    rest (u ∷ us) b e = record { first = u; others = us; small = b .0; below = b .1; text = e }
+
+module _ (s : List ℕ) (k : KeyList) (at : ℕ) (g : Listing s k at) where
+  here : Part 44 s at
+  here = part 44 s at (g .within)
+
+  pub list-within : at + length (upTo 44 (drop at s)) ≤ length s
+  list-within = here .within
+
+  pub list-refused : NumberOf (upTo 44 (drop at s)) Not → (us : List ℕ) → Below us → s ≡ commas us → ⊥
+  list-refused q us b e =
+      let t = g .rest us b e in
+      q (t .first) (t .small) (part-is 44 (drop at s) (decimal (t .first)) (further (t .others)) (t .text) (decimal-clean 44 (omega arith) (t .first)) (further-gap (t .others)))
+
+  module _ (v : ℕ) (k′ : KeyList) (small : v < 2 ^ 32) (q : upTo 44 (drop at s) ≡ decimal v) (ok′ : k′ .ok ≡ k .ok) (p : KeysOf (g .read ++ v ∷ []) k′) where
+    number : drop at s ≡ decimal v ++ drop (at + length (upTo 44 (drop at s))) s
+    number = here .text ∙ ap (λ (r : List ℕ). r ++ drop (at + length (upTo 44 (drop at s))) s) q
+
+    pub list-ends : length s ≤ at + length (upTo 44 (drop at s)) → (ts : List ℕ) × Below ts × (s ≡ commas ts) × KeysOf ts k′
+    list-ends h = (
+      g .read ++ v ∷ [],
+      below-snoc (g .read) v (g .below) small,
+      g .text ∙ ap (λ (r : List ℕ). passed (g .read) ++ r) (number ∙ ap (λ (r : List ℕ). decimal v ++ r) (drop-of-length-le s h) ∙ append-nil (decimal v)) ∙ passed-last (g .read) v,
+      p,
+    )
+
+    pub list-again : at + length (upTo 44 (drop at s)) < length s → Listing s k′ (at + length (upTo 44 (drop at s)) + 1)
+    unfolding further
+    list-again h =
+        record {
+          within = omega arith;
+          ok = ok′ ∙ g .ok;
+          read = g .read ++ v ∷ [];
+          below = below-snoc (g .read) v (g .below) small;
+          text = g .text ∙ ap (λ (r : List ℕ). passed (g .read) ++ r) (number ∙ ap (λ (r : List ℕ). decimal v ++ r) comma) ∙ passed-next (g .read) v left;
+          kept = p;
+          rest = λ us b e. let t = g .rest us b e in next (t .others) (t .below)
+              (same-number 44 (omega arith) v (t .first) (44 ∷ left) (further (t .others))
+              (ap (λ (r : List ℕ). decimal v ++ r) (sym comma) ∙ sym number ∙ t .text) refl (further-gap (t .others)) .1);
+        }
+      where
+        left : List ℕ
+        left = drop (at + length (upTo 44 (drop at s)) + 1) s
+
+        comma : drop (at + length (upTo 44 (drop at s))) s ≡ 44 ∷ left
+        comma =
+            let j = at + length (upTo 44 (drop at s)) in
+            let d : drop j s ≡ getD s j 0 ∷ drop (suc j) s = drop-cons s j 0 h in
+            let z : getD s j 0 ≡ 44 = rw d at (here .gap) in
+            d ∙ rw (z, add-one)
+
+        next : (os : List ℕ) → Below os → 44 ∷ left ≡ further os → Rest left
+        next [] b e = let z : _≡_ {A = ℕ} 0 1 = cc in absurd (omega arith)
+        next (o ∷ os) b e = record { first = o; others = os; small = b .0; below = b .1; text = ap (drop 1) e }
+
+pub empty-list : (s : List ℕ) → length s ≡ 0 → s ≡ commas []
+unfolding commas
+empty-list [] e = refl
+empty-list (x ∷ xs) e = absurd (omega arith)
+
+-- keys are at least 1, so a list of them that rises strictly also rises from 0
+pub rising-keys : (ts : List ℕ) → areKeys ts ≡ true → rising ts ≡ above 0 ts
+rising-keys [] e = refl
+rising-keys (t ∷ ts) e = rw (and-true (leb 1 t) (leb t 64) (and-true (isKey t) (areKeys ts) e .0) .0)
+
+-- ---- 32-bit numbers, as a test and as facts
+
+pub words-below : (l : List ℕ) → areWords l ≡ true → Below l
+words-below [] e = tt
+words-below (t ∷ ts) e = let p = and-true (ltb t (2 ^ 32)) (areWords ts) e in (ltb-true t (2 ^ 32) (p .0), words-below ts (p .1))
+
+pub below-words : (l : List ℕ) → Below l → areWords l ≡ true
+below-words [] b = refl
+below-words (t ∷ ts) b = rw (lt-ltb t (2 ^ 32) (b .0), below-words ts (b .1))

@@ -1,0 +1,231 @@
+-- Step lines: their grammar, their forms, and the answer to each form.
+-- Assumes nothing.
+use Prim.Native.Nat.{ℕ, _+_, _<_, _≤_, _^_}
+use mathlib.Core.Path.{_≡_, refl, sym, ap, _∙_}
+use mathlib.Core.Bool.{Bool, true, false, cond, false≢true}
+use mathlib.Core.List.{List, []}
+use native.Mathlib.Omega.{arith}
+use lib.Dec.{eqb}
+use lib.ListN.{length, getD}
+use Rattle.graph.specs.Steps.{admit, realise, move, finish, join, split, swap, fuse}
+use Rattle.text.specs.Text.{ascii}
+use Rattle.text.proofs.Splits.{Clean, cleanTest, clean-by}
+use Rattle.graph.specs.KeyLists.{isKey, areKeys}
+use Rattle.lines.specs.Forms.{StepForm, work, drain, stepText, stepNumbers, stepKeys}
+use Rattle.lines.specs.Answers.{form, other, stepLine, refusedStep, stepRead, stepAnswer, IsStep, StepRead, stepForm, stepOf}
+use Rattle.lines.specs.Reads.{Below, Spare, Literals, stepWord, stepLiterals, hasPlace, StepMade}
+use Rattle.lines.specs.declared.step.StepKind.{StepKind}
+use Rattle.lines.specs.declared.step.StepKind.the-variants.{Admit, Realise, Move, Finish, Join, Split, Swap, Fuse, Drain}
+use Rattle.lines.specs.declared.step.StepLine.{StepLine}
+use Rattle.lines.specs.declared.fields.Fields.{Fields}
+use Rattle.lines.proofs.KeyLists.{and-end, words-below, below-words}
+use Rattle.lines.proofs.Words.{Grammar, textIn, Never, kind-inj, text-inj}
+
+-- ---- the grammar
+
+pub step-clean : (k : StepKind) → Clean 32 (stepWord k)
+unfolding ascii cleanTest
+step-clean Admit = clean-by 32 (stepWord Admit) refl
+step-clean Realise = clean-by 32 (stepWord Realise) refl
+step-clean Move = clean-by 32 (stepWord Move) refl
+step-clean Finish = clean-by 32 (stepWord Finish) refl
+step-clean Join = clean-by 32 (stepWord Join) refl
+step-clean Split = clean-by 32 (stepWord Split) refl
+step-clean Swap = clean-by 32 (stepWord Swap) refl
+step-clean Fuse = clean-by 32 (stepWord Fuse) refl
+step-clean Drain = clean-by 32 (stepWord Drain) refl
+
+pub step-gaps : (k : StepKind) → Literals (stepLiterals k)
+unfolding ascii
+step-gaps Admit = tt
+step-gaps Realise = (refl, tt)
+step-gaps Move = (refl, tt)
+step-gaps Finish = (refl, tt)
+step-gaps Join = (refl, (refl, tt))
+step-gaps Split = (refl, (refl, (refl, tt)))
+step-gaps Swap = (refl, (refl, tt))
+step-gaps Fuse = (refl, (refl, tt))
+step-gaps Drain = tt
+
+-- the first two letters tell the words apart, and so does their sum
+kindAt : ℕ → StepKind
+kindAt b =
+    cond (eqb b 197) Admit
+    (cond (eqb b 215) Realise
+    (cond (eqb b 220) Move
+    (cond (eqb b 207) Finish
+    (cond (eqb b 217) Join
+    (cond (eqb b 227) Split
+    (cond (eqb b 234) Swap
+    (cond (eqb b 219) Fuse Drain)))))))
+
+letters : List ℕ → ℕ
+letters w = getD w 0 0 + getD w 1 0
+
+first-letters : (k : StepKind) → k ≡ kindAt (letters (stepWord k))
+unfolding kindAt letters ascii
+first-letters Admit = refl
+first-letters Realise = refl
+first-letters Move = refl
+first-letters Finish = refl
+first-letters Join = refl
+first-letters Split = refl
+first-letters Swap = refl
+first-letters Fuse = refl
+first-letters Drain = refl
+
+pub step-apart : (j k : StepKind) → stepWord j ≡ stepWord k → j ≡ k
+step-apart j k e = first-letters j ∙ ap (λ (w : List ℕ). kindAt (letters w)) e ∙ sym (first-letters k)
+
+unfoldable pub steps : Grammar StepKind
+steps =
+    record {
+      head = ascii "step=";
+      word = stepWord;
+      literals = stepLiterals;
+      listed = λ k. false;
+      clean = step-clean;
+      gaps = step-gaps;
+      apart = step-apart;
+    }
+
+pub no-step-word : (w : List ℕ) → (w ≡ ascii "admit" → ⊥) → (w ≡ ascii "realise" → ⊥) → (w ≡ ascii "move" → ⊥) → (w ≡ ascii "finish" → ⊥)
+    → (w ≡ ascii "join" → ⊥) → (w ≡ ascii "split" → ⊥) → (w ≡ ascii "swap" → ⊥) → (w ≡ ascii "fuse" → ⊥) → (w ≡ ascii "drain" → ⊥)
+    → (k : StepKind) → w ≡ stepWord k → ⊥
+no-step-word w a r m f j p s u d Admit = a
+no-step-word w a r m f j p s u d Realise = r
+no-step-word w a r m f j p s u d Move = m
+no-step-word w a r m f j p s u d Finish = f
+no-step-word w a r m f j p s u d Join = j
+no-step-word w a r m f j p s u d Split = p
+no-step-word w a r m f j p s u d Swap = s
+no-step-word w a r m f j p s u d Fuse = u
+no-step-word w a r m f j p s u d Drain = d
+
+-- ---- the forms
+
+step-text : (k : StepKind) (x y z : ℕ) (ts : List ℕ) → textIn steps k x y z ts ≡ stepText (stepForm k x y z)
+unfolding steps ascii
+step-text Admit x y z ts = refl
+step-text Realise x y z ts = refl
+step-text Move x y z ts = refl
+step-text Finish x y z ts = refl
+step-text Join x y z ts = refl
+step-text Split x y z ts = refl
+step-text Swap x y z ts = refl
+step-text Fuse x y z ts = refl
+step-text Drain x y z ts = refl
+
+step-fits : (k : StepKind) (x y z : ℕ) → x < 2 ^ 32 → y < 2 ^ 32 → z < 2 ^ 32 → Below (stepNumbers (stepForm k x y z))
+step-fits Admit x y z hx hy hz = tt
+step-fits Realise x y z hx hy hz = (hx, tt)
+step-fits Move x y z hx hy hz = (hx, tt)
+step-fits Finish x y z hx hy hz = (hx, tt)
+step-fits Join x y z hx hy hz = (hx, (hy, tt))
+step-fits Split x y z hx hy hz = (hx, (hy, (hz, tt)))
+step-fits Swap x y z hx hy hz = (hx, (hy, tt))
+step-fits Fuse x y z hx hy hz = (hx, (hy, tt))
+step-fits Drain x y z hx hy hz = tt
+
+-- a step is the form of its value
+pub step-back : (f : StepForm) → stepOf (stepRead f) ≡ f
+step-back (work admit) = refl
+step-back (work (realise at)) = refl
+step-back (work (move at)) = refl
+step-back (work (finish at)) = refl
+step-back (work (join at unit)) = refl
+step-back (work (split at unit after)) = refl
+step-back (work (swap at unit)) = refl
+step-back (work (fuse at unit)) = refl
+step-back drain = refl
+
+-- what a step's value leaves unused is zero
+record Parts (f : StepForm) : Type 0 where
+  spare : Spare (stepLiterals (stepRead f .kind)) (stepRead f .at) (stepRead f .unit) (stepRead f .after)
+  fits : Below (stepNumbers f) → (stepRead f .at < 2 ^ 32) × (stepRead f .unit < 2 ^ 32) × (stepRead f .after < 2 ^ 32)
+
+parts : (f : StepForm) → Parts f
+parts (work admit) = record { spare = (refl, refl, refl); fits = λ b. (omega arith, omega arith, omega arith) }
+parts (work (realise at)) = record { spare = (refl, refl, refl); fits = λ b. (b .0, omega arith, omega arith) }
+parts (work (move at)) = record { spare = (refl, refl, refl); fits = λ b. (b .0, omega arith, omega arith) }
+parts (work (finish at)) = record { spare = (refl, refl, refl); fits = λ b. (b .0, omega arith, omega arith) }
+parts (work (join at unit)) = record { spare = (refl, refl, refl); fits = λ b. (b .0, b .1 .0, omega arith) }
+parts (work (split at unit after)) = record { spare = (refl, refl, refl); fits = λ b. (b .0, b .1 .0, b .1 .1 .0) }
+parts (work (swap at unit)) = record { spare = (refl, refl, refl); fits = λ b. (b .0, b .1 .0, omega arith) }
+parts (work (fuse at unit)) = record { spare = (refl, refl, refl); fits = λ b. (b .0, b .1 .0, omega arith) }
+parts drain = record { spare = (refl, refl, refl); fits = λ b. (omega arith, omega arith, omega arith) }
+
+text-of : (f : StepForm) → stepText f ≡ textIn steps (stepRead f .kind) (stepRead f .at) (stepRead f .unit) (stepRead f .after) []
+text-of f = ap stepText (sym (step-back f)) ∙ sym (step-text (stepRead f .kind) (stepRead f .at) (stepRead f .unit) (stepRead f .after) [])
+
+-- a step line's text determines the step
+pub step-unique : (f g : StepForm) → stepText f ≡ stepText g → f ≡ g
+unfolding steps
+step-unique f g e =
+    let t = sym (text-of f) ∙ e ∙ text-of g in
+    let k : stepRead f .kind ≡ stepRead g .kind = kind-inj steps _ _ _ _ _ _ _ _ _ _ t in
+    let moved : textIn steps (stepRead g .kind) (stepRead f .at) (stepRead f .unit) (stepRead f .after) [] ≡ textIn steps (stepRead g .kind) (stepRead g .at) (stepRead g .unit) (stepRead g .after) [] = rw k at t in
+    let q = text-inj steps (stepRead g .kind) _ _ _ _ _ _ _ _ (rw k at (parts f .spare)) (parts g .spare) refl refl moved in
+    sym (step-back f) ∙ cc (q .0, q .1, q .2, k) ∙ step-back g
+
+-- ---- the answer
+
+-- no step where the line is no text of the grammar
+pub step-never : (line : List ℕ) (r : StepLine) → Never steps line → r ≡ refusedStep 10 → StepRead line r
+step-never line r nv e =
+    other (λ f i. let p = parts f .fits (words-below (stepNumbers f) (i .fits)) in nv (stepRead f .kind) (stepRead f .at) (stepRead f .unit) (stepRead f .after) [] (p .0) (p .1) (p .2) tt (i .same ∙ text-of f)) e
+
+pub step-long : (line : List ℕ) (r : StepLine) → 255 < length line → r ≡ refusedStep 10 → StepRead line r
+step-long line r h e = other (λ f i. omega (arith, i .short)) e
+
+pub step-is : (line : List ℕ) (k : StepKind) (x y z : ℕ) (ts : List ℕ) (r : StepLine) → length line ≤ 255 → x < 2 ^ 32 → y < 2 ^ 32 → z < 2 ^ 32
+    → line ≡ textIn steps k x y z ts → r ≡ stepAnswer (stepForm k x y z) → StepRead line r
+step-is line k x y z ts r short hx hy hz e a =
+    form (stepForm k x y z) (record { short = omega arith; fits = below-words (stepNumbers (stepForm k x y z)) (step-fits k x y z hx hy hz); same = e ∙ step-text k x y z ts }) a
+
+-- the form's own test
+tested : (f : StepForm) (a : Bool) → areKeys (stepKeys f) ≡ a → stepAnswer f ≡ cond a (stepRead f) (refusedStep 11)
+tested f true e = rw e
+tested f false e = rw e
+
+-- the step that these numbers are
+record Formed (k : StepKind) (x y z : ℕ) : Type 0 where
+  key : hasPlace k ≡ true → areKeys (stepKeys (stepForm k x y z)) ≡ isKey x
+  free : hasPlace k ≡ false → areKeys (stepKeys (stepForm k x y z)) ≡ true
+  value : stepRead (stepForm k x y z) ≡ stepLine k x y z
+
+formed : (k : StepKind) (x y z : ℕ) → Spare (stepLiterals k) x y z → Formed k x y z
+formed Admit x y z s = record { key = λ h. absurd (false≢true h); free = λ h. refl; value = rw (s .0, s .1, s .2) }
+formed Realise x y z s = record { key = λ h. and-end (isKey x); free = λ h. absurd (false≢true (sym h)); value = rw (s .0, s .1) }
+formed Move x y z s = record { key = λ h. and-end (isKey x); free = λ h. absurd (false≢true (sym h)); value = rw (s .0, s .1) }
+formed Finish x y z s = record { key = λ h. and-end (isKey x); free = λ h. absurd (false≢true (sym h)); value = rw (s .0, s .1) }
+formed Join x y z s = record { key = λ h. and-end (isKey x); free = λ h. absurd (false≢true (sym h)); value = rw (s .0) }
+formed Split x y z s = record { key = λ h. and-end (isKey x); free = λ h. absurd (false≢true (sym h)); value = refl }
+formed Swap x y z s = record { key = λ h. and-end (isKey x); free = λ h. absurd (false≢true (sym h)); value = rw (s .0) }
+formed Fuse x y z s = record { key = λ h. and-end (isKey x); free = λ h. absurd (false≢true (sym h)); value = rw (s .0) }
+formed Drain x y z s = record { key = λ h. absurd (false≢true h); free = λ h. refl; value = rw (s .0, s .1, s .2) }
+
+module _ (k : StepKind) (f : Fields) (r : StepLine) where
+  pub made-place : (b : Bool) → hasPlace k ≡ true → isKey (f .x) ≡ b → r ≡ cond b (stepLine k (f .x) (f .y) (f .z)) (refusedStep 11) → StepMade k f r
+  made-place b h e q s =
+      let m = formed k (f .x) (f .y) (f .z) s in
+      q ∙ sym (tested (stepForm k (f .x) (f .y) (f .z)) b (m .key h ∙ e) ∙ ap (λ (l : StepLine). cond b l (refusedStep 11)) (m .value))
+
+  pub made-free : hasPlace k ≡ false → r ≡ stepLine k (f .x) (f .y) (f .z) → StepMade k f r
+  made-free h q s =
+      let m = formed k (f .x) (f .y) (f .z) s in
+      q ∙ sym (tested (stepForm k (f .x) (f .y) (f .z)) true (m .free h) ∙ m .value)
+
+-- ---- what an answer with refusal 0 holds
+
+-- the line is the text of the step that the answer holds, and its key is one
+pub step-served : (line : List ℕ) (r : StepLine) → StepRead line r → r .refusal ≡ 0 → IsStep line (stepOf r) × (areKeys (stepKeys (stepOf r)) ≡ true)
+step-served line r (form f i e) z = go (areKeys (stepKeys f)) refl
+  where
+    go : (a : Bool) → areKeys (stepKeys f) ≡ a → IsStep line (stepOf r) × (areKeys (stepKeys (stepOf r)) ≡ true)
+    go false ea = let a : stepAnswer f ≡ refusedStep 11 = tested f false ea in absurd (omega (arith, sym z ∙ ap (λ (q : StepLine). q .refusal) (e ∙ a)))
+    go true ea =
+        let a : stepAnswer f ≡ stepRead f = tested f true ea in
+        let o : stepOf r ≡ f = ap stepOf (e ∙ a) ∙ step-back f in
+        rw o (i, ea)
+step-served line r (other n e) z = absurd (omega (arith, ap (λ (q : StepLine). q .refusal) (sym e) ∙ z))

@@ -1,0 +1,81 @@
+-- The forms of call, step and claim lines, with any numbers and any targets, and their texts as document 01 prints them.
+-- Assumes nothing.
+use Prim.Native.Nat.{ℕ}
+use Prim.Native.String.{String}
+use mathlib.Core.List.{List, [], _∷_, _++_}
+use Rattle.graph.specs.Calls.{Call, add, map, link, unlink, sum, top, pick, near, numbersOf, operandsOf, targetsOf}
+use Rattle.graph.specs.Steps.{Step, admit, realise, move, finish, join, split, swap, fuse}
+use Rattle.text.specs.Text.{ascii, decimal, commas}
+
+-- a literal, a number, and the rest of the line
+abbrev pub field : String → ℕ → List ℕ → List ℕ
+field literal v rest = ascii literal ++ (decimal v ++ rest)
+
+abbrev pub targets : List ℕ → List ℕ
+targets to = ascii " to=" ++ commas to
+
+-- ---- calls
+
+abbrev pub callText : Call → List ℕ
+callText (add value) = field "call=add value=" value []
+callText (map a b to) = field "call=map a=" a (field " b=" b (targets to))
+callText (link key to) = field "call=link key=" key (targets to)
+callText (unlink key to) = field "call=unlink key=" key (targets to)
+callText (sum start to) = field "call=sum start=" start (targets to)
+callText (top start to) = field "call=top start=" start (targets to)
+callText (pick start to) = field "call=pick start=" start (targets to)
+callText (near key start to) = field "call=near key=" key (field " start=" start (targets to))
+
+-- every number of the line
+abbrev pub callNumbers : Call → List ℕ
+callNumbers f = numbersOf f ++ (operandsOf f ++ targetsOf f)
+
+-- ---- steps
+
+-- a work step, or the shorthand
+pub data StepForm : Type 0 where
+  work : Step → StepForm
+  drain : StepForm
+
+abbrev pub stepText : StepForm → List ℕ
+stepText (work admit) = ascii "step=admit"
+stepText (work (realise at)) = field "step=realise at=" at []
+stepText (work (move at)) = field "step=move at=" at []
+stepText (work (finish at)) = field "step=finish at=" at []
+stepText (work (join at unit)) = field "step=join at=" at (field " unit=" unit [])
+stepText (work (split at unit after)) = field "step=split at=" at (field " unit=" unit (field " after=" after []))
+stepText (work (swap at unit)) = field "step=swap at=" at (field " unit=" unit [])
+stepText (work (fuse at unit)) = field "step=fuse at=" at (field " unit=" unit [])
+stepText drain = ascii "step=drain"
+
+-- every number of the line
+abbrev pub stepNumbers : StepForm → List ℕ
+stepNumbers (work admit) = []
+stepNumbers (work (realise at)) = at ∷ []
+stepNumbers (work (move at)) = at ∷ []
+stepNumbers (work (finish at)) = at ∷ []
+stepNumbers (work (join at unit)) = at ∷ unit ∷ []
+stepNumbers (work (split at unit after)) = at ∷ unit ∷ after ∷ []
+stepNumbers (work (swap at unit)) = at ∷ unit ∷ []
+stepNumbers (work (fuse at unit)) = at ∷ unit ∷ []
+stepNumbers drain = []
+
+-- the number in `at=`
+abbrev pub stepKeys : StepForm → List ℕ
+stepKeys (work admit) = []
+stepKeys (work (realise at)) = at ∷ []
+stepKeys (work (move at)) = at ∷ []
+stepKeys (work (finish at)) = at ∷ []
+stepKeys (work (join at unit)) = at ∷ []
+stepKeys (work (split at unit after)) = at ∷ []
+stepKeys (work (swap at unit)) = at ∷ []
+stepKeys (work (fuse at unit)) = at ∷ []
+stepKeys drain = []
+
+-- ---- claims: the form is the label
+
+abbrev pub claimText : ℕ → List ℕ
+claimText label = field "claim=" label []
+
+abbrev pub claimNumbers : ℕ → List ℕ
+claimNumbers label = label ∷ []

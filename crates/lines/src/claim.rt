@@ -1,0 +1,35 @@
+// Claim lines.
+use crate::fields::fields1;
+use text::cut::part_to;
+ghost use mathlib.Core.Path.{_≡_};
+ghost use Rattle.lines.specs.Answers.{lineAt, ClaimRead};
+
+// A claim line as it was read: the refusal, or 0, and the label.
+pub struct ClaimLine {
+    pub refusal: u8,
+    pub label: u32,
+}
+
+// The claim line at a place of a frame buffer.
+pub fn read_claim(frame: &[u8], at: usize) -> ClaimLine
+    ensures { λ r. ⌜ ClaimRead (lineAt (now (frame .entry)) at) r ⌝ }
+{
+    let line = part_to(frame, at, b'\n');
+    if 255 < line.len() {
+        return ClaimLine {
+            refusal: 10,
+            label: 0,
+        };
+    }
+    let fields = fields1(line, 0, b"claim=", false);
+    if !fields.ok {
+        return ClaimLine {
+            refusal: 10,
+            label: 0,
+        };
+    }
+    ClaimLine {
+        refusal: 0,
+        label: fields.x,
+    }
+}

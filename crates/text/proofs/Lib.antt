@@ -1,0 +1,4 @@
+pub mod Decimals
+pub mod Splits
+pub mod Lists
+pub mod Pasting

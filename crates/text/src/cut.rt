@@ -1,0 +1,46 @@
+// Parts of a slice, handed back uncopied.
+ghost use mathlib.Core.Path.{_≡_};
+ghost use Prim.Native.Nat.{_≤_};
+ghost use lib.ListN.{length, drop};
+ghost use Rattle.text.specs.Text.{upTo};
+ghost use Rattle.text.specs.Reads.{PlaceOf};
+
+// The part of `s` from `at` to the next byte `stop`, or to the end. A place past the end gives the empty part.
+pub fn part_to(s: &[u8], at: usize, stop: u8) -> &[u8]
+    ensures { λ r. ⌜ now r ≡ upTo stop (drop at (now (s .entry))) ⌝ }
+{
+    if s.len() < at {
+        return &s[..0];
+    }
+    let t = &s[at..];
+    let mut k = 0;
+    while k < t.len() {
+        if t[k] == stop {
+            return &t[..k];
+        }
+        k += 1;
+    }
+    t
+}
+
+// A place in a slice, where there is one.
+pub enum Place {
+    At(usize),
+    Missing,
+}
+
+// Where `literal` ends, if it stands in `s` at `at`.
+pub fn past(s: &[u8], at: usize, literal: &[u8]) -> Place
+    requires { ⌜ at ≤ length (now s) ⌝ }
+    ensures { λ r. ⌜ PlaceOf (now (s .entry)) at (now (literal .entry)) r ⌝ }
+{
+    let n = literal.len();
+    if s.len() - at < n {
+        return Place::Missing;
+    }
+    if check::same(&s[at..at + n], literal) {
+        Place::At(at + n)
+    } else {
+        Place::Missing
+    }
+}
