@@ -1,0 +1,25 @@
+//! The second implementation of the deferred body graph.
+//!
+//! Written from document 01 alone (and, for the image, from the layout tables), it
+//! shares nothing with the product: sessions here are nested lists, with no image
+//! underneath. The product is compared with it, answer by answer and byte by byte.
+
+pub mod host;
+pub mod image;
+pub mod line;
+pub mod meaning;
+pub mod print;
+pub mod program;
+pub mod random;
+pub mod refusal;
+pub mod session;
+mod steps;
+
+pub use image::{image, session_of, valid, IMAGE_BYTES};
+pub use line::{line_at, read_call, Call};
+pub use meaning::meaning;
+pub use refusal::Refusal;
+pub use session::{Act, Node, Operation, Outcome, Session, Station, Unit, Waiting};
+
+/// The panel's eight counts, in the order of [`line::Kind`].
+pub type Tally = [u32; 8];

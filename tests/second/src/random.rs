@@ -1,0 +1,164 @@
+//! Seeded random numbers and lines, for tests that compare.
+
+use crate::session::Session;
+
+/// SplitMix64: small, seeded, and the same on every machine.
+#[derive(Clone, Debug)]
+pub struct Random {
+    state: u64,
+}
+
+impl Random {
+    pub fn new(seed: u64) -> Random {
+        Random { state: seed }
+    }
+
+    pub fn next(&mut self) -> u64 {
+        self.state = self.state.wrapping_add(0x9E37_79B9_7F4A_7C15);
+        let mut bits = self.state;
+        bits = (bits ^ (bits >> 30)).wrapping_mul(0xBF58_476D_1CE4_E5B9);
+        bits = (bits ^ (bits >> 27)).wrapping_mul(0x94D0_49BB_1331_11EB);
+        bits ^ (bits >> 31)
+    }
+
+    /// A number below `bound`, which isn't 0.
+    pub fn below(&mut self, bound: u64) -> u64 {
+        self.next() % bound
+    }
+
+    /// True once in `times`.
+    pub fn once_in(&mut self, times: u64) -> bool {
+        self.below(times) == 0
+    }
+
+    pub fn choose<T: Copy>(&mut self, members: &[T]) -> T {
+        members[self.below(members.len() as u64) as usize]
+    }
+}
+
+/// A line for this session: mostly one that it can serve, sometimes one that meets a
+/// limit, now and then a damaged one.
+pub fn line(random: &mut Random, session: &Session) -> Vec<u8> {
+    let mut line = match random.below(20) {
+        0..=6 => call_line(random, session),
+        7..=16 => step_line(random, session),
+        17 | 18 => claim_line(random, session),
+        _ => String::from("step=drain"),
+    }
+    .into_bytes();
+    if random.once_in(25) {
+        damage(random, &mut line);
+    }
+    line
+}
+
+/// A call line of a good form.
+pub fn call_line(random: &mut Random, session: &Session) -> String {
+    let few_nodes = session.stations.len() < 3;
+    if random.once_in(if few_nodes { 3 } else { 12 }) {
+        return format!("call=add value={}", value(random));
+    }
+    let to = target_text(random, session);
+    match random.below(9) {
+        0..=2 => format!("call=map a={} b={} to={to}", value(random), value(random)),
+        3 => format!("call=link key={} to={to}", key(random, session)),
+        4 => format!("call=unlink key={} to={to}", key(random, session)),
+        5 => format!("call=sum start={} to={to}", value(random)),
+        6 => format!("call=top start={} to={to}", value(random)),
+        7 => format!("call=pick start={} to={to}", value(random)),
+        _ => {
+            let key = key(random, session);
+            format!("call=near key={key} start={} to={to}", value(random))
+        }
+    }
+}
+
+/// A line of one step, of a good form; no drain.
+pub fn step_line(random: &mut Random, session: &Session) -> String {
+    let at = busy_key(random, session);
+    let unit = 1 + random.below(3) - u64::from(random.once_in(40));
+    match random.below(12) {
+        0..=2 => String::from("step=admit"),
+        3 | 4 => format!("step=realise at={at}"),
+        5 => format!("step=move at={at}"),
+        6 | 7 => format!("step=finish at={at}"),
+        8 => format!("step=join at={at} unit={unit}"),
+        9 => format!("step=split at={at} unit={unit} after={}", random.below(4)),
+        10 => format!("step=swap at={at} unit={unit}"),
+        _ => format!("step=fuse at={at} unit={unit}"),
+    }
+}
+
+/// A claim line, mostly of a label that was given.
+pub fn claim_line(random: &mut Random, session: &Session) -> String {
+    let results: Vec<u16> = session.results.keys().copied().collect();
+    if results.is_empty() || random.once_in(4) {
+        format!("claim={}", random.below(u64::from(session.last) + 3))
+    } else {
+        format!("claim={}", random.choose(&results))
+    }
+}
+
+/// Changes, removes, doubles or appends some bytes.
+pub fn damage(random: &mut Random, bytes: &mut Vec<u8>) {
+    for _ in 0..=random.below(3) {
+        let place = random.below(bytes.len() as u64 + 1) as usize;
+        let byte = random.choose(b"0123456789,= \r\0abcklnprt\xff");
+        match random.below(5) {
+            0 if place < bytes.len() => bytes[place] = byte,
+            1 if place < bytes.len() => {
+                bytes.remove(place);
+            }
+            2 => bytes.truncate(place),
+            3 if random.once_in(4) => bytes.resize(250 + random.below(12) as usize, byte),
+            _ => bytes.insert(place, byte),
+        }
+    }
+}
+
+/// Small values are as likely as large ones, so that maps are sometimes the identity.
+fn value(random: &mut Random) -> u32 {
+    match random.below(6) {
+        0 => random.below(3) as u32,
+        1 => u32::MAX - random.below(3) as u32,
+        2 => 65_536,
+        3 => random.next() as u32,
+        _ => random.below(100) as u32,
+    }
+}
+
+/// A key that has a node, mostly.
+fn key(random: &mut Random, session: &Session) -> u64 {
+    match random.below(30) {
+        0 => random.choose(&[0, 65, 66, 256, 4_294_967_295]),
+        1 | 2 => 1 + random.below(64),
+        _ => 1 + random.below(session.stations.len() as u64 + 2),
+    }
+}
+
+/// The key of a station with a unit, mostly, since steps elsewhere are refused.
+fn busy_key(random: &mut Random, session: &Session) -> u64 {
+    let busy = session.stations.iter().filter(|s| !s.streamlet.is_empty());
+    let busy: Vec<u64> = busy.map(|s| u64::from(s.node.key)).collect();
+    if busy.is_empty() || random.once_in(12) {
+        key(random, session)
+    } else {
+        random.choose(&busy)
+    }
+}
+
+/// Rising keys most of the time, and often the same two, so that maps can fuse.
+fn target_text(random: &mut Random, session: &Session) -> String {
+    if random.once_in(3) {
+        return String::from(random.choose(&["", "1", "1,2", "1,2", "2,3"]));
+    }
+    let most = if random.once_in(8) { 10 } else { 5 };
+    let count = random.below(most);
+    let mut keys: Vec<u64> = (0..count).map(|_| key(random, session)).collect();
+    if !random.once_in(12) {
+        keys.sort_unstable();
+        keys.dedup();
+    }
+    let keys: Vec<String> = keys.iter().map(u64::to_string).collect();
+    keys.join(",")
+}
