@@ -1,6 +1,6 @@
 //! Seeded random numbers and lines, for tests that compare.
 
-use crate::session::Session;
+use crate::session::{Session, Station};
 
 /// SplitMix64: small, seeded, and the same on every machine.
 #[derive(Clone, Debug)]
@@ -39,11 +39,15 @@ impl Random {
 /// A line for this session: mostly one that it can serve, sometimes one that meets a
 /// limit, now and then a damaged one.
 pub fn line(random: &mut Random, session: &Session) -> Vec<u8> {
-    let mut line = match random.below(20) {
-        0..=6 => call_line(random, session),
-        7..=16 => step_line(random, session),
-        17 | 18 => claim_line(random, session),
-        _ => String::from("step=drain"),
+    // Without claims most calls would be 14 after a while, but 14 has to be met too.
+    let claims = if session.results.len() > 48 { 14 } else { 2 };
+    let mut line = match random.below(40 + claims) {
+        0..=12 => call_line(random, session),
+        13..=27 => useful_step_line(random, session),
+        28..=38 => step_line(random, session),
+        39 if random.once_in(3) => String::from("step=drain"),
+        39 => String::from("step=admit"),
+        _ => claim_line(random, session),
     }
     .into_bytes();
     if random.once_in(25) {
@@ -55,7 +59,7 @@ pub fn line(random: &mut Random, session: &Session) -> Vec<u8> {
 /// A call line of a good form.
 pub fn call_line(random: &mut Random, session: &Session) -> String {
     let few_nodes = session.stations.len() < 3;
-    if random.once_in(if few_nodes { 3 } else { 12 }) {
+    if random.once_in(if few_nodes { 3 } else { 20 }) {
         return format!("call=add value={}", value(random));
     }
     let to = target_text(random, session);
@@ -70,6 +74,42 @@ pub fn call_line(random: &mut Random, session: &Session) -> String {
             let key = key(random, session);
             format!("call=near key={key} start={} to={to}", value(random))
         }
+    }
+}
+
+/// A line of one step that may well be allowed.
+pub fn useful_step_line(random: &mut Random, session: &Session) -> String {
+    let busy = session.stations.iter().filter(|s| !s.streamlet.is_empty());
+    let busy: Vec<&Station> = busy.collect();
+    let waiting = !session.top.is_empty();
+    if busy.is_empty() || (waiting && random.once_in(4)) {
+        return String::from("step=admit");
+    }
+    let station = random.choose(&busy);
+    let at = station.node.key;
+    let unit = 1 + random.below(station.streamlet.len() as u64);
+    match random.below(10) {
+        0 => format!("step=join at={at} unit={unit}"),
+        1 => format!(
+            "step=split at={at} unit={unit} after={}",
+            1 + random.below(2)
+        ),
+        2 | 3 => format!("step=swap at={at} unit={unit}"),
+        4 => format!("step=fuse at={at} unit={unit}"),
+        _ => format!("step={} at={at}", head_step(station)),
+    }
+}
+
+/// A step that the head unit of this streamlet allows.
+fn head_step(station: &Station) -> &'static str {
+    let is_last = station.node.key == 1;
+    let head = &station.streamlet[0];
+    if head.iter().any(|op| op.targets.contains(&station.node.key)) {
+        "realise"
+    } else if is_last || head.iter().any(|op| op.targets.is_empty()) {
+        "finish"
+    } else {
+        "move"
     }
 }
 
