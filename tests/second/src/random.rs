@@ -36,67 +36,119 @@ impl Random {
     }
 }
 
-/// A line for this session: mostly one that it can serve, sometimes one that meets a
-/// limit, now and then a damaged one.
-pub fn line(random: &mut Random, session: &Session) -> Vec<u8> {
-    // Without claims most calls would be 14 after a while, but 14 has to be met too.
-    let claims = if session.results.len() > 48 { 14 } else { 2 };
-    let mut line = match random.below(40 + claims) {
-        0..=12 => call_line(random, session),
-        13..=27 => useful_step_line(random, session),
-        28..=38 => step_line(random, session),
-        39 if random.once_in(3) => String::from("step=drain"),
-        39 => String::from("step=admit"),
-        _ => claim_line(random, session),
-    }
-    .into_bytes();
-    if random.once_in(25) {
-        damage(random, &mut line);
-    }
-    line
+/// Writes random lines, with habits of its own: some scribes add many nodes, some
+/// claim seldom, so that different scripts meet different limits.
+#[derive(Clone, Debug)]
+pub struct Scribe {
+    pub random: Random,
+    /// One call in so many is an add.
+    adds: u64,
+    /// Out of about 40 lines so many are claims, more where results have piled up.
+    claims: u64,
 }
 
-/// A call line of a good form.
-pub fn call_line(random: &mut Random, session: &Session) -> String {
-    let few_nodes = session.stations.len() < 3;
-    if random.once_in(if few_nodes { 3 } else { 20 }) {
-        return format!("call=add value={}", value(random));
-    }
-    let to = target_text(random, session);
-    match random.below(9) {
-        0..=2 => format!("call=map a={} b={} to={to}", value(random), value(random)),
-        3 => format!("call=link key={} to={to}", key(random, session)),
-        4 => format!("call=unlink key={} to={to}", key(random, session)),
-        5 => format!("call=sum start={} to={to}", value(random)),
-        6 => format!("call=top start={} to={to}", value(random)),
-        7 => format!("call=pick start={} to={to}", value(random)),
-        _ => {
-            let key = key(random, session);
-            format!("call=near key={key} start={} to={to}", value(random))
+impl Scribe {
+    pub fn new(seed: u64) -> Scribe {
+        let mut random = Random::new(seed);
+        Scribe {
+            adds: random.choose(&[2, 6, 12, 40]),
+            claims: random.choose(&[1, 3, 9]),
+            random,
         }
     }
-}
 
-/// A line of one step that may well be allowed.
-pub fn useful_step_line(random: &mut Random, session: &Session) -> String {
-    let busy = session.stations.iter().filter(|s| !s.streamlet.is_empty());
-    let busy: Vec<&Station> = busy.collect();
-    let waiting = !session.top.is_empty();
-    if busy.is_empty() || (waiting && random.once_in(4)) {
-        return String::from("step=admit");
+    /// A line for this session: mostly one that it can serve, sometimes one that
+    /// meets a limit, now and then a damaged one.
+    pub fn line(&mut self, session: &Session) -> Vec<u8> {
+        let many = session.results.len() > 40;
+        let claims = if many { 4 * self.claims } else { self.claims };
+        let mut line = match self.random.below(40 + claims) {
+            0..=12 => self.call_line(session),
+            13..=27 => self.useful_step_line(session),
+            28..=38 => self.step_line(session),
+            39 if self.random.once_in(3) => String::from("step=drain"),
+            39 => String::from("step=admit"),
+            _ => self.claim_line(session),
+        }
+        .into_bytes();
+        if self.random.once_in(25) {
+            damage(&mut self.random, &mut line);
+        }
+        line
     }
-    let station = random.choose(&busy);
-    let at = station.node.key;
-    let unit = 1 + random.below(station.streamlet.len() as u64);
-    match random.below(10) {
-        0 => format!("step=join at={at} unit={unit}"),
-        1 => format!(
-            "step=split at={at} unit={unit} after={}",
-            1 + random.below(2)
-        ),
-        2 | 3 => format!("step=swap at={at} unit={unit}"),
-        4 => format!("step=fuse at={at} unit={unit}"),
-        _ => format!("step={} at={at}", head_step(station)),
+
+    /// A call line of a good form.
+    pub fn call_line(&mut self, session: &Session) -> String {
+        let random = &mut self.random;
+        let few_nodes = session.stations.len() < 3;
+        if random.once_in(if few_nodes { 3 } else { self.adds }) {
+            return format!("call=add value={}", value(random));
+        }
+        let to = target_text(random, session);
+        match random.below(9) {
+            0..=2 => format!("call=map a={} b={} to={to}", value(random), value(random)),
+            3 => format!("call=link key={} to={to}", key(random, session)),
+            4 => format!("call=unlink key={} to={to}", key(random, session)),
+            5 => format!("call=sum start={} to={to}", value(random)),
+            6 => format!("call=top start={} to={to}", value(random)),
+            7 => format!("call=pick start={} to={to}", value(random)),
+            _ => {
+                let key = key(random, session);
+                format!("call=near key={key} start={} to={to}", value(random))
+            }
+        }
+    }
+
+    /// A line of one step that may well be allowed.
+    pub fn useful_step_line(&mut self, session: &Session) -> String {
+        let random = &mut self.random;
+        let busy = session.stations.iter().filter(|s| !s.streamlet.is_empty());
+        let busy: Vec<&Station> = busy.collect();
+        let waiting = !session.top.is_empty();
+        if busy.is_empty() || (waiting && random.once_in(4)) {
+            return String::from("step=admit");
+        }
+        let station = random.choose(&busy);
+        let at = station.node.key;
+        let unit = 1 + random.below(station.streamlet.len() as u64);
+        match random.below(10) {
+            0 => format!("step=join at={at} unit={unit}"),
+            1 => format!(
+                "step=split at={at} unit={unit} after={}",
+                1 + random.below(2)
+            ),
+            2 | 3 => format!("step=swap at={at} unit={unit}"),
+            4 => format!("step=fuse at={at} unit={unit}"),
+            _ => format!("step={} at={at}", head_step(station)),
+        }
+    }
+
+    /// A line of one step, of a good form; no drain.
+    pub fn step_line(&mut self, session: &Session) -> String {
+        let random = &mut self.random;
+        let at = busy_key(random, session);
+        let unit = 1 + random.below(3) - u64::from(random.once_in(40));
+        match random.below(12) {
+            0..=2 => String::from("step=admit"),
+            3 | 4 => format!("step=realise at={at}"),
+            5 => format!("step=move at={at}"),
+            6 | 7 => format!("step=finish at={at}"),
+            8 => format!("step=join at={at} unit={unit}"),
+            9 => format!("step=split at={at} unit={unit} after={}", random.below(4)),
+            10 => format!("step=swap at={at} unit={unit}"),
+            _ => format!("step=fuse at={at} unit={unit}"),
+        }
+    }
+
+    /// A claim line, mostly of a label that was given.
+    pub fn claim_line(&mut self, session: &Session) -> String {
+        let random = &mut self.random;
+        let results: Vec<u16> = session.results.keys().copied().collect();
+        if results.is_empty() || random.once_in(4) {
+            format!("claim={}", random.below(u64::from(session.last) + 3))
+        } else {
+            format!("claim={}", random.choose(&results))
+        }
     }
 }
 
@@ -110,32 +162,6 @@ fn head_step(station: &Station) -> &'static str {
         "finish"
     } else {
         "move"
-    }
-}
-
-/// A line of one step, of a good form; no drain.
-pub fn step_line(random: &mut Random, session: &Session) -> String {
-    let at = busy_key(random, session);
-    let unit = 1 + random.below(3) - u64::from(random.once_in(40));
-    match random.below(12) {
-        0..=2 => String::from("step=admit"),
-        3 | 4 => format!("step=realise at={at}"),
-        5 => format!("step=move at={at}"),
-        6 | 7 => format!("step=finish at={at}"),
-        8 => format!("step=join at={at} unit={unit}"),
-        9 => format!("step=split at={at} unit={unit} after={}", random.below(4)),
-        10 => format!("step=swap at={at} unit={unit}"),
-        _ => format!("step=fuse at={at} unit={unit}"),
-    }
-}
-
-/// A claim line, mostly of a label that was given.
-pub fn claim_line(random: &mut Random, session: &Session) -> String {
-    let results: Vec<u16> = session.results.keys().copied().collect();
-    if results.is_empty() || random.once_in(4) {
-        format!("claim={}", random.below(u64::from(session.last) + 3))
-    } else {
-        format!("claim={}", random.choose(&results))
     }
 }
 

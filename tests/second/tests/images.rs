@@ -5,7 +5,7 @@ mod common;
 use std::collections::VecDeque;
 
 use common::Desk;
-use second::random::{damage, line, Random};
+use second::random::{damage, Scribe};
 use second::{host, image, session_of, valid, IMAGE_BYTES};
 use second::{Act, Operation, Outcome, Session, Station, Waiting};
 
@@ -103,10 +103,10 @@ fn fresh_images() {
 #[test]
 fn sessions_come_back_from_their_images() {
     for seed in 0..100 {
-        let mut random = Random::new(seed);
+        let mut scribe = Scribe::new(seed);
         let mut desk = Desk::new();
         for _ in 0..200 {
-            let line = line(&mut random, &desk.session);
+            let line = scribe.line(&desk.session);
             desk.serve(&line);
             assert!(valid(&desk.session));
             assert_eq!(
@@ -121,13 +121,13 @@ fn sessions_come_back_from_their_images() {
 #[test]
 fn hosts_serve_images_as_sessions() {
     for seed in 100..150 {
-        let mut random = Random::new(seed);
+        let mut scribe = Scribe::new(seed);
         let mut desk = Desk::new();
         let mut bytes = image(&desk.session);
         let mut tally = [0; 8];
         for _ in 0..200 {
             let mut frame = b"before\n".to_vec();
-            let line = line(&mut random, &desk.session);
+            let line = scribe.line(&desk.session);
             frame.extend_from_slice(&line);
             frame.extend_from_slice(b"\nafter");
             let mut out = [0; 64];
@@ -147,22 +147,26 @@ fn hosts_serve_images_as_sessions() {
 /// Whatever passes is the image of a valid session, and steps keep it so.
 #[test]
 fn damaged_images() {
-    let mut random = Random::new(7);
+    let mut scribe = Scribe::new(7);
     let mut passed = 0;
     for _ in 0..20_000 {
         let mut bytes = rich();
-        for _ in 0..=random.below(2) {
-            let table = random.choose(&[(0, 8), (NODE, 48), (OPERATION, 176), (RESULT, 56)]);
-            let place = table.0 + random.below(table.1) as usize;
-            bytes[place] = random.choose(&[0, 1, 2, 3, 4, 8, 9, 12, 64, 65, 66, 255]);
+        for _ in 0..=scribe.random.below(2) {
+            let table = scribe
+                .random
+                .choose(&[(0, 8), (NODE, 48), (OPERATION, 176), (RESULT, 56)]);
+            let place = table.0 + scribe.random.below(table.1) as usize;
+            bytes[place] = scribe
+                .random
+                .choose(&[0, 1, 2, 3, 4, 8, 9, 12, 64, 65, 66, 255]);
         }
         if let Some(mut session) = session_of(&bytes) {
             passed += 1;
             assert!(valid(&session));
             assert_eq!(image(&session), bytes);
-            let mut text = line(&mut random, &session);
-            if random.once_in(2) {
-                damage(&mut random, &mut text);
+            let mut text = scribe.line(&session);
+            if scribe.random.once_in(2) {
+                damage(&mut scribe.random, &mut text);
             }
             session.call(&text);
             session.step(&text, &mut [0; 8]);

@@ -3,7 +3,7 @@
 mod common;
 
 use common::Desk;
-use second::random::{call_line, line, useful_step_line, Random};
+use second::random::Scribe;
 use second::{meaning, read_call, Call, Node, Outcome, Session, Tally};
 
 /// A call takes at most one admit, 63 moves, 8 realises and one finish.
@@ -86,10 +86,10 @@ fn a_step_is_allowed(session: &Session) -> bool {
 #[test]
 fn random_lists_of_lines() {
     for seed in 0..300 {
-        let mut random = Random::new(seed);
+        let mut scribe = Scribe::new(seed);
         let mut run = Run::new();
         for place in 0..400 {
-            let line = line(&mut random, &run.desk.session);
+            let line = scribe.line(&run.desk.session);
             run.serve(&line);
             if place % 50 == 0 {
                 run.check();
@@ -107,14 +107,14 @@ fn random_lists_of_lines() {
 #[test]
 fn schedules_end_by_themselves() {
     for seed in 1000..1100 {
-        let mut random = Random::new(seed);
+        let mut scribe = Scribe::new(seed);
         let mut run = Run::new();
-        for _ in 0..random.below(60) + 1 {
-            let line = call_line(&mut random, &run.desk.session);
+        for _ in 0..scribe.random.below(60) + 1 {
+            let line = scribe.call_line(&run.desk.session);
             run.serve(line.as_bytes());
         }
         while run.desk.session.pending() > 0 {
-            let line = useful_step_line(&mut random, &run.desk.session);
+            let line = scribe.useful_step_line(&run.desk.session);
             run.serve(line.as_bytes());
         }
         run.check();
@@ -135,16 +135,16 @@ fn a_call_can_take_73_steps() {
 #[test]
 fn schedules_agree() {
     for seed in 2000..2100 {
-        let mut random = Random::new(seed);
+        let mut scribe = Scribe::new(seed);
         let mut one = Desk::new();
         for _ in 0..40 {
-            let line = call_line(&mut random, &one.session);
+            let line = scribe.call_line(&one.session);
             one.line(&line);
         }
         let mut other = one.clone();
         one.all(&["step=drain"]);
         for _ in 0..200 {
-            let line = useful_step_line(&mut random, &other.session);
+            let line = scribe.useful_step_line(&other.session);
             other.line(&line);
         }
         other.all(&["step=drain"]);
@@ -156,10 +156,10 @@ fn schedules_agree() {
 #[test]
 fn refusals_change_nothing() {
     for seed in 3000..3050 {
-        let mut random = Random::new(seed);
+        let mut scribe = Scribe::new(seed);
         let mut desk = Desk::new();
         for _ in 0..300 {
-            let line = line(&mut random, &desk.session);
+            let line = scribe.line(&desk.session);
             let before = desk.clone();
             if desk.serve(&line) < 0 {
                 assert_eq!(desk.session, before.session);
@@ -174,13 +174,13 @@ fn refusals_change_nothing() {
 fn random_lines_meet_every_refusal() {
     let mut met = std::collections::BTreeSet::new();
     for seed in 0..40 {
-        let mut random = Random::new(seed);
+        let mut scribe = Scribe::new(seed);
         let mut desk = Desk::new();
         for _ in 0..3000 {
-            let line = line(&mut random, &desk.session);
+            let line = scribe.line(&desk.session);
             met.insert(-desk.serve(&line).min(0));
         }
     }
     let all = [0, 10, 11, 12, 13, 14, 20, 21, 22, 30, 31, 32];
-    assert!(met.into_iter().eq(all));
+    assert_eq!(met.into_iter().collect::<Vec<i64>>(), all);
 }

@@ -5,7 +5,7 @@
 
 use std::io::{self, BufWriter, Write};
 
-use second::random::{line, Random};
+use second::random::Scribe;
 use second::Session;
 
 fn main() -> io::Result<()> {
@@ -14,11 +14,11 @@ fn main() -> io::Result<()> {
         eprintln!("usage: scribe SEED LINES");
         std::process::exit(2);
     };
-    let mut random = Random::new(seed);
+    let mut scribe = Scribe::new(seed);
     let mut session = Session::open();
     let mut output = BufWriter::new(io::stdout().lock());
     for _ in 0..lines {
-        let line = line(&mut random, &session);
+        let line = scribe.line(&session);
         second::program::dispatch(&mut session, &line, &mut [0; 8], &mut [0; 64]);
         output.write_all(&line)?;
         output.write_all(b"\n")?;
