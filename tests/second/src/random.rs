@@ -13,7 +13,7 @@ impl Random {
         Random { state: seed }
     }
 
-    pub fn next(&mut self) -> u64 {
+    pub fn bits(&mut self) -> u64 {
         self.state = self.state.wrapping_add(0x9E37_79B9_7F4A_7C15);
         let mut bits = self.state;
         bits = (bits ^ (bits >> 30)).wrapping_mul(0xBF58_476D_1CE4_E5B9);
@@ -23,7 +23,7 @@ impl Random {
 
     /// A number below `bound`, which isn't 0.
     pub fn below(&mut self, bound: u64) -> u64 {
-        self.next() % bound
+        self.bits() % bound
     }
 
     /// True once in `times`.
@@ -188,7 +188,7 @@ fn value(random: &mut Random) -> u32 {
         0 => random.below(3) as u32,
         1 => u32::MAX - random.below(3) as u32,
         2 => 65_536,
-        3 => random.next() as u32,
+        3 => random.bits() as u32,
         _ => random.below(100) as u32,
     }
 }
