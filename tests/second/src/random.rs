@@ -2,6 +2,8 @@
 
 use crate::session::{Session, Station};
 
+pub mod session;
+
 /// SplitMix64: small, seeded, and the same on every machine.
 #[derive(Clone, Debug)]
 pub struct Random {
@@ -45,6 +47,8 @@ pub struct Scribe {
     adds: u64,
     /// Out of about 40 lines so many are claims, more where results have piled up.
     claims: u64,
+    /// One visiting call in so many is a link to the same two nodes, until lists are full.
+    links: u64,
 }
 
 impl Scribe {
@@ -53,6 +57,7 @@ impl Scribe {
         Scribe {
             adds: random.choose(&[2, 6, 12, 40]),
             claims: random.choose(&[1, 3, 9]),
+            links: random.choose(&[2, 20, 100]),
             random,
         }
     }
@@ -83,6 +88,9 @@ impl Scribe {
         let few_nodes = session.stations.len() < 3;
         if random.once_in(if few_nodes { 3 } else { self.adds }) {
             return format!("call=add value={}", value(random));
+        }
+        if random.once_in(self.links) {
+            return format!("call=link key={} to=1,2", 1 + random.below(3));
         }
         let to = target_text(random, session);
         match random.below(9) {

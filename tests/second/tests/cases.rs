@@ -124,6 +124,24 @@ fn p_a_ninth_link() {
 }
 
 #[test]
+fn a_link_counts_every_full_list() {
+    let mut lines = vec!["call=add value=5", "call=add value=7", "call=add value=9"];
+    lines.extend(["call=link key=2 to=1,3"; 8]);
+    lines.push("call=link key=4 to=1,2,3");
+    let desk = drained(&lines);
+    assert_eq!(desk.result(12), (2, &[][..]));
+    assert_eq!(desk.node(2).links, [4]);
+}
+
+#[test]
+fn near_adds_a_value_once() {
+    let link = "call=link key=9 to=1";
+    let near = "call=near key=9 start=1 to=1,2";
+    let desk = drained(&["call=add value=5", "call=add value=7", link, link, near]);
+    assert_eq!(desk.result(5), (6, &[][..]));
+}
+
+#[test]
 fn p_link_twice_and_unlink() {
     let link = "call=link key=2 to=1";
     let desk = drained(&["call=add value=5", link, link, "call=unlink key=2 to=1"]);

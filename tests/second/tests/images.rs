@@ -5,7 +5,7 @@ mod common;
 use std::collections::VecDeque;
 
 use common::Desk;
-use second::random::{damage, Scribe};
+use second::random::{session, Scribe};
 use second::{host, image, session_of, valid, IMAGE_BYTES};
 use second::{Act, Operation, Outcome, Session, Station, Waiting};
 
@@ -144,38 +144,62 @@ fn hosts_serve_images_as_sessions() {
     }
 }
 
-/// Whatever passes is the image of a valid session, and steps keep it so.
+/// Serves a random line and a drain, which must keep the session valid.
+fn stays_valid(scribe: &mut Scribe, mut session: Session) {
+    let line = scribe.line(&session);
+    session.call(&line);
+    session.step(&line, &mut [0; 8]);
+    session.claim(&line, &mut [0; 64]);
+    assert!(valid(&session));
+    assert_eq!(session.step(b"step=drain", &mut [0; 8]), 0);
+    assert!(valid(&session) && session.pending() == 0);
+}
+
+/// Sessions that no run need lead to.
+#[test]
+fn sessions_without_a_history() {
+    let mut scribe = Scribe::new(6);
+    for _ in 0..3000 {
+        let session = session::any(&mut scribe.random);
+        assert!(valid(&session));
+        assert_eq!(session_of(&image(&session)).as_ref(), Some(&session));
+        stays_valid(&mut scribe, session);
+    }
+}
+
+/// Whatever passes is the image of a valid session.
 #[test]
 fn damaged_images() {
     let mut scribe = Scribe::new(7);
     let mut passed = 0;
     for _ in 0..20_000 {
-        let mut bytes = rich();
-        for _ in 0..=scribe.random.below(2) {
-            let table = scribe
-                .random
-                .choose(&[(0, 8), (NODE, 48), (OPERATION, 176), (RESULT, 56)]);
-            let place = table.0 + scribe.random.below(table.1) as usize;
-            bytes[place] = scribe
-                .random
-                .choose(&[0, 1, 2, 3, 4, 8, 9, 12, 64, 65, 66, 255]);
-        }
-        if let Some(mut session) = session_of(&bytes) {
+        let mut bytes = image(&session::any(&mut scribe.random));
+        session::damage_image(&mut scribe.random, &mut bytes);
+        if let Some(session) = session_of(&bytes) {
             passed += 1;
-            assert!(valid(&session));
             assert_eq!(image(&session), bytes);
-            let mut text = scribe.line(&session);
-            if scribe.random.once_in(2) {
-                damage(&mut scribe.random, &mut text);
-            }
-            session.call(&text);
-            session.step(&text, &mut [0; 8]);
-            assert!(valid(&session));
-            assert_eq!(session.step(b"step=drain", &mut [0; 8]), 0);
-            assert!(valid(&session) && session.pending() == 0);
+            stays_valid(&mut scribe, session);
         }
     }
-    assert!(passed > 1000, "{passed}");
+    assert!((2_000..18_000).contains(&passed), "{passed}");
+}
+
+/// Any bytes at all are answered, and hardly any are an image.
+#[test]
+fn random_bytes() {
+    let mut scribe = Scribe::new(8);
+    for _ in 0..2000 {
+        let mut bytes = [0; IMAGE_BYTES];
+        let dense = scribe.random.once_in(2);
+        for byte in &mut bytes {
+            if dense || scribe.random.once_in(20) {
+                *byte = scribe.random.bits() as u8;
+            }
+        }
+        bytes[0] = 1;
+        assert_eq!(session_of(&bytes), None);
+        assert_eq!(host::call(&mut bytes, b"call=add value=1", 0), -2);
+    }
 }
 
 /// Changes bytes of the rich image, which must then be refused.
