@@ -61,7 +61,7 @@ pub fn session_of(bytes: &[u8]) -> Option<Session> {
 pub fn valid(session: &Session) -> bool {
     valid_nodes(session)
         && session.adds() <= usize::from(KEYS)
-        && operations(session).all(valid_operation)
+        && session.operations().all(valid_operation)
         && units_hold_operations(session)
         && session
             .results
@@ -77,15 +77,6 @@ fn valid_nodes(session: &Session) -> bool {
         .map(|node| usize::from(node.key))
         .eq(1..=session.stations.len());
     keys_fall && nodes().all(|node| node.links.len() <= LIST && all_keys(&node.links))
-}
-
-fn operations(session: &Session) -> impl Iterator<Item = &Operation> {
-    let streamlets = session.stations.iter().flat_map(|s| s.streamlet.iter());
-    let waiting = session.top.iter().filter_map(|waiting| match waiting {
-        Waiting::Visit(operation) => Some(operation),
-        Waiting::Add { .. } => None,
-    });
-    streamlets.flatten().chain(waiting)
 }
 
 fn valid_operation(operation: &Operation) -> bool {

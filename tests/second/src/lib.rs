@@ -21,5 +21,5 @@ pub use meaning::meaning;
 pub use refusal::Refusal;
 pub use session::{Act, Node, Operation, Outcome, Session, Station, Unit, Waiting};
 
-/// The panel's eight counts, in the order of [`line::Kind`].
+/// The panel's eight counts: admit, realise, move, finish, join, split, swap, fuse.
 pub type Tally = [u32; 8];

@@ -1,6 +1,6 @@
 //! Seeded random numbers and lines, for tests that compare.
 
-use crate::session::{Session, Station};
+use crate::session::{Act, Session, Station, Waiting};
 
 pub mod session;
 
@@ -92,6 +92,11 @@ impl Scribe {
         if random.once_in(self.links) {
             return format!("call=link key={} to=1,2", 1 + random.below(3));
         }
+        let last = last_targets(session).filter(|_| random.once_in(3));
+        if let Some(targets) = last {
+            let (a, b, to) = (value(random), value(random), text(targets));
+            return format!("call=map a={a} b={b} to={to}");
+        }
         let to = target_text(random, session);
         match random.below(9) {
             0..=2 => format!("call=map a={} b={} to={to}", value(random), value(random)),
@@ -113,20 +118,25 @@ impl Scribe {
         let busy = session.stations.iter().filter(|s| !s.streamlet.is_empty());
         let busy: Vec<&Station> = busy.collect();
         let waiting = !session.top.is_empty();
-        if busy.is_empty() || (waiting && random.once_in(4)) {
+        if busy.is_empty() || (waiting && random.once_in(2)) {
             return String::from("step=admit");
         }
         let station = random.choose(&busy);
         let at = station.node.key;
-        let unit = 1 + random.below(station.streamlet.len() as u64);
+        let any = random.below(station.streamlet.len() as u64) as usize;
         match random.below(10) {
-            0 => format!("step=join at={at} unit={unit}"),
-            1 => format!(
-                "step=split at={at} unit={unit} after={}",
-                1 + random.below(2)
-            ),
-            2 | 3 => format!("step=swap at={at} unit={unit}"),
-            4 => format!("step=fuse at={at} unit={unit}"),
+            0 => format!("step=join at={at} unit={}", any + 1),
+            1 | 2 => {
+                let long = |unit: usize| station.streamlet[unit].len() > 1;
+                let unit = find(station, long).unwrap_or(any);
+                let after = 1 + random.below(2);
+                format!("step=split at={at} unit={} after={after}", unit + 1)
+            }
+            3 => format!("step=swap at={at} unit={}", any + 1),
+            4 | 5 => {
+                let unit = find(station, |unit| is_fusible(station, unit)).unwrap_or(any);
+                format!("step=fuse at={at} unit={}", unit + 1)
+            }
             _ => format!("step={} at={at}", head_step(station)),
         }
     }
@@ -158,6 +168,32 @@ impl Scribe {
             format!("claim={}", random.choose(&results))
         }
     }
+}
+
+/// The targets of the call that was accepted last, if it stands where the next joins it.
+fn last_targets(session: &Session) -> Option<&[u8]> {
+    match session.top.back() {
+        Some(Waiting::Visit(operation)) => Some(&operation.targets),
+        Some(Waiting::Add { .. }) => None,
+        None => {
+            let unit = session.stations.first()?.streamlet.back()?;
+            unit.last().map(|operation| operation.targets.as_slice())
+        }
+    }
+}
+
+/// The first unit of a streamlet for which a test holds.
+fn find(station: &Station, test: impl Fn(usize) -> bool) -> Option<usize> {
+    (0..station.streamlet.len()).find(|&unit| test(unit))
+}
+
+/// Whether this unit and the next are maps of one target list, whatever their labels.
+fn is_fusible(station: &Station, unit: usize) -> bool {
+    let map = |unit: usize| match station.streamlet.get(unit)?.as_slice() {
+        [operation] if matches!(operation.act, Act::Map { .. }) => Some(&operation.targets),
+        _ => None,
+    };
+    map(unit).is_some() && map(unit) == map(unit + 1)
 }
 
 /// A step that the head unit of this streamlet allows.
@@ -221,10 +257,11 @@ fn busy_key(random: &mut Random, session: &Session) -> u64 {
     }
 }
 
-/// Rising keys most of the time, and often the same two, so that maps can fuse.
+/// Rising keys most of the time, and often the same few, so that maps can fuse; key 64
+/// is mostly missing, so that fused maps leave something.
 fn target_text(random: &mut Random, session: &Session) -> String {
     if random.once_in(3) {
-        return String::from(random.choose(&["", "1", "1,2", "1,2", "2,3"]));
+        return String::from(random.choose(&["", "1", "1,2", "1,2", "2,3", "1,64", "1,64"]));
     }
     let most = if random.once_in(8) { 10 } else { 5 };
     let count = random.below(most);
@@ -233,6 +270,10 @@ fn target_text(random: &mut Random, session: &Session) -> String {
         keys.sort_unstable();
         keys.dedup();
     }
-    let keys: Vec<String> = keys.iter().map(u64::to_string).collect();
+    text(&keys)
+}
+
+fn text<T: ToString>(keys: &[T]) -> String {
+    let keys: Vec<String> = keys.iter().map(T::to_string).collect();
     keys.join(",")
 }

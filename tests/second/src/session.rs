@@ -131,8 +131,8 @@ impl Session {
         Ok(length)
     }
 
-    /// Every operation, those of the streamlets before those of the top stream.
-    fn operations(&self) -> impl Iterator<Item = &Operation> {
+    /// Every operation, in the streamlets and in the top stream.
+    pub fn operations(&self) -> impl Iterator<Item = &Operation> {
         let streamlets = self.stations.iter().flat_map(|s| s.streamlet.iter());
         let waiting = self.top.iter().filter_map(Waiting::operation);
         streamlets.flatten().chain(waiting)
