@@ -1,8 +1,9 @@
 //! The second implementation of the deferred body graph.
 //!
-//! Written from document 01 alone (and, for the image, from the layout tables), it
-//! shares nothing with the product: sessions here are nested lists, with no image
-//! underneath. The product is compared with it, answer by answer and byte by byte.
+//! Written from document 01, with the design's decided points where document 01
+//! leaves a choice and its layout tables for the image, it shares no code with the
+//! product: sessions here are nested lists, with no image underneath. The product is
+//! compared with it, answer by answer and byte by byte.
 
 pub mod host;
 pub mod image;
