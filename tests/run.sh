@@ -1,0 +1,95 @@
+#!/bin/sh
+# Builds the second implementation, runs its tests, and compares a program with it:
+#
+#   tests/run.sh [PROGRAM]
+#
+# PROGRAM is to behave like cgrun; without it the second implementation is compared
+# with the scripts. The last line is 'N passed, M failed'.
+#
+# SEEDS random scripts (20) of SCRIPT_LINES lines (2000) come after those in tests/scripts.
+
+tests=$(cd "$(dirname "$0")" && pwd) || exit 1
+second=$tests/second/target/release/second
+scribe=$tests/second/target/release/scribe
+work=$(mktemp -d) || exit 1
+trap 'rm -rf "$work"' EXIT
+
+passed=0
+failed=0
+pass() { passed=$((passed + 1)); }
+fail() { failed=$((failed + 1)); echo "FAILED: $*"; }
+end() {
+    echo "$passed passed, $failed failed"
+    [ "$failed" -eq 0 ]
+    exit
+}
+
+unset CARGO_TARGET_DIR
+in_second() { (cd "$tests/second" && cargo "$@" --offline --quiet); }
+
+if ! in_second build --release; then
+    fail "the second implementation's build"
+    end
+fi
+
+# cargo prints one 'test result' for each file of tests, and stops after the first
+# file with a failure unless told otherwise.
+if in_second test --no-fail-fast >"$work/unit" 2>&1; then
+    unit_status=0
+else
+    unit_status=1
+    cat "$work/unit"
+fi
+unit_passed=$(awk '/^test result/ { sum += $4 } END { print sum + 0 }' "$work/unit")
+unit_failed=$(awk '/^test result/ { sum += $6 } END { print sum + 0 }' "$work/unit")
+passed=$((passed + unit_passed))
+failed=$((failed + unit_failed))
+if [ "$unit_status" -ne 0 ] && [ "$unit_failed" -eq 0 ]; then
+    fail "the second implementation's tests do not build"
+fi
+echo "second implementation: $unit_passed tests passed, $unit_failed failed"
+
+program=${1:-$second}
+case $program in
+    */*) ;;
+    *) program=$(command -v "$program" || echo "./$program") ;;
+esac
+if [ ! -x "$program" ]; then
+    fail "no program $program"
+    end
+fi
+
+# compare NAME INPUT EXPECTED: the program's output for the input, byte for byte.
+compare() {
+    if ! "$program" <"$2" >"$work/got"; then
+        fail "$1: the program ends with an error"
+    elif cmp -s "$3" "$work/got"; then
+        pass
+    else
+        fail "$1"
+        diff "$3" "$work/got" | head -n 5
+    fi
+}
+
+for input in "$tests"/scripts/*.in; do
+    name=${input%.in}
+    compare "$(basename "$name")" "$input" "$name.out"
+done
+
+for generator in "$tests"/scripts/*.gen; do
+    sh "$generator" in >"$work/in"
+    sh "$generator" out >"$work/out"
+    compare "$(basename "$generator" .gen)" "$work/in" "$work/out"
+done
+
+if [ "$program" != "$second" ]; then
+    seed=1
+    while [ "$seed" -le "${SEEDS:-20}" ]; do
+        "$scribe" "$seed" "${SCRIPT_LINES:-2000}" >"$work/in"
+        "$second" <"$work/in" >"$work/out"
+        compare "scribe $seed ${SCRIPT_LINES:-2000}" "$work/in" "$work/out"
+        seed=$((seed + 1))
+    done
+fi
+
+end

@@ -1,0 +1,63 @@
+//! The host's functions, on lent bytes: what `cg_open` and the others answer, and
+//! what they leave.
+//!
+//! Each takes the session out of the image, serves it, and writes its image back.
+//! Every refusal comes before that writing.
+
+use crate::image::{image, session_of, IMAGE_BYTES};
+use crate::line::line_at;
+use crate::refusal::Refusal;
+use crate::session::Session;
+use crate::Tally;
+
+/// Writes the fresh session's image.
+pub fn open(bytes: &mut [u8]) -> i64 {
+    if bytes.len() != IMAGE_BYTES {
+        return Refusal::ImageLength.answer();
+    }
+    bytes.copy_from_slice(&image(&Session::open()));
+    0
+}
+
+/// Serves the call line at a place of the frame.
+pub fn call(bytes: &mut [u8], frame: &[u8], at: usize) -> i64 {
+    serve(bytes, |session| session.call(line_at(frame, at)))
+}
+
+/// Serves the step line at a place of the frame.
+pub fn step(bytes: &mut [u8], frame: &[u8], at: usize, tally: &mut Tally) -> i64 {
+    serve(bytes, |session| session.step(line_at(frame, at), tally))
+}
+
+/// Serves the claim line at a place of the frame.
+pub fn claim(bytes: &mut [u8], frame: &[u8], at: usize, out: &mut [u8]) -> i64 {
+    serve(bytes, |session| session.claim(line_at(frame, at), out))
+}
+
+/// Writes the listing.
+pub fn list(bytes: &[u8], out: &mut [u8]) -> i64 {
+    match session_in(bytes) {
+        Ok(session) => session.list(out),
+        Err(refusal) => refusal.answer(),
+    }
+}
+
+fn session_in(bytes: &[u8]) -> Result<Session, Refusal> {
+    if bytes.len() != IMAGE_BYTES {
+        return Err(Refusal::ImageLength);
+    }
+    session_of(bytes).ok_or(Refusal::NotASession)
+}
+
+fn serve(bytes: &mut [u8], entry: impl FnOnce(&mut Session) -> i64) -> i64 {
+    match session_in(bytes) {
+        Ok(mut session) => {
+            let answer = entry(&mut session);
+            if answer >= 0 {
+                bytes.copy_from_slice(&image(&session));
+            }
+            answer
+        }
+        Err(refusal) => refusal.answer(),
+    }
+}

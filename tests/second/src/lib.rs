@@ -1,0 +1,26 @@
+//! The second implementation of the deferred body graph.
+//!
+//! Written from document 01, with the design's decided points where document 01
+//! leaves a choice and its layout tables for the image, it shares no code with the
+//! product: sessions here are nested lists, with no image underneath. The product is
+//! compared with it, answer by answer and byte by byte.
+
+pub mod host;
+pub mod image;
+pub mod line;
+pub mod meaning;
+pub mod print;
+pub mod program;
+pub mod random;
+pub mod refusal;
+pub mod session;
+mod steps;
+
+pub use image::{image, session_of, valid, IMAGE_BYTES};
+pub use line::{line_at, read_call, Call};
+pub use meaning::meaning;
+pub use refusal::Refusal;
+pub use session::{Act, Node, Operation, Outcome, Session, Station, Unit, Waiting};
+
+/// The panel's eight counts: admit, realise, move, finish, join, split, swap, fuse.
+pub type Tally = [u32; 8];

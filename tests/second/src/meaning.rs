@@ -1,0 +1,85 @@
+//! One-at-a-time processing: what calls mean, without streams, steps or sessions.
+//!
+//! It shares no code with the steps, so that the two can be compared: the numbers
+//! here are wide and are brought back by a remainder, as document 01 words it.
+
+use crate::line::{Call, LIST};
+use crate::session::{Act, Node, Outcome};
+
+const MODULUS: u64 = 4_294_967_296;
+
+fn modulo(number: u64) -> u32 {
+    (number % MODULUS) as u32
+}
+
+/// Processes the calls in order, from no nodes. Gives the nodes, front first, and
+/// the result of each call: that of label 1 comes first.
+pub fn meaning(calls: &[Call]) -> (Vec<Node>, Vec<Outcome>) {
+    let mut nodes = Vec::new();
+    let results = calls.iter().map(|call| process(&mut nodes, call)).collect();
+    (nodes, results)
+}
+
+fn process(nodes: &mut Vec<Node>, call: &Call) -> Outcome {
+    match call {
+        Call::Add { value } => {
+            let key = nodes.len() as u8 + 1;
+            let node = Node {
+                key,
+                value: *value,
+                links: Vec::new(),
+            };
+            nodes.insert(0, node);
+            Outcome {
+                value: u32::from(key),
+                left: Vec::new(),
+            }
+        }
+        Call::Visit { act, targets } => {
+            let struck = |node: &&mut Node| targets.contains(&node.key);
+            let value = visit_all(act, nodes.iter_mut().filter(struck));
+            let unmet = |key: &&u8| nodes.iter().all(|node| node.key != **key);
+            let left = targets.iter().filter(unmet).copied().collect();
+            Outcome { value, left }
+        }
+    }
+}
+
+/// Visits the targets from front to back, and gives the result.
+fn visit_all<'a>(act: &Act, targets: impl Iterator<Item = &'a mut Node>) -> u32 {
+    match *act {
+        Act::Map { a, b } => {
+            for node in targets {
+                node.value = modulo(u64::from(a) * u64::from(node.value) + u64::from(b));
+            }
+            0
+        }
+        Act::Link { key, .. } => {
+            let mut full = 0;
+            for node in targets {
+                if node.links.len() == LIST {
+                    full += 1;
+                } else {
+                    node.links.push(key);
+                }
+            }
+            full
+        }
+        Act::Unlink { key } => {
+            for node in targets {
+                let kept = node.links.iter().filter(|&&link| link != key);
+                node.links = kept.copied().collect();
+            }
+            0
+        }
+        Act::Sum { held } => sum(held, targets),
+        Act::Near { key, held } => sum(held, targets.filter(|node| node.links.contains(&key))),
+        Act::Top { held } => targets.map(|node| node.value).fold(held, u32::max),
+        Act::Pick { held } => targets.map(|node| node.value).last().unwrap_or(held),
+    }
+}
+
+fn sum<'a>(start: u32, nodes: impl Iterator<Item = &'a mut Node>) -> u32 {
+    let values: u64 = nodes.map(|node| u64::from(node.value)).sum();
+    modulo(u64::from(start) + values)
+}

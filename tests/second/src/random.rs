@@ -1,0 +1,279 @@
+//! Seeded random numbers and lines, for tests that compare.
+
+use crate::session::{Act, Session, Station, Waiting};
+
+pub mod session;
+
+/// SplitMix64: small, seeded, and the same on every machine.
+#[derive(Clone, Debug)]
+pub struct Random {
+    state: u64,
+}
+
+impl Random {
+    pub fn new(seed: u64) -> Random {
+        Random { state: seed }
+    }
+
+    pub fn bits(&mut self) -> u64 {
+        self.state = self.state.wrapping_add(0x9E37_79B9_7F4A_7C15);
+        let mut bits = self.state;
+        bits = (bits ^ (bits >> 30)).wrapping_mul(0xBF58_476D_1CE4_E5B9);
+        bits = (bits ^ (bits >> 27)).wrapping_mul(0x94D0_49BB_1331_11EB);
+        bits ^ (bits >> 31)
+    }
+
+    /// A number below `bound`, which isn't 0.
+    pub fn below(&mut self, bound: u64) -> u64 {
+        self.bits() % bound
+    }
+
+    /// True once in `times`.
+    pub fn once_in(&mut self, times: u64) -> bool {
+        self.below(times) == 0
+    }
+
+    pub fn choose<T: Copy>(&mut self, members: &[T]) -> T {
+        members[self.below(members.len() as u64) as usize]
+    }
+}
+
+/// Writes random lines, with habits of its own: some scribes add many nodes, some
+/// claim seldom, so that different scripts meet different limits.
+#[derive(Clone, Debug)]
+pub struct Scribe {
+    pub random: Random,
+    /// One call in so many is an add.
+    adds: u64,
+    /// Out of about 40 lines so many are claims, more where results have piled up.
+    claims: u64,
+    /// One visiting call in so many is a link to the same two nodes, until lists are full.
+    links: u64,
+}
+
+impl Scribe {
+    pub fn new(seed: u64) -> Scribe {
+        let mut random = Random::new(seed);
+        Scribe {
+            adds: random.choose(&[2, 6, 12, 40]),
+            claims: random.choose(&[1, 3, 9]),
+            links: random.choose(&[2, 20, 100]),
+            random,
+        }
+    }
+
+    /// A line for this session: mostly one that it can serve, sometimes one that
+    /// meets a limit, now and then a damaged one.
+    pub fn line(&mut self, session: &Session) -> Vec<u8> {
+        let many = session.results.len() > 40;
+        let claims = if many { 4 * self.claims } else { self.claims };
+        let mut line = match self.random.below(40 + claims) {
+            0..=12 => self.call_line(session),
+            13..=27 => self.useful_step_line(session),
+            28..=38 => self.step_line(session),
+            39 if self.random.once_in(3) => String::from("step=drain"),
+            39 => String::from("step=admit"),
+            _ => self.claim_line(session),
+        }
+        .into_bytes();
+        if self.random.once_in(25) {
+            damage(&mut self.random, &mut line);
+        }
+        line
+    }
+
+    /// A call line of a good form.
+    pub fn call_line(&mut self, session: &Session) -> String {
+        let random = &mut self.random;
+        let few_nodes = session.stations.len() < 3;
+        if random.once_in(if few_nodes { 3 } else { self.adds }) {
+            return format!("call=add value={}", value(random));
+        }
+        if random.once_in(self.links) {
+            return format!("call=link key={} to=1,2", 1 + random.below(3));
+        }
+        let last = last_targets(session).filter(|_| random.once_in(3));
+        if let Some(targets) = last {
+            let (a, b, to) = (value(random), value(random), text(targets));
+            return format!("call=map a={a} b={b} to={to}");
+        }
+        let to = target_text(random, session);
+        match random.below(9) {
+            0..=2 => format!("call=map a={} b={} to={to}", value(random), value(random)),
+            3 => format!("call=link key={} to={to}", key(random, session)),
+            4 => format!("call=unlink key={} to={to}", key(random, session)),
+            5 => format!("call=sum start={} to={to}", value(random)),
+            6 => format!("call=top start={} to={to}", value(random)),
+            7 => format!("call=pick start={} to={to}", value(random)),
+            _ => {
+                let key = key(random, session);
+                format!("call=near key={key} start={} to={to}", value(random))
+            }
+        }
+    }
+
+    /// A line of one step that may well be allowed.
+    pub fn useful_step_line(&mut self, session: &Session) -> String {
+        let random = &mut self.random;
+        let busy = session.stations.iter().filter(|s| !s.streamlet.is_empty());
+        let busy: Vec<&Station> = busy.collect();
+        let waiting = !session.top.is_empty();
+        if busy.is_empty() || (waiting && random.once_in(2)) {
+            return String::from("step=admit");
+        }
+        let station = random.choose(&busy);
+        let at = station.node.key;
+        let any = random.below(station.streamlet.len() as u64) as usize;
+        match random.below(10) {
+            0 => format!("step=join at={at} unit={}", any + 1),
+            1 | 2 => {
+                let long = |unit: usize| station.streamlet[unit].len() > 1;
+                let unit = find(station, long).unwrap_or(any);
+                let after = 1 + random.below(2);
+                format!("step=split at={at} unit={} after={after}", unit + 1)
+            }
+            3 => format!("step=swap at={at} unit={}", any + 1),
+            4 | 5 => {
+                let unit = find(station, |unit| is_fusible(station, unit)).unwrap_or(any);
+                format!("step=fuse at={at} unit={}", unit + 1)
+            }
+            _ => format!("step={} at={at}", head_step(station)),
+        }
+    }
+
+    /// A line of one step, of a good form; no drain.
+    pub fn step_line(&mut self, session: &Session) -> String {
+        let random = &mut self.random;
+        let at = busy_key(random, session);
+        let unit = 1 + random.below(3) - u64::from(random.once_in(40));
+        match random.below(12) {
+            0..=2 => String::from("step=admit"),
+            3 | 4 => format!("step=realise at={at}"),
+            5 => format!("step=move at={at}"),
+            6 | 7 => format!("step=finish at={at}"),
+            8 => format!("step=join at={at} unit={unit}"),
+            9 => format!("step=split at={at} unit={unit} after={}", random.below(4)),
+            10 => format!("step=swap at={at} unit={unit}"),
+            _ => format!("step=fuse at={at} unit={unit}"),
+        }
+    }
+
+    /// A claim line, mostly of a label that was given.
+    pub fn claim_line(&mut self, session: &Session) -> String {
+        let random = &mut self.random;
+        let results: Vec<u16> = session.results.keys().copied().collect();
+        if results.is_empty() || random.once_in(4) {
+            format!("claim={}", random.below(u64::from(session.last) + 3))
+        } else {
+            format!("claim={}", random.choose(&results))
+        }
+    }
+}
+
+/// The targets of the call that was accepted last, if it stands where the next joins it.
+fn last_targets(session: &Session) -> Option<&[u8]> {
+    match session.top.back() {
+        Some(Waiting::Visit(operation)) => Some(&operation.targets),
+        Some(Waiting::Add { .. }) => None,
+        None => {
+            let unit = session.stations.first()?.streamlet.back()?;
+            unit.last().map(|operation| operation.targets.as_slice())
+        }
+    }
+}
+
+/// The first unit of a streamlet for which a test holds.
+fn find(station: &Station, test: impl Fn(usize) -> bool) -> Option<usize> {
+    (0..station.streamlet.len()).find(|&unit| test(unit))
+}
+
+/// Whether this unit and the next are maps of one target list, whatever their labels.
+fn is_fusible(station: &Station, unit: usize) -> bool {
+    let map = |unit: usize| match station.streamlet.get(unit)?.as_slice() {
+        [operation] if matches!(operation.act, Act::Map { .. }) => Some(&operation.targets),
+        _ => None,
+    };
+    map(unit).is_some() && map(unit) == map(unit + 1)
+}
+
+/// A step that the head unit of this streamlet allows.
+fn head_step(station: &Station) -> &'static str {
+    let is_last = station.node.key == 1;
+    let head = &station.streamlet[0];
+    if head.iter().any(|op| op.targets.contains(&station.node.key)) {
+        "realise"
+    } else if is_last || head.iter().any(|op| op.targets.is_empty()) {
+        "finish"
+    } else {
+        "move"
+    }
+}
+
+/// Changes, removes, doubles or appends some bytes.
+pub fn damage(random: &mut Random, bytes: &mut Vec<u8>) {
+    for _ in 0..=random.below(3) {
+        let place = random.below(bytes.len() as u64 + 1) as usize;
+        let byte = random.choose(b"0123456789,= \r\0abcklnprt\xff");
+        match random.below(5) {
+            0 if place < bytes.len() => bytes[place] = byte,
+            1 if place < bytes.len() => {
+                bytes.remove(place);
+            }
+            2 => bytes.truncate(place),
+            3 if random.once_in(4) => bytes.resize(250 + random.below(12) as usize, byte),
+            _ => bytes.insert(place, byte),
+        }
+    }
+}
+
+/// Small values are as likely as large ones, so that maps are sometimes the identity.
+fn value(random: &mut Random) -> u32 {
+    match random.below(6) {
+        0 => random.below(3) as u32,
+        1 => u32::MAX - random.below(3) as u32,
+        2 => 65_536,
+        3 => random.bits() as u32,
+        _ => random.below(100) as u32,
+    }
+}
+
+/// A key that has a node, mostly.
+fn key(random: &mut Random, session: &Session) -> u64 {
+    match random.below(30) {
+        0 => random.choose(&[0, 65, 66, 256, 4_294_967_295]),
+        1 | 2 => 1 + random.below(64),
+        _ => 1 + random.below(session.stations.len() as u64 + 2),
+    }
+}
+
+/// The key of a station with a unit, mostly, since steps elsewhere are refused.
+fn busy_key(random: &mut Random, session: &Session) -> u64 {
+    let busy = session.stations.iter().filter(|s| !s.streamlet.is_empty());
+    let busy: Vec<u64> = busy.map(|s| u64::from(s.node.key)).collect();
+    if busy.is_empty() || random.once_in(12) {
+        key(random, session)
+    } else {
+        random.choose(&busy)
+    }
+}
+
+/// Rising keys most of the time, and often the same few, so that maps can fuse; key 64
+/// is mostly missing, so that fused maps leave something.
+fn target_text(random: &mut Random, session: &Session) -> String {
+    if random.once_in(3) {
+        return String::from(random.choose(&["", "1", "1,2", "1,2", "2,3", "1,64", "1,64"]));
+    }
+    let most = if random.once_in(8) { 10 } else { 5 };
+    let count = random.below(most);
+    let mut keys: Vec<u64> = (0..count).map(|_| key(random, session)).collect();
+    if !random.once_in(12) {
+        keys.sort_unstable();
+        keys.dedup();
+    }
+    text(&keys)
+}
+
+fn text<T: ToString>(keys: &[T]) -> String {
+    let keys: Vec<String> = keys.iter().map(T::to_string).collect();
+    keys.join(",")
+}

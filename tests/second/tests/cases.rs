@@ -1,0 +1,290 @@
+//! Every case of document 01's section 'Cases', and its traps.
+
+mod common;
+
+use common::{calls, Desk};
+use second::{meaning, Act, Operation};
+
+/// Drains the calls, and sees that one-at-a-time processing gives the same.
+fn drained(lines: &[&str]) -> Desk {
+    let mut desk = Desk::after(lines);
+    desk.all(&["step=drain"]);
+    let (nodes, results) = meaning(&calls(lines));
+    let stations = desk.session.stations.iter().map(|s| &s.node);
+    assert!(stations.eq(nodes.iter()));
+    assert!(desk.session.results.values().eq(results.iter()));
+    desk
+}
+
+fn head_operation(desk: &Desk) -> &Operation {
+    &desk.session.stations[0].streamlet[0][0]
+}
+
+#[test]
+fn p_two_maps_one_by_one_and_fused() {
+    let lines = [
+        "call=add value=5",
+        "call=map a=3 b=4 to=1",
+        "call=map a=2 b=1 to=1",
+    ];
+    assert_eq!(drained(&lines).node(1).value, 39);
+    let mut desk = Desk::after(&lines);
+    desk.all(&[
+        "step=admit",
+        "step=admit",
+        "step=admit",
+        "step=fuse at=1 unit=1",
+    ]);
+    let fused = head_operation(&desk);
+    assert_eq!(fused.act, Act::Map { a: 6, b: 9 });
+    assert_eq!(fused.labels, [2, 3]);
+    desk.all(&["step=realise at=1", "step=finish at=1"]);
+    assert_eq!(desk.node(1).value, 39);
+    assert_eq!(desk.result(2), (0, &[][..]));
+    assert_eq!(desk.result(3), (0, &[][..]));
+}
+
+#[test]
+fn p_fused_products_wrap() {
+    let mut desk = Desk::after(&["call=add value=1", "call=map a=65536 b=0 to=1"]);
+    desk.all(&[
+        "call=map a=65536 b=1 to=1",
+        "step=admit",
+        "step=admit",
+        "step=admit",
+    ]);
+    desk.all(&["step=fuse at=1 unit=1"]);
+    assert_eq!(head_operation(&desk).act, Act::Map { a: 0, b: 1 });
+}
+
+#[test]
+fn p_a_value_wraps_to_0() {
+    let desk = drained(&["call=add value=4294967295", "call=map a=1 b=1 to=1"]);
+    assert_eq!(desk.node(1).value, 0);
+}
+
+const EXAMPLE: [&str; 4] = [
+    "call=add value=5",
+    "call=add value=7",
+    "call=map a=3 b=4 to=1,2",
+    "call=sum start=10 to=1,2,9",
+];
+
+#[test]
+fn p_the_listings_label_4() {
+    assert_eq!(drained(&EXAMPLE).result(4), (54, &[9][..]));
+}
+
+#[test]
+fn the_listing_of_the_example() {
+    let listing = "nodes=2 results=4 pending=0\n\
+                   key=2 value=25 links=\n\
+                   key=1 value=19 links=\n\
+                   label=1 value=1 left=\n\
+                   label=2 value=2 left=\n\
+                   label=3 value=0 left=\n\
+                   label=4 value=54 left=9\n";
+    assert_eq!(drained(&EXAMPLE).listing(), listing);
+    let input = format!("{}\nstep=drain", EXAMPLE.join("\n"));
+    assert_eq!(
+        second::program::transcript(input.as_bytes()),
+        listing.as_bytes()
+    );
+}
+
+#[test]
+fn p_a_sum_does_not_meet_a_node_added_after_it() {
+    let lines = [
+        "call=add value=5",
+        "call=sum start=3 to=2",
+        "call=add value=7",
+    ];
+    assert_eq!(drained(&lines).result(2), (3, &[2][..]));
+}
+
+#[test]
+fn p_pick_takes_the_last_station() {
+    let desk = drained(&[
+        "call=add value=5",
+        "call=add value=7",
+        "call=pick start=0 to=1,2",
+    ]);
+    assert_eq!(desk.result(3), (5, &[][..]));
+}
+
+#[test]
+fn p_a_ninth_link() {
+    let mut lines = vec!["call=add value=5"];
+    lines.extend(["call=link key=2 to=1"; 8]);
+    lines.push("call=link key=3 to=1");
+    let desk = drained(&lines);
+    assert_eq!(desk.result(9), (0, &[][..]));
+    assert_eq!(desk.result(10), (1, &[][..]));
+    assert_eq!(desk.node(1).links, [2; 8]);
+}
+
+#[test]
+fn a_link_counts_every_full_list() {
+    let mut lines = vec!["call=add value=5", "call=add value=7", "call=add value=9"];
+    lines.extend(["call=link key=2 to=1,3"; 8]);
+    lines.push("call=link key=4 to=1,2,3");
+    let desk = drained(&lines);
+    assert_eq!(desk.result(12), (2, &[][..]));
+    assert_eq!(desk.node(2).links, [4]);
+}
+
+#[test]
+fn near_adds_a_value_once() {
+    let link = "call=link key=9 to=1";
+    let near = "call=near key=9 start=1 to=1,2";
+    let desk = drained(&["call=add value=5", "call=add value=7", link, link, near]);
+    assert_eq!(desk.result(5), (6, &[][..]));
+}
+
+#[test]
+fn p_link_twice_and_unlink() {
+    let link = "call=link key=2 to=1";
+    let desk = drained(&["call=add value=5", link, link, "call=unlink key=2 to=1"]);
+    assert!(desk.node(1).links.is_empty());
+}
+
+#[test]
+fn p_no_nodes_leave_a_map_its_target_at_admit() {
+    let mut desk = Desk::after(&["call=map a=3 b=4 to=1"]);
+    desk.all(&["step=admit"]);
+    assert_eq!(desk.result(1), (0, &[1][..]));
+}
+
+#[test]
+fn p_a_sum_without_targets() {
+    assert_eq!(drained(&["call=sum start=4 to="]).result(1), (4, &[][..]));
+    let desk = drained(&["call=add value=5", "call=sum start=4 to="]);
+    assert_eq!(desk.result(2), (4, &[][..]));
+}
+
+#[test]
+fn adds_64_and_65() {
+    let mut desk = Desk::new();
+    for label in 1..=64 {
+        assert_eq!(desk.line("call=add value=1"), label);
+    }
+    desk.refuses(13, "call=add value=1"); // 64 waiting, also 64 live: 13 comes first
+    desk.all(&["step=drain", "claim=1"]);
+    desk.refuses(13, "call=add value=1"); // 64 nodes
+    assert_eq!(desk.line("call=sum start=0 to=64"), 65);
+}
+
+#[test]
+fn keys_64_and_65() {
+    let mut desk = Desk::after(&["call=map a=1 b=0 to=64", "call=link key=64 to="]);
+    desk.refuses(11, "call=map a=1 b=0 to=65");
+    desk.refuses(11, "call=link key=65 to=");
+    desk.refuses(20, "step=move at=64");
+    desk.refuses(11, "step=move at=65");
+}
+
+#[test]
+fn eight_and_nine_targets() {
+    let mut desk = Desk::after(&["call=sum start=0 to=1,2,3,4,5,6,7,8"]);
+    desk.refuses(12, "call=sum start=0 to=1,2,3,4,5,6,7,8,9");
+    desk.refuses(11, "call=sum start=0 to=1,2,3,4,5,6,7,8,65");
+}
+
+#[test]
+fn targets_rise_strictly() {
+    let mut desk = Desk::after(&["call=sum start=0 to=1,2"]);
+    desk.refuses(12, "call=sum start=0 to=2,2");
+    desk.refuses(12, "call=sum start=0 to=2,1");
+}
+
+#[test]
+fn live_calls_64_and_65() {
+    let call = "call=sum start=0 to=";
+    let mut desk = Desk::after(&[call; 64]);
+    desk.refuses(14, call);
+    desk.all(&["step=drain"]);
+    desk.refuses(14, call); // results are live until claimed
+    desk.all(&["claim=7"]);
+    assert_eq!(desk.line(call), 65);
+    desk.refuses(14, call);
+}
+
+#[test]
+fn labels_4_and_5_in_a_fuse() {
+    let mut desk = Desk::after(&["call=add value=1", "step=admit"]);
+    for _ in 0..5 {
+        desk.all(&["call=map a=2 b=1 to=1", "step=admit"]);
+    }
+    desk.all(&["step=fuse at=1 unit=1", "step=fuse at=1 unit=2"]);
+    desk.all(&["step=fuse at=1 unit=1"]);
+    assert_eq!(head_operation(&desk).labels, [2, 3, 4, 5]);
+    desk.refuses(22, "step=fuse at=1 unit=1");
+    desk.all(&["step=drain"]);
+    assert_eq!(desk.node(1).value, 63);
+}
+
+#[test]
+fn lines_of_255_and_256_bytes() {
+    let long = |length: usize| {
+        let mut line = String::from("call=sum start=0 to=1");
+        while line.len() + 2 <= length {
+            line.push_str(",1");
+        }
+        if line.len() < length {
+            line.push('1');
+        }
+        line
+    };
+    assert_eq!((long(255).len(), long(256).len()), (255, 256));
+    let mut desk = Desk::new();
+    desk.refuses(12, &long(255));
+    desk.refuses(10, &long(256));
+}
+
+#[test]
+fn trap_an_add_waits_for_the_calls_before_it() {
+    let lines = [
+        "call=add value=5",
+        "call=map a=2 b=0 to=1,2",
+        "call=add value=7",
+    ];
+    let desk = drained(&lines);
+    assert_eq!((desk.node(1).value, desk.node(2).value), (10, 7));
+    assert_eq!(desk.result(2), (0, &[2][..]));
+}
+
+#[test]
+fn trap_a_fused_identity_keeps_its_left() {
+    let mut desk = Desk::after(&["call=add value=5", "call=map a=1 b=0 to=1,9"]);
+    desk.all(&[
+        "call=map a=1 b=0 to=1,9",
+        "step=admit",
+        "step=admit",
+        "step=admit",
+    ]);
+    desk.all(&["step=fuse at=1 unit=1"]);
+    desk.refuses(22, "step=finish at=1");
+    desk.all(&["step=realise at=1", "step=finish at=1"]);
+    assert_eq!(desk.result(2), (0, &[9][..]));
+    assert_eq!(desk.result(3), (0, &[9][..]));
+}
+
+#[test]
+fn trap_link_and_unlink_do_not_swap() {
+    let mut desk = Desk::after(&["call=add value=5", "call=link key=2 to=1"]);
+    desk.all(&[
+        "call=unlink key=3 to=1",
+        "step=admit",
+        "step=admit",
+        "step=admit",
+    ]);
+    desk.refuses(22, "step=swap at=1 unit=1");
+}
+
+#[test]
+fn trap_folds_go_by_stations() {
+    let lines = ["call=add value=1", "call=add value=2", "call=add value=3"];
+    let mut desk = Desk::after(&lines);
+    desk.all(&["call=pick start=0 to=2,3", "step=drain"]);
+    assert_eq!(desk.result(4), (2, &[][..]));
+}

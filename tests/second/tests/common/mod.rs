@@ -1,0 +1,74 @@
+//! What the tests share: a session with its tally, driven by lines of text.
+#![allow(dead_code)] // each test file uses a part of it
+
+use second::{program::dispatch, read_call, Call, Node, Outcome, Session, Tally};
+
+#[derive(Clone, Debug)]
+pub struct Desk {
+    pub session: Session,
+    pub tally: Tally,
+}
+
+impl Desk {
+    pub fn new() -> Desk {
+        Desk {
+            session: Session::open(),
+            tally: [0; 8],
+        }
+    }
+
+    /// A desk that has served these lines, all of them accepted.
+    pub fn after(lines: &[&str]) -> Desk {
+        let mut desk = Desk::new();
+        desk.all(lines);
+        desk
+    }
+
+    /// Gives a line to its entry, with ample output.
+    pub fn serve(&mut self, line: &[u8]) -> i64 {
+        dispatch(&mut self.session, line, &mut self.tally, &mut [0; 64])
+    }
+
+    pub fn line(&mut self, line: &str) -> i64 {
+        self.serve(line.as_bytes())
+    }
+
+    /// Serves lines that must all be accepted.
+    pub fn all(&mut self, lines: &[&str]) {
+        for line in lines {
+            let answer = self.line(line);
+            assert!(answer >= 0, "{line}: {answer}");
+        }
+    }
+
+    /// Serves a line that must be refused with this number and change nothing.
+    pub fn refuses(&mut self, number: i64, line: &str) {
+        let before = self.clone();
+        assert_eq!(self.line(line), -number, "{line}");
+        assert_eq!(self.session, before.session, "{line}");
+        assert_eq!(self.tally, before.tally, "{line}");
+    }
+
+    /// The result that stands for this label.
+    pub fn result(&self, label: u16) -> (u32, &[u8]) {
+        let Outcome { value, left } = &self.session.results[&label];
+        (*value, left)
+    }
+
+    pub fn node(&self, key: u8) -> &Node {
+        let mut nodes = self.session.stations.iter().map(|s| &s.node);
+        nodes.find(|node| node.key == key).expect("such a node")
+    }
+
+    pub fn listing(&self) -> String {
+        let mut out = [0; 8192];
+        let length = self.session.list(&mut out) as usize;
+        String::from_utf8(out[..length].to_vec()).expect("a listing is text")
+    }
+}
+
+/// The calls of lines that are all of a good form.
+pub fn calls(lines: &[&str]) -> Vec<Call> {
+    let read = |line: &&str| read_call(line.as_bytes()).expect("a good call");
+    lines.iter().map(read).collect()
+}

@@ -1,0 +1,84 @@
+//! The program: lines however they arrive, and what is printed for them.
+
+mod common;
+
+use std::io::{self, Read, Write};
+
+use second::program::{run, transcript};
+use second::random::Scribe;
+use second::Session;
+
+/// Input that arrives in pieces of this size.
+struct Pieces<'a> {
+    rest: &'a [u8],
+    size: usize,
+}
+
+impl Read for Pieces<'_> {
+    fn read(&mut self, out: &mut [u8]) -> io::Result<usize> {
+        let length = self.size.min(self.rest.len()).min(out.len());
+        let (piece, rest) = self.rest.split_at(length);
+        out[..length].copy_from_slice(piece);
+        self.rest = rest;
+        Ok(length)
+    }
+}
+
+fn random_script(seed: u64, lines: usize) -> Vec<u8> {
+    let mut scribe = Scribe::new(seed);
+    let mut session = Session::open();
+    let mut script = Vec::new();
+    for _ in 0..lines {
+        let line = scribe.line(&session);
+        second::program::dispatch(&mut session, &line, &mut [0; 8], &mut [0; 64]);
+        script.extend_from_slice(&line);
+        script.push(b'\n');
+    }
+    script
+}
+
+#[test]
+fn input_in_pieces() {
+    for seed in 0..5 {
+        let rest = &random_script(seed, 500)[..];
+        for size in [1, 2, 7, 100, 4096] {
+            let mut output = Vec::new();
+            run(Pieces { rest, size }, &mut output).expect("memory doesn't fail");
+            assert_eq!(output, transcript(rest));
+        }
+    }
+}
+
+#[test]
+fn the_last_newline_is_optional() {
+    let script = random_script(9, 300);
+    let without = script.strip_suffix(b"\n").expect("a last newline");
+    assert_eq!(transcript(&script), transcript(without));
+    assert_eq!(transcript(b""), b"nodes=0 results=0 pending=0\n");
+    let one = b"line=1 refused=10\nnodes=0 results=0 pending=0\n";
+    assert_eq!(transcript(b"\n"), one);
+    assert_eq!(transcript(b" "), one);
+}
+
+/// Counts the bytes that were written and not flushed yet.
+struct Held(usize);
+
+impl Write for Held {
+    fn write(&mut self, bytes: &[u8]) -> io::Result<usize> {
+        self.0 += bytes.len();
+        Ok(bytes.len())
+    }
+
+    fn flush(&mut self) -> io::Result<()> {
+        self.0 = 0;
+        Ok(())
+    }
+}
+
+#[test]
+fn nothing_is_held_at_the_end() {
+    let mut output = Held(0);
+    let input = &b"x\nclaim=1\n"[..];
+    run(input, &mut output).expect("memory doesn't fail");
+    assert_eq!(output.0, 0);
+}

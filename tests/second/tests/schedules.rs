@@ -1,0 +1,186 @@
+//! Random schedules against one-at-a-time processing.
+
+mod common;
+
+use common::Desk;
+use second::random::Scribe;
+use second::{meaning, read_call, Call, Node, Outcome, Session, Tally};
+
+/// A call takes at most one admit, 63 moves, 8 realises and one finish.
+const BOUND: usize = 73;
+
+/// A run from opening, with what demand 3 compares: the accepted calls, and every
+/// result at the time of its claim.
+struct Run {
+    desk: Desk,
+    accepted: Vec<Call>,
+    claimed: Vec<(u16, Outcome)>,
+}
+
+impl Run {
+    fn new() -> Run {
+        Run {
+            desk: Desk::new(),
+            accepted: Vec::new(),
+            claimed: Vec::new(),
+        }
+    }
+
+    fn serve(&mut self, line: &[u8]) -> i64 {
+        let results = self.desk.session.results.clone();
+        let answer = self.desk.serve(line);
+        if answer > 0 && line.starts_with(b"call=") {
+            assert_eq!(answer as usize, self.accepted.len() + 1);
+            self.accepted
+                .push(read_call(line).expect("it was accepted"));
+        }
+        if answer > 0 && line.starts_with(b"claim=") {
+            let left = &self.desk.session.results;
+            let gone = results.into_iter().filter(|(l, _)| !left.contains_key(l));
+            self.claimed.extend(gone);
+        }
+        answer
+    }
+
+    /// All that demand 3 says about the lines so far.
+    fn check(&self) {
+        let session = &self.desk.session;
+        let (nodes, results) = meaning(&self.accepted);
+        let standing = session
+            .results
+            .iter()
+            .map(|(&label, result)| (label, result));
+        let claimed = self.claimed.iter().map(|(label, result)| (*label, result));
+        let mut known = 0;
+        for (label, result) in standing.chain(claimed) {
+            assert_eq!(*result, results[usize::from(label) - 1], "label {label}");
+            known += 1;
+        }
+        assert_eq!(known + session.pending(), self.accepted.len());
+        assert!(steps_taken(&self.desk.tally) <= BOUND * self.accepted.len());
+        assert_eq!(a_step_is_allowed(session), session.pending() > 0);
+        if session.pending() == 0 {
+            assert!(graph(session).eq(nodes.iter()));
+        }
+    }
+}
+
+fn graph(session: &Session) -> impl Iterator<Item = &Node> {
+    session.stations.iter().map(|station| &station.node)
+}
+
+fn steps_taken(tally: &Tally) -> usize {
+    tally[..4].iter().map(|&count| count as usize).sum()
+}
+
+/// Whether one of the four steps that make progress would be answered 0.
+fn a_step_is_allowed(session: &Session) -> bool {
+    let at = session.stations.iter().map(|s| s.node.key).flat_map(|key| {
+        let of = move |word| format!("step={word} at={key}");
+        ["realise", "move", "finish"].map(of)
+    });
+    let mut lines = at.chain([String::from("step=admit")]);
+    lines.any(|line| session.clone().step(line.as_bytes(), &mut [0; 8]) == 0)
+}
+
+#[test]
+fn random_lists_of_lines() {
+    for seed in 0..300 {
+        let mut scribe = Scribe::new(seed);
+        let mut run = Run::new();
+        for place in 0..400 {
+            let line = scribe.line(&run.desk.session);
+            run.serve(&line);
+            if place % 50 == 0 {
+                run.check();
+            }
+        }
+        run.check();
+        run.serve(b"step=drain");
+        assert_eq!(run.desk.session.pending(), 0);
+        run.check();
+    }
+}
+
+/// Without drains: any schedule that goes on taking allowed steps ends, whatever
+/// joins, splits, swaps and fuses stand between them.
+#[test]
+fn schedules_end_by_themselves() {
+    for seed in 1000..1100 {
+        let mut scribe = Scribe::new(seed);
+        let mut run = Run::new();
+        for _ in 0..scribe.random.below(60) + 1 {
+            let line = scribe.call_line(&run.desk.session);
+            run.serve(line.as_bytes());
+        }
+        while run.desk.session.pending() > 0 {
+            let line = scribe.useful_step_line(&run.desk.session);
+            run.serve(line.as_bytes());
+        }
+        run.check();
+    }
+}
+
+/// The bound is met: 64 nodes, and a call that strikes seven of them and node 1.
+#[test]
+fn a_call_can_take_73_steps() {
+    let mut desk = Desk::after(&["call=add value=1"; 64]);
+    desk.all(&["step=drain", "claim=1"]);
+    let before = steps_taken(&desk.tally);
+    desk.all(&["call=sum start=0 to=1,2,3,4,5,6,7,8", "step=drain"]);
+    assert_eq!(steps_taken(&desk.tally) - before, BOUND);
+}
+
+/// Two schedules of the same calls leave the same listing.
+#[test]
+fn schedules_agree() {
+    for seed in 2000..2100 {
+        let mut scribe = Scribe::new(seed);
+        let mut one = Desk::new();
+        for _ in 0..40 {
+            let line = scribe.call_line(&one.session);
+            one.line(&line);
+        }
+        let mut other = one.clone();
+        one.all(&["step=drain"]);
+        for _ in 0..200 {
+            let line = scribe.useful_step_line(&other.session);
+            other.line(&line);
+        }
+        other.all(&["step=drain"]);
+        assert_eq!(one.listing(), other.listing());
+    }
+}
+
+/// A refused line changes neither session nor tally.
+#[test]
+fn refusals_change_nothing() {
+    for seed in 3000..3050 {
+        let mut scribe = Scribe::new(seed);
+        let mut desk = Desk::new();
+        for _ in 0..300 {
+            let line = scribe.line(&desk.session);
+            let before = desk.clone();
+            if desk.serve(&line) < 0 {
+                assert_eq!(desk.session, before.session);
+                assert_eq!(desk.tally, before.tally);
+            }
+        }
+    }
+}
+
+/// The generator reaches every refusal, so that comparing by it compares them all.
+#[test]
+fn random_lines_meet_every_refusal() {
+    let mut met = std::collections::BTreeSet::new();
+    for seed in 0..40 {
+        let mut scribe = Scribe::new(seed);
+        let mut desk = Desk::new();
+        for _ in 0..3000 {
+            let line = scribe.line(&desk.session);
+            met.insert(-desk.serve(&line).min(0));
+        }
+    }
+    let all = [0, 10, 11, 12, 13, 14, 20, 21, 22, 30, 31, 32];
+    assert_eq!(met.into_iter().collect::<Vec<i64>>(), all);
+}
