@@ -6,7 +6,7 @@ run:
 	@rt check
 
 test:
-	@rt ci
+	@tests/gate.sh
 
 fmt:
 	@rt fmt
