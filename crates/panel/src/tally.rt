@@ -47,3 +47,10 @@ impl Tally {
         }
     }
 }
+
+// One more at a place of the tally that the panel lends.
+pub fn raise(t: &mut Tally, place: u8)
+    ensures { λ _. ⌜ now (t .exit) ≡ raised (now (t .entry)) place 1 ⌝ }
+{
+    *t = (*t).raised(place, 1);
+}
