@@ -38,3 +38,7 @@ raised t place n = each (raisedAt place n) t
 abbrev pub counted : Tally → List Step → Tally
 counted t [] = t
 counted t (s ∷ ss) = counted (raised t (tallyPlace s) 1) ss
+
+-- the tally of no steps
+abbrev pub zeros : Tally
+zeros = record { admit = 0; realise = 0; «move_on» = 0; finish = 0; join = 0; split = 0; swap = 0; fuse = 0 }

@@ -19,15 +19,13 @@ pub struct Tally {
 fn raised_at(own: u8, place: u8, count: u32, by: u32) -> u32
     ensures { λ r. ⌜ r ≡ raisedAt place by own count ⌝ }
 {
-    if own == place {
-        if by < 4294967295 - count {
-            count + by
-        } else {
-            4294967295
-        }
-    } else {
-        count
+    if own != place {
+        return count;
     }
+    if by > 4294967295 - count {
+        return 4294967295;
+    }
+    count + by
 }
 
 impl Tally {

@@ -20,6 +20,9 @@ fits : (n : ℕ) → n < 2 ^ 63 → SFits w64 (negℤ (pos n))
 fits zero h = record { sfits = h }
 fits (suc n) h = record { sfits = omega arith }
 
+less-fits : (n : ℕ) → n < 2 ^ 63 → SFits w64 (pos 0 -ℤ toZ w64 n)
+less-fits n h = subst (SFits w64) (sym (less n h)) (fits n h)
+
 enum-known-a : tie.Need-enum-known-a
 enum-known-a c = search needs
 
@@ -36,14 +39,14 @@ cast-result-2 c = search needs
 small : (c : tie.After-known-told2) → c .before .a2 .given .0 .0 < 2 ^ 63
 small c = omega (arith, c .known-told2 .given .0 .1)
 
-sub-result : tie.Need-sub-result
-sub-result c = subst (SFits w64) (sym (less _ (small c))) (fits _ (small c))
-
 returns : tie.Need-returns
 returns c = toZ-pos w64 (omega (arith, c .known-told .given .0 .1)) ∙ sym (ap numberOf (c .before .a .given .1))
 
 returns-2 : tie.Need-returns-2
-returns-2 c = toZ-ofZ (sub-result c) ∙ less _ (small c) ∙ sym (ap numberOf (c .before .a2 .given .1))
+returns-2 c = toZ-ofZ (less-fits _ (small c)) ∙ less _ (small c) ∙ sym (ap numberOf (c .before .a2 .given .1))
+
+sub-result : tie.Need-sub-result
+sub-result c = less-fits _ (small c)
 
 pub number-spec : {M : Type 1} → statement M
 number-spec =
