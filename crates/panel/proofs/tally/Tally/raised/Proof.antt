@@ -29,7 +29,16 @@ raised-at-requires-8 : tie.Need-raised-at-requires-8
 raised-at-requires-8 c κs = search needs
 
 returns : tie.Need-returns
-returns c = cc
+returns c = λ i. record {
+  admit = c .before .before .before .before .before .before .before .raised-at .ensures i;
+  realise = c .before .before .before .before .before .before .raised-at2 .ensures i;
+  «move_on» = c .before .before .before .before .before .raised-at3 .ensures i;
+  finish = c .before .before .before .before .raised-at4 .ensures i;
+  join = c .before .before .before .raised-at5 .ensures i;
+  split = c .before .before .raised-at6 .ensures i;
+  swap = c .before .raised-at7 .ensures i;
+  fuse = c .raised-at8 .ensures i;
+}
 
 pub raised-spec : {M : Type 1} → statement M
 raised-spec =
