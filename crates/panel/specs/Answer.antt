@@ -1,0 +1,10 @@
+-- What an entry returns: document 01, "Acceptance returns the label for a call, 0 for opening and a step, the written length
+-- for a claim or any other written output; a refusal returns its number negated".
+-- Assumes nothing.
+use lib.IntN.{ℤ, pos, negℤ}
+use Rattle.panel.specs.declared.answer.Answer.{Answer}
+use Rattle.panel.specs.declared.answer.Answer.the-variants.{Done, Refused}
+
+abbrev pub numberOf : Answer → ℤ
+numberOf (Done n) = pos n
+numberOf (Refused n) = negℤ (pos n)
