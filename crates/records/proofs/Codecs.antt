@@ -66,6 +66,19 @@ pub record FitResult (r : ResultRecord) : Type 0 where
   pub value : r .value < 2 ^ 32
   pub left : FitKeys (r .left)
 
+-- SIZES
+pub node-size : (n : NodeRecord) → length (encodeNode n) ≡ 16
+unfolding encodeNode
+node-size n = refl
+
+pub op-size : (o : OpRecord) → length (encodeOp o) ≡ 32
+unfolding encodeOp
+op-size o = refl
+
+pub result-size : (r : ResultRecord) → length (encodeResult r) ≡ 16
+unfolding encodeResult
+result-size r = refl
+
 -- DECODE OF ENCODE
 eight : (t : List ℕ) → length t ≡ 8 → bytes8 t 0 ≡ t
 unfolding tab
