@@ -1,0 +1,4 @@
+pub mod Parts
+pub mod Regions
+pub mod Moves
+pub mod Writers
