@@ -1,0 +1,5 @@
+pub mod Focus
+pub mod Heads
+pub mod Admits
+pub mod Units
+pub mod Events
