@@ -1,0 +1,1 @@
+// The flat session in the image, read and written in place.

@@ -1,0 +1,1 @@
+// Stand-in: only the definitions of specs/Values.antt, until the crate lands.
