@@ -6,9 +6,9 @@ use native.Mathlib.Omega.{arith}
 use mathlib.Core.Bool.{Bool, true, false, cond, _&&_, _||_, true≢false}
 use mathlib.Core.List.{List, [], _∷_, _++_, append-assoc}
 use mathlib.Core.Option.{Option, none, some}
-use lib.Dec.{eqb, leb}
+use lib.Dec.{eqb, leb, ltb}
 use lib.ListN.{length, length-append}
-use borrow.Author.Tests.{ne-eqb}
+use borrow.Author.Tests.{ne-eqb, lt-ltb}
 use Rattle.graph.specs.Refusals.{Answer, refused, done, mapDone, Test, on, unless}
 use Rattle.graph.specs.KeyLists.{contains}
 use Rattle.graph.specs.Calls.{Call, isAdd, formTests}
@@ -18,7 +18,9 @@ use Rattle.graph.specs.Sessions.{Station, Session, labelsOfUnit, labelsOfUnits,
 use Rattle.graph.specs.Steps.{Step, admit, realise, move, finish, step}
 use Rattle.graph.specs.Acceptance.{callTests, accepted, accept, takeResult, claim}
 use Rattle.graph.specs.Drain.{orHere, backmost, Taken, taking, orElse, drainStepAt, drainStep, weightOfUnit, weightOfUnits, weightOfStations, weightOfCalls, weightOf}
-use Rattle.graph.specs.Valid.{Each, ValidUnit, ValidStation, KeysFall, Valid}
+use Rattle.graph.specs.Valid.{Each, count, ValidUnit, ValidStation, KeysFall, Valid}
+use Rattle.graph.proofs.Outcome.{sum}
+use Rattle.graph.proofs.Labels.{total, byLabel, is, one, total-append, total-is, total-one, total-results}
 use Rattle.queue.specs.Flat.{Tagged, tagUnit, tagUnits, queueOf, nodesOf, waiting, flat, Full, Keyed}
 use Rattle.queue.proofs.Places.{length-nodes}
 use Rattle.worksteps.specs.FlatSteps.{flatStep}
@@ -63,55 +65,47 @@ queued-waiting [] = refl
 queued-waiting (addOf l v ∷ cs) = ap (λ (z : List ℕ). l ∷ z) (queued-waiting cs)
 queued-waiting (opOf o ∷ cs) = ap (λ (z : List ℕ). o .labels ++ z) (queued-waiting cs)
 
-contains-append : (l : ℕ) (a b : List ℕ) → contains l (a ++ b) ≡ (contains l a || contains l b)
-contains-append l [] b = refl
-contains-append l (x ∷ a) b = ap (λ (z : Bool). eqb l x || z) (contains-append l a b) ∙ go (eqb l x)
-  where
-    go : (c : Bool) → (c || (contains l a || contains l b)) ≡ ((c || contains l a) || contains l b)
-    go true = refl
-    go false = refl
-
-queued-length : (ss : List Station) (A : List Tagged) → length (queued (queueOf ss ++ A)) ≡ length (labelsOfStations ss) + length (queued A)
-queued-length [] A = omega arith
-queued-length (s ∷ ss) A =
+-- a sum over the labels: the queue has the stations in another order than `pending`
+queued-total : (v : ℕ → ℕ) (ss : List Station) (A : List Tagged) → total v (queued (queueOf ss ++ A)) ≡ total v (labelsOfStations ss) + total v (queued A)
+queued-total v [] A = omega arith
+queued-total v (s ∷ ss) A =
     let k : ℕ = s .node .key in
-    ap (λ (z : List Tagged). length (queued z)) (append-assoc (queueOf ss) (tagUnits k (s .units)) A)
-    ∙ queued-length ss (tagUnits k (s .units) ++ A)
-    ∙ omega (arith, ap length (queued-append (tagUnits k (s .units)) A), length-append (queued (tagUnits k (s .units))) (queued A), ap length (queued-units k (s .units)), length-append (labelsOfUnits (s .units)) (labelsOfStations ss))
+    ap (λ (z : List Tagged). total v (queued z)) (append-assoc (queueOf ss) (tagUnits k (s .units)) A)
+    ∙ queued-total v ss (tagUnits k (s .units) ++ A)
+    ∙ omega (arith, ap (total v) (queued-append (tagUnits k (s .units)) A), total-append v (queued (tagUnits k (s .units))) (queued A), ap (total v) (queued-units k (s .units)), total-append v (labelsOfUnits (s .units)) (labelsOfStations ss))
 
-queued-contains : (l : ℕ) (ss : List Station) (A : List Tagged) → contains l (queued (queueOf ss ++ A)) ≡ (contains l (labelsOfStations ss) || contains l (queued A))
-queued-contains l [] A = refl
-queued-contains l (s ∷ ss) A =
-    let k : ℕ = s .node .key in
-    ap (λ (z : List Tagged). contains l (queued z)) (append-assoc (queueOf ss) (tagUnits k (s .units)) A)
-    ∙ queued-contains l ss (tagUnits k (s .units) ++ A)
-    ∙ ap (λ (z : Bool). contains l (labelsOfStations ss) || z) (ap (contains l) (queued-append (tagUnits k (s .units)) A) ∙ contains-append l (queued (tagUnits k (s .units))) (queued A) ∙ ap (λ (z : List ℕ). contains l z || contains l (queued A)) (queued-units k (s .units)))
-    ∙ go (contains l (labelsOfStations ss)) (contains l (labelsOfUnits (s .units))) (contains l (queued A))
-    ∙ ap (λ (z : Bool). z || contains l (queued A)) (sym (contains-append l (labelsOfUnits (s .units)) (labelsOfStations ss)))
+pub pending-total : (v : ℕ → ℕ) (s : Session) → total v (queued (flat s .queue)) ≡ total v (pending s)
+pending-total v s =
+    omega (arith, queued-total v (s .stations) (waiting (s .topStream)), ap (total v) (queued-waiting (s .topStream)), total-append v (labelsOfStations (s .stations)) (labelsOfCalls (s .topStream)))
+
+contains-count : (l : ℕ) (xs : List ℕ) → contains l xs ≡ ltb 0 (count l xs)
+contains-count l [] = refl
+contains-count l (x ∷ xs) = go (eqb l x) (contains-count l xs)
   where
-    go : (a b c : Bool) → (a || (b || c)) ≡ ((b || a) || c)
-    go true true c = refl
-    go true false c = refl
-    go false true c = refl
-    go false false c = refl
+    go : (b : Bool) → contains l xs ≡ ltb 0 (count l xs) → (b || contains l xs) ≡ ltb 0 (cond b 1 0 + count l xs)
+    go true e = sym (lt-ltb 0 (1 + count l xs) (omega arith))
+    go false e = let z : count l xs ≡ 0 + count l xs = omega arith in e ∙ ap (ltb 0) z
 
 pub pending-same : (l : ℕ) (s : Session) → contains l (queued (flat s .queue)) ≡ contains l (pending s)
-pending-same l s = queued-contains l (s .stations) (waiting (s .topStream)) ∙ ap (λ (z : List ℕ). contains l (labelsOfStations (s .stations)) || contains l z) (queued-waiting (s .topStream)) ∙ sym (contains-append l (labelsOfStations (s .stations)) (labelsOfCalls (s .topStream)))
-
-length-results : (rs : List Result) → length (labelsOfResults rs) ≡ length rs
-length-results [] = refl
-length-results (r ∷ rs) = ap suc (length-results rs)
+pending-same l s =
+    contains-count l (queued (flat s .queue)) ∙ ap (ltb 0) (sym (total-is l (queued (flat s .queue))) ∙ pending-total (is l) s ∙ total-is l (pending s)) ∙ sym (contains-count l (pending s))
 
 pub live-same : (s : Session) → flatLive (flat s) ≡ length (live s)
 live-same s =
     omega (
       arith,
-      queued-length (s .stations) (waiting (s .topStream)),
-      ap length (queued-waiting (s .topStream)),
-      length-append (labelsOfStations (s .stations)) (labelsOfCalls (s .topStream)),
+      pending-total one s,
+      total-one (queued (flat s .queue)),
+      total-one (pending s),
       length-append (pending s) (labelsOfResults (s .results)),
-      length-results (s .results),
+      total-one (labelsOfResults (s .results)),
+      total-results one (s .results),
+      sum-one (s .results),
     )
+  where
+    sum-one : (rs : List Result) → sum (byLabel one) rs ≡ length rs
+    sum-one [] = refl
+    sum-one (r ∷ rs) = omega (arith, sum-one rs)
 
 -- ADDS
 adds-append : (a b : List Tagged) → addsQueued (a ++ b) ≡ addsQueued a + addsQueued b

@@ -3,3 +3,4 @@ pub mod Heads
 pub mod Admits
 pub mod Units
 pub mod Events
+pub mod Facts
