@@ -1,0 +1,50 @@
+-- What is read of the nodes and of the results, and where a label stands among the results.
+-- Assumes nothing.
+use Prim.Native.Nat.{ℕ, _≤_}
+use mathlib.Core.Path.{_≡_}
+use mathlib.Core.Bool.{Bool}
+use mathlib.Core.List.{List, []}
+use lib.Dec.{eqb, ltb}
+use Rattle.graph.specs.Packed.{listed, packed}
+use Rattle.graph.specs.Nodes.{Node, Result}
+use Rattle.queue.specs.Flat.{find}
+use Rattle.state.specs.declared.nodes.Body.{Body}
+use Rattle.state.specs.declared.results.Outcome.{Outcome}
+
+-- a number of nodes or of results
+pub record Total (n r : ℕ) : Type 0 where
+  pub is : r ≡ n
+  pub few : r ≤ 64
+
+-- the struct of a node
+pub record IsBody (n : Node) (r : Body) : Type 0 where
+  pub key : r .key ≡ n .key
+  pub value : r .value ≡ n .value
+  pub links : listed (r .links) ≡ n .links
+  pub normal : r .links ≡ packed (listed (r .links))
+
+-- the struct of a result
+pub record IsOutcome (x : Result) (r : Outcome) : Type 0 where
+  pub label : r .label ≡ x .label
+  pub value : r .value ≡ x .value
+  pub left : listed (r .left) ≡ x .left
+  pub normal : r .left ≡ packed (listed (r .left))
+
+abbrev pub nodeWith : Node → ℕ → List ℕ → Node
+nodeWith n v ls = record { key = n .key; value = v; links = ls }
+
+abbrev pub noResult : Result
+noResult = record { label = 0; value = 0; left = [] }
+
+abbrev pub resultWith : ℕ → ℕ → List ℕ → Result
+resultWith l v ts = record { label = l; value = v; left = ts }
+
+abbrev pub hasLabel : ℕ → Result → Bool
+hasLabel l r = eqb (r .label) l
+
+abbrev pub isAbove : ℕ → Result → Bool
+isAbove l r = ltb l (r .label)
+
+-- where a result with label l goes: the index of the first with a label above it, or the length
+abbrev pub placeOf : ℕ → List Result → ℕ
+placeOf l rs = find (isAbove l) rs
