@@ -5,9 +5,12 @@ use mathlib.Core.Path.{_≡_}
 use mathlib.Core.Bool.{Bool}
 use mathlib.Core.List.{List, []}
 use lib.Dec.{eqb, ltb}
+use lib.ListN.{getD}
 use Rattle.graph.specs.Packed.{listed, packed}
 use Rattle.graph.specs.Nodes.{Node, Result}
+use Rattle.graph.specs.Acceptance.{Claimed}
 use Rattle.queue.specs.Flat.{find}
+use Rattle.worksteps.specs.FlatSteps.{removeAt}
 use Rattle.state.specs.declared.nodes.Body.{Body}
 use Rattle.state.specs.declared.results.Outcome.{Outcome}
 
@@ -48,3 +51,7 @@ isAbove l r = ltb l (r .label)
 -- where a result with label l goes: the index of the first with a label above it, or the length
 abbrev pub placeOf : ℕ → List Result → ℕ
 placeOf l rs = find (isAbove l) rs
+
+-- the result at p claimed, and the others
+abbrev pub takenAt : ℕ → List Result → Claimed
+takenAt p rs = record { result = getD rs p noResult; others = removeAt p rs }

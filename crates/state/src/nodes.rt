@@ -62,10 +62,11 @@ pub fn append_body(image: &mut [u8], value: u32)
     ensures { λ _. ⌜ Shows (withNodes (held (now (image .entry))) (held (now (image .entry)) .nodes ++ (newNode (length (held (now (image .entry)) .nodes)) value ∷ []))) (now (image .exit)) ⌝ }
 {
     let n = node_count(image);
+    let key = (n + 1) as u8;
     let links = Keys::none();
     append_node(image, NodeRecord {
         value: value,
-        key: (n + 1) as u8,
+        key: key,
         links: links,
         spare: 0,
     });

@@ -12,19 +12,19 @@ use Rattle.image.proofs.write.append_node.Reads as append-node-reads
 node-count-requires : tie.Need-node-count-requires
 node-count-requires c κs = search needs
 
--- src/nodes.rt:65:9
+-- src/nodes.rt:65:16
+add-key : tie.Need-add-key
+add-key c = search needs
+
+-- src/nodes.rt:65:15
+cast-key : tie.Need-cast-key
+cast-key c = search needs
+
+-- src/nodes.rt:66:9
 none-requires : tie.Need-none-requires
 none-requires c κs = search needs
 
--- src/nodes.rt:68:15
-add-t10 : tie.Need-add-t10
-add-t10 c = search needs
-
--- src/nodes.rt:68:14
-cast-t11 : tie.Need-cast-t11
-cast-t11 c = search needs
-
--- src/nodes.rt:66:5
+-- src/nodes.rt:67:5
 append-node-requires : tie.Need-append-node-requires
 append-node-requires c κs = search needs
 
@@ -41,9 +41,9 @@ append-body-spec =
     tie.close
     (tie.spec
     node-count-requires
+    add-key
+    cast-key
     none-requires
-    add-t10
-    cast-t11
     append-node-requires
     same-length
     returns)

@@ -1,18 +1,19 @@
+-- `nodes::body_at` meets its contract.
+-- Assumes nothing.
+use Rattle.state.proofs.NodeLaws.{in-view, body-of}
 use borrow.Author.Needs.{needs}
-use native.Mathlib.Omega.{arith}
 use Rattle.state.proofs.nodes.body_at.Statement.{statement}
 use Rattle.state.proofs.nodes.body_at.Tie as tie
-use Rattle.state.proofs.nodes.body_at.Reads as reads
-use Rattle.state.proofs.nodes.body_at.Lts as lts
-use Rattle.image.proofs.read.node_at.Reads as node-at-reads
 
--- src/nodes.rt:36:9
 node-at-requires : tie.Need-node-at-requires
-node-at-requires c κs = search needs
+node-at-requires c κs = 
+    let a = c .before in
+    (a .pre .0 .sound, in-view (a .args .image .now) (a .pre .0) (a .args .i) (a .pre .1))
 
--- src/nodes.rt:32:1
 returns : tie.Need-returns
-returns c = ?
+returns c = 
+    let a = c .before .before .before in
+    body-of (a .args .image .now) (a .pre .0) (a .args .i) (a .pre .1) (c .before .node-at .ensures)
 
 pub body-at-spec : {M : Type 1} → statement M
 body-at-spec = tie.close (tie.spec node-at-requires returns)

@@ -1,18 +1,24 @@
+-- `nodes::total` meets its contract.
+-- Assumes nothing.
+use mathlib.Core.Path.{_∙_}
+use Rattle.state.proofs.Holding.{few-nodes}
+use Rattle.state.proofs.NodeLaws.{node-count}
+use Prim.Native.Nat.{_≤_}
+use lib.ListN.{length}
+use Rattle.state.specs.State.{held}
 use native.Mathlib.Omega.{arith}
 use borrow.Author.Needs.{needs}
 use Rattle.state.proofs.nodes.total.Statement.{statement}
 use Rattle.state.proofs.nodes.total.Tie as tie
-use Rattle.state.proofs.nodes.total.Reads as reads
-use Rattle.state.proofs.nodes.total.Lts as lts
-use Rattle.image.proofs.read.node_count.Reads as node-count-reads
 
--- src/nodes.rt:29:5
 node-count-requires : tie.Need-node-count-requires
 node-count-requires c κs = search needs
 
--- src/nodes.rt:25:1
 returns : tie.Need-returns
-returns c = ?
+returns c = 
+    let a = c .before .before in
+    let e = c .node-count .ensures ∙ node-count (a .args .image .now) (a .pre) in
+    record { is = e; few = omega (arith, e, few-nodes (a .args .image .now) (a .pre)) }
 
 pub total-spec : {M : Type 1} → statement M
 total-spec = tie.close (tie.spec node-count-requires returns)

@@ -1,49 +1,66 @@
-use borrow.Author.Needs.{needs}
+-- The loop's invariant: no result before i has the label.
+-- Assumes nothing.
+use mathlib.Core.Path.{_≡_, refl, sym, ap, _∙_}
+use Prim.Native.Nat.{ℕ, _≤_, _<_, _-_}
 use native.Mathlib.Omega.{arith}
+use native.Mathlib.Nat.{zero-add}
+use mathlib.Core.Bool.{Bool, true, false}
+use lib.ListN.{length, getD}
+use lib.Dec.{eqb, ltb}
+use borrow.Author.Tests.{eq-eqb, ne-eqb}
+use Rattle.state.specs.State.{held}
+use Rattle.state.specs.Results.{noResult, hasLabel}
+use Rattle.state.proofs.ResultLaws.{Past, found, passed, nowhere}
+use borrow.Author.Needs.{needs}
 use Rattle.state.proofs.results.find.Statement.{statement}
 use Rattle.state.proofs.results.find.Tie as tie
-use Rattle.state.proofs.results.find.Reads as reads
-use Rattle.state.proofs.results.find.Lts as lts
-use Rattle.state.proofs.results.label_at.Reads as label-at-reads
-use Rattle.state.proofs.results.total.Reads as total-reads
 
 abbrev Inv-loop : tie.InvT-loop
-Inv-loop image label n i₀ i = ?
+Inv-loop image label n i₀ i = (i ≤ n) × Past (hasLabel label) (held image .results) i
 
 abbrev μ-loop : tie.MeasureT-loop
-μ-loop image label n i₀ i = ?
+μ-loop image label n i₀ i = n - i
 
--- src/results.rt:93:9
 total-requires : tie.Need-total-requires Inv-loop μ-loop
 total-requires c κs = search needs
 
--- src/results.rt:95:5
 loop-holds : tie.Need-loop-holds Inv-loop μ-loop
-loop-holds c = ?
+loop-holds c = (omega arith, sym (zero-add _))
 
--- src/results.rt:96:12
 label-at-requires : tie.Need-label-at-requires Inv-loop μ-loop
-label-at-requires c κs = search needs
+label-at-requires c κs = 
+    let l = c .before in
+    let a = l .before .before .before in
+    (a .pre, omega (arith, l .before .total .ensures .is))
 
--- src/results.rt:97:13
 returns : tie.Need-returns Inv-loop μ-loop
-returns c = ?
+returns c = 
+    let l = c .before .before .before in
+    let a = l .before .before .before in
+    let rs = held (a .args .image .now) .results in
+    let h : l .loop .i < length rs = omega (arith, l .before .total .ensures .is) in
+    found (hasLabel (a .args .label)) rs (l .loop .i) (l .loop .inv .1) noResult h (eq-eqb _ _ (sym (c .before .label-at .ensures) ∙ c .if1 .taken))
 
--- src/results.rt:99:9
 add-i : tie.Need-add-i Inv-loop μ-loop
 add-i c = search needs
 
--- src/results.rt:95:5
 loop-less : tie.Need-loop-less Inv-loop μ-loop
 loop-less c = search needs
 
--- src/results.rt:95:5
 loop-again : tie.Need-loop-again Inv-loop μ-loop
-loop-again c = ?
+loop-again c = 
+    let l = c .before .before .before in
+    let a = l .before .before .before in
+    let rs = held (a .args .image .now) .results in
+    let h : l .loop .i < length rs = omega (arith, l .before .total .ensures .is) in
+    (omega arith, passed (hasLabel (a .args .label)) rs (l .loop .i) (l .loop .inv .1) noResult h (ne-eqb _ _ (λ e. c .if1 .left (c .before .label-at .ensures ∙ e))))
 
--- src/results.rt:89:1
 returns-2 : tie.Need-returns-2 Inv-loop μ-loop
-returns-2 c = ?
+returns-2 c = 
+    let l = c .before in
+    let a = l .before .before .before in
+    let rs = held (a .args .image .now) .results in
+    l .before .total .ensures .is ∙ nowhere (hasLabel (a .args .label)) rs (l .loop .i) (l .loop .inv .1) (omega (arith, l .before .total .ensures .is)) (omega (arith, l .before .total .ensures .is))
 
 pub find-spec : {M : Type 1} → statement M
 find-spec =

@@ -1,22 +1,22 @@
-use native.Mathlib.Omega.{arith}
+-- `results::take` meets its contract.
+-- Assumes nothing.
+use Rattle.state.proofs.ResultLaws.{in-view, result-taken}
 use borrow.Author.Needs.{needs}
 use Rattle.state.proofs.results.take.Statement.{statement}
 use Rattle.state.proofs.results.take.Tie as tie
-use Rattle.state.proofs.results.take.Reads as reads
-use Rattle.state.proofs.results.take.Lts as lts
-use Rattle.image.proofs.write.remove_result.Reads as remove-result-reads
 
--- src/results.rt:138:5
 remove-result-requires : tie.Need-remove-result-requires
-remove-result-requires c κs = search needs
+remove-result-requires c κs = 
+    let a = c .before .before in
+    (a .pre .0 .sound, in-view (a .args .image .now) (a .pre .0) (a .args .i) (a .pre .1))
 
--- src/results.rt:134:1
 same-length : tie.Need-same-length
 same-length c = search needs
 
--- src/results.rt:134:1
 returns : tie.Need-returns
-returns c = ?
+returns c = 
+    let a = c .before .before .before .before .before in
+    result-taken (a .args .image .now) (a .pre .0) _ (a .args .i) (c .before .before .remove-result .ensures)
 
 pub take-spec : {M : Type 1} → statement M
 take-spec = tie.close (tie.spec remove-result-requires same-length returns)
