@@ -7,20 +7,21 @@ use native.Mathlib.Omega.{arith}
 use mathlib.Core.Bool.{Bool, true, false, cond}
 use mathlib.Core.List.{List, [], _∷_, _++_}
 use lib.Dec.{eqb, ltb}
-use lib.ListN.{length, getD, drop, drop-of-length-le}
-use lib.Seq.{drop-cons}
+use lib.ListN.{length, getD, take, drop, drop-of-length-le}
+use lib.Seq.{drop-cons, take-suc, length-take-le}
 use Rattle.graph.specs.declared.keys.Keys.{Keys}
 use Rattle.graph.specs.Packed.{listed, packed}
-use Rattle.graph.specs.Refusals.{refused, done, mapDone}
+use Rattle.graph.specs.Refusals.{Answer, refused, done, mapDone}
 use Rattle.graph.specs.Nodes.{Result, resultsFor}
 use Rattle.graph.specs.Sessions.{insert, store}
-use Rattle.graph.specs.Acceptance.{takeResult}
+use Rattle.graph.specs.Acceptance.{Claimed, takeResult}
+use Rattle.records.specs.declared.labels.Labels.{Labels}
 use Rattle.records.specs.declared.result.ResultRecord.{ResultRecord}
 use Rattle.image.specs.Layout.{view, resultRegion, blank, Written, insertAt}
 use Rattle.image.specs.Layout.{withResults as viewResults, removeAt as without}
-use Rattle.queue.specs.Flat.{find}
+use Rattle.queue.specs.Flat.{Flat, find}
 use Rattle.worksteps.specs.FlatSteps.{removeAt}
-use Rattle.valid.specs.Values.{resultOf, resultRecord}
+use Rattle.valid.specs.Values.{labelsOf, packedLabels, resultOf, resultRecord}
 use Rattle.state.specs.State.{held, Proper, Shows, withResults}
 use Rattle.state.specs.Results.{IsOutcome, noResult, resultWith, hasLabel, placeOf, takenAt}
 use Rattle.state.proofs.Holding.{ResultsStand, stands-length, stands-at, clean-at, stands-insert, stands-remove, results-stand, results-shown}
@@ -89,7 +90,7 @@ module _ (l : ℕ) where
   take-none (r ∷ rs) e = go (eqb (r .label) l) (take-none rs) e
     where
       go : (b : Bool) → (find (hasLabel l) rs ≡ length rs → takeResult l rs ≡ refused 32) → cond b zero (suc (find (hasLabel l) rs)) ≡ suc (length rs)
-          → cond b (done (record { result = r; others = rs })) (mapDone (λ c. record { result = c .result; others = r ∷ c .others }) (takeResult l rs)) ≡ refused 32
+          → cond {A = Answer Claimed} b (done (record { result = r; others = rs })) (mapDone (λ c. record { result = c .result; others = r ∷ c .others }) (takeResult l rs)) ≡ refused 32
       go true ih e = absurd (omega arith)
       go false ih e = rw (ih (omega arith))
 
@@ -139,3 +140,22 @@ module _ (s : List ℕ) (proper : Proper s) where
 
     pub result-taken : (p : ℕ) → Written (viewResults (view s) (without p (view s .results))) s t → Shows (withResults (held s) (removeAt p (held s .results))) t
     result-taken p w = rw (add-one p) at (results-shown s proper t (stands-remove resultOf resultRecord stand p) w)
+
+-- STORED ONE BY ONE: t holds what s does, with the results of the first i labels
+module _ (s each : List ℕ) (v : ℕ) (ts : List ℕ) where
+  abbrev pub Stored : ℕ → List ℕ → Type 0
+  Stored i t = Shows (withResults (held s) (store (resultsFor (take i each) v ts) (held s .results))) t
+
+  module _ (i : ℕ) (t : List ℕ) (h : i < length each) (x : Stored i t) where
+    pub stored-count : length (held t .results) ≡ i + length (held s .results)
+    stored-count =
+        ap (λ (f : Flat). length (f .results)) (x .shows)
+        ∙ length-stored v ts (take i each) (held s .results)
+        ∙ ap (λ (n : ℕ). n + length (held s .results)) (length-take-le i each (omega arith))
+
+    pub stored-next : (u : List ℕ) → Shows (withResults (held t) (insert (resultWith (getD each i 0) v ts) (held t .results))) u → Stored (i + 1) u
+    stored-next u w = rw (add-one i, take-suc each i 0 h, store-next v ts (take i each) (getD each i 0) (held s .results)) (rw (x .shows) at w)
+
+pub labels-count : (l : Labels) → l ≡ packedLabels (labelsOf l) → l .count ≡ length (labelsOf l)
+unfolding packedLabels
+labels-count l e = ap (λ (x : Labels). x .count) e

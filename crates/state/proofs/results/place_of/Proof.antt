@@ -39,7 +39,7 @@ returns c =
     let a = l .before .before .before in
     let rs = held (a .args .image .now) .results in
     let h : l .loop .i < length rs = omega (arith, l .before .total .ensures .is) in
-    found (isAbove (a .args .label)) rs (l .loop .i) (l .loop .inv .1) noResult h (lt-ltb _ _ (omega (arith, c .if1 .taken, c .before .label-at .ensures)))
+    found (isAbove (a .args .label)) rs (l .loop .i) (l .loop .inv .1) noResult h (lt-ltb (a .args .label) (getD rs (l .loop .i) noResult .label) (omega (arith, c .if1 .taken, c .before .label-at .ensures)))
 
 add-i : tie.Need-add-i Inv-loop μ-loop
 add-i c = search needs
@@ -53,7 +53,7 @@ loop-again c =
     let a = l .before .before .before in
     let rs = held (a .args .image .now) .results in
     let h : l .loop .i < length rs = omega (arith, l .before .total .ensures .is) in
-    (omega arith, passed (isAbove (a .args .label)) rs (l .loop .i) (l .loop .inv .1) noResult h (le-ltb _ _ (omega (arith, c .if1 .left, c .before .label-at .ensures))))
+    (omega arith, passed (isAbove (a .args .label)) rs (l .loop .i) (l .loop .inv .1) noResult h (le-ltb (a .args .label) (getD rs (l .loop .i) noResult .label) (omega (arith, c .if1 .left, c .before .label-at .ensures))))
 
 returns-2 : tie.Need-returns-2 Inv-loop μ-loop
 returns-2 c = 

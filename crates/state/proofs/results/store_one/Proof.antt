@@ -1,27 +1,34 @@
+-- `results::store_one` meets its contract.
+-- Assumes nothing.
+use Prim.Native.Nat.{_≤_, _<_}
 use native.Mathlib.Omega.{arith}
+use lib.ListN.{length}
+use Rattle.image.specs.Layout.{view}
+use Rattle.state.specs.State.{held}
+use Rattle.state.specs.Results.{isAbove}
+use Rattle.state.proofs.ResultLaws.{result-count, find-within, result-put}
 use borrow.Author.Needs.{needs}
 use Rattle.state.proofs.results.store_one.Statement.{statement}
 use Rattle.state.proofs.results.store_one.Tie as tie
-use Rattle.state.proofs.results.store_one.Reads as reads
-use Rattle.state.proofs.results.store_one.Lts as lts
-use Rattle.image.proofs.write.insert_result.Reads as insert-result-reads
-use Rattle.state.proofs.results.place_of.Reads as place-of-reads
 
--- src/results.rt:109:9
 place-of-requires : tie.Need-place-of-requires
 place-of-requires c κs = search needs
 
--- src/results.rt:110:5
 insert-result-requires : tie.Need-insert-result-requires
-insert-result-requires c κs = search needs
+insert-result-requires c κs = 
+    let a = c .before .before .before .before in
+    let s = a .args .image .now in
+    let e = result-count s (a .pre .0) in
+    (a .pre .0 .sound, omega (arith, e, c .before .place-of .ensures, find-within (isAbove (a .args .label)) (held s .results)), omega (arith, e))
 
--- src/results.rt:105:1
 same-length : tie.Need-same-length
 same-length c = search needs
 
--- src/results.rt:105:1
 returns : tie.Need-returns
-returns c = ?
+returns c = 
+    let a = c .before .before .before .before .before .before .before in
+    let p = c .before .before .before .before .place-of in
+    result-put (a .args .image .now) (a .pre .0) _ (p .result) (a .args .label) (a .args .value) (a .args .left) (p .ensures) (a .pre .2) (c .before .before .insert-result .ensures)
 
 pub store-one-spec : {M : Type 1} → statement M
 store-one-spec = tie.close (tie.spec place-of-requires insert-result-requires same-length returns)
