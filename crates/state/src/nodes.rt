@@ -48,12 +48,16 @@ pub fn put_body(image: &mut [u8], i: usize, value: u32, links: Keys)
     ensures { λ _. ⌜ Shows (withNodes (held (now (image .entry))) (set (held (now (image .entry)) .nodes) i (nodeWith (getD (held (now (image .entry)) .nodes) i noNode) value (listed links)))) (now (image .exit)) ⌝ }
 {
     let n = node_at(image, i);
-    put_node(image, i, NodeRecord {
-        value: value,
-        key: n.key,
-        links: links,
-        spare: 0,
-    });
+    put_node(
+        image,
+        i,
+        NodeRecord {
+            value: value,
+            key: n.key,
+            links: links,
+            spare: 0,
+        },
+    );
 }
 
 // The node of an add, in front of the others.
@@ -64,10 +68,13 @@ pub fn append_body(image: &mut [u8], value: u32)
     let n = node_count(image);
     let key = (n + 1) as u8;
     let links = Keys::none();
-    append_node(image, NodeRecord {
-        value: value,
-        key: key,
-        links: links,
-        spare: 0,
-    });
+    append_node(
+        image,
+        NodeRecord {
+            value: value,
+            key: key,
+            links: links,
+            spare: 0,
+        },
+    );
 }

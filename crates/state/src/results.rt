@@ -107,12 +107,16 @@ pub fn store_one(image: &mut [u8], label: u16, value: u32, left: Keys)
     ensures { λ _. ⌜ Shows (withResults (held (now (image .entry))) (insert (resultWith label value (listed left)) (held (now (image .entry)) .results))) (now (image .exit)) ⌝ }
 {
     let p = place_of(image, label);
-    insert_result(image, p, ResultRecord {
-        label: label,
-        value: value,
-        left: left,
-        spare: 0,
-    });
+    insert_result(
+        image,
+        p,
+        ResultRecord {
+            label: label,
+            value: value,
+            left: left,
+            spare: 0,
+        },
+    );
 }
 
 // The results of a finished operation, one for each of its labels.

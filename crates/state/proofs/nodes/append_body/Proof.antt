@@ -1,11 +1,9 @@
 -- `nodes::append_body` meets its contract.
 -- Assumes nothing.
 use mathlib.Core.Path.{ap, _∙_}
-use Prim.Native.Nat.{_+_, _<_}
+use Prim.Native.Nat.{_+_}
 use native.Mathlib.Numerals.{add-one}
 use native.Mathlib.Omega.{arith}
-use lib.ListN.{length}
-use Rattle.image.specs.Layout.{view}
 use Rattle.state.proofs.NodeLaws.{node-count, body-appended}
 use borrow.Author.Needs.{needs}
 use Rattle.state.proofs.nodes.append_body.Statement.{statement}
@@ -24,7 +22,7 @@ none-requires : tie.Need-none-requires
 none-requires c κs = search needs
 
 append-node-requires : tie.Need-append-node-requires
-append-node-requires c κs = 
+append-node-requires c κs =
     let a = c .before .before .before .before .before in
     (a .pre .0 .sound, omega (arith, node-count (a .args .image .now) (a .pre .0)))
 
@@ -32,7 +30,7 @@ same-length : tie.Need-same-length
 same-length c = search needs
 
 returns : tie.Need-returns
-returns c = 
+returns c =
     let a = c .before .before .before .before .before .before .before .before in
     let n = c .before .before .before .before .before .node-count in
     let k = ap (λ m. m + 1) (n .ensures ∙ node-count (a .args .image .now) (a .pre .0)) ∙ add-one _ in

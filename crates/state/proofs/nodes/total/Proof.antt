@@ -3,9 +3,6 @@
 use mathlib.Core.Path.{_∙_}
 use Rattle.state.proofs.Holding.{few-nodes}
 use Rattle.state.proofs.NodeLaws.{node-count}
-use Prim.Native.Nat.{_≤_}
-use lib.ListN.{length}
-use Rattle.state.specs.State.{held}
 use native.Mathlib.Omega.{arith}
 use borrow.Author.Needs.{needs}
 use Rattle.state.proofs.nodes.total.Statement.{statement}
@@ -15,7 +12,7 @@ node-count-requires : tie.Need-node-count-requires
 node-count-requires c κs = search needs
 
 returns : tie.Need-returns
-returns c = 
+returns c =
     let a = c .before .before in
     let e = c .node-count .ensures ∙ node-count (a .args .image .now) (a .pre) in
     record { is = e; few = omega (arith, e, few-nodes (a .args .image .now) (a .pre)) }

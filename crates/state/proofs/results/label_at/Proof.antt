@@ -1,17 +1,16 @@
 -- `results::label_at` meets its contract.
 -- Assumes nothing.
 use Rattle.state.proofs.ResultLaws.{in-view, outcome-of}
-use borrow.Author.Needs.{needs}
 use Rattle.state.proofs.results.label_at.Statement.{statement}
 use Rattle.state.proofs.results.label_at.Tie as tie
 
 result-at-requires : tie.Need-result-at-requires
-result-at-requires c κs = 
+result-at-requires c κs =
     let a = c .before in
     (a .pre .0 .sound, in-view (a .args .image .now) (a .pre .0) (a .args .i) (a .pre .1))
 
 returns : tie.Need-returns
-returns c = 
+returns c =
     let a = c .before .before in
     outcome-of (a .args .image .now) (a .pre .0) (a .args .i) (a .pre .1) (c .result-at .ensures) .label
 

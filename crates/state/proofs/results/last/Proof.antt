@@ -10,7 +10,7 @@ last-label-requires : tie.Need-last-label-requires
 last-label-requires c κs = search needs
 
 returns : tie.Need-returns
-returns c = 
+returns c =
     let a = c .before .before in
     c .last-label .ensures ∙ last-held (a .args .image .now) (a .pre)
 

@@ -1,12 +1,10 @@
 -- The loop's invariant: no result before i has a label above.
 -- Assumes nothing.
-use mathlib.Core.Path.{_≡_, refl, sym, ap, _∙_}
-use Prim.Native.Nat.{ℕ, _≤_, _<_, _-_}
+use mathlib.Core.Path.{sym, _∙_}
+use Prim.Native.Nat.{_≤_, _<_, _-_}
 use native.Mathlib.Omega.{arith}
 use native.Mathlib.Nat.{zero-add}
-use mathlib.Core.Bool.{Bool, true, false}
 use lib.ListN.{length, getD}
-use lib.Dec.{eqb, ltb}
 use borrow.Author.Tests.{lt-ltb, le-ltb}
 use Rattle.state.specs.State.{held}
 use Rattle.state.specs.Results.{noResult, isAbove}
@@ -28,13 +26,13 @@ loop-holds : tie.Need-loop-holds Inv-loop μ-loop
 loop-holds c = (omega arith, sym (zero-add _))
 
 label-at-requires : tie.Need-label-at-requires Inv-loop μ-loop
-label-at-requires c κs = 
+label-at-requires c κs =
     let l = c .before in
     let a = l .before .before .before in
     (a .pre, omega (arith, l .before .total .ensures .is))
 
 returns : tie.Need-returns Inv-loop μ-loop
-returns c = 
+returns c =
     let l = c .before .before .before in
     let a = l .before .before .before in
     let rs = held (a .args .image .now) .results in
@@ -48,7 +46,7 @@ loop-less : tie.Need-loop-less Inv-loop μ-loop
 loop-less c = search needs
 
 loop-again : tie.Need-loop-again Inv-loop μ-loop
-loop-again c = 
+loop-again c =
     let l = c .before .before .before in
     let a = l .before .before .before in
     let rs = held (a .args .image .now) .results in
@@ -56,7 +54,7 @@ loop-again c =
     (omega arith, passed (isAbove (a .args .label)) rs (l .loop .i) (l .loop .inv .1) noResult h (le-ltb (a .args .label) (getD rs (l .loop .i) noResult .label) (omega (arith, c .if1 .left, c .before .label-at .ensures))))
 
 returns-2 : tie.Need-returns-2 Inv-loop μ-loop
-returns-2 c = 
+returns-2 c =
     let l = c .before in
     let a = l .before .before .before in
     let rs = held (a .args .image .now) .results in

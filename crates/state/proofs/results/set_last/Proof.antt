@@ -12,7 +12,7 @@ same-length : tie.Need-same-length
 same-length c = search needs
 
 returns : tie.Need-returns
-returns c = 
+returns c =
     let a = c .before .before .before .before .before in
     last-shown (a .args .image .now) (a .pre) _ (c .before .before .set-last .ensures)
 

@@ -1,12 +1,11 @@
 -- The loop's invariant: the results of the first i labels are stored.
 -- Assumes nothing.
 use mathlib.Core.Path.{_≡_, refl, sym, _∙_}
-use Prim.Native.Nat.{_+_, _≤_, _<_, _-_}
+use Prim.Native.Nat.{_+_, _≤_, _-_}
 use native.Mathlib.Omega.{arith}
 use lib.ListN.{length, length-take}
 use Rattle.graph.specs.Packed.{listed}
 use Rattle.state.specs.State.{held}
-use Rattle.valid.specs.Values.{labelsOf}
 use Rattle.state.proofs.ResultLaws.{Stored, stored-count, stored-next, labels-count}
 use borrow.Author.Needs.{needs}
 use Rattle.state.proofs.results.store_all.Statement.{statement}
@@ -44,7 +43,7 @@ array-read-l : tie.Need-array-read-l Inv-loop μ-loop
 array-read-l c = omega (arith, within (c .before .before .before .before .before))
 
 store-one-requires : tie.Need-store-one-requires Inv-loop μ-loop
-store-one-requires c κs = 
+store-one-requires c κs =
     let l = c .before .before in
     let a = l .before .before .before .before in
     let h = within a in
@@ -57,19 +56,20 @@ loop-less : tie.Need-loop-less Inv-loop μ-loop
 loop-less c = search needs
 
 loop-again : tie.Need-loop-again Inv-loop μ-loop
-loop-again c = 
+loop-again c =
     let l = c .before .before .before .before .before in
-    let a = l .before .before .before .before in
-    (omega arith,
-    stored-next (a .args .image .now) (a .args .labels .label) (a .args .value) (listed (a .args .left)) (l .loop .i) (l .loop .image) (omega (arith, within a, four a)) (l .loop .inv .1) _ (c .before .before .store-one .ensures))
+    let a = l .before .before .before .before in (
+      omega arith,
+      stored-next (a .args .image .now) (a .args .labels .label) (a .args .value) (listed (a .args .left)) (l .loop .i) (l .loop .image) (omega (arith, within a, four a)) (l .loop .inv .1) _ (c .before .before .store-one .ensures),
+    )
 
 same-length : tie.Need-same-length Inv-loop μ-loop
-same-length c = 
+same-length c =
     let l = c .before in
     l .loop .inv .1 .proper .sound .size ∙ sym (l .before .before .before .before .pre .0 .sound .size)
 
 returns : tie.Need-returns Inv-loop μ-loop
-returns c = 
+returns c =
     let l = c .before in
     let end : l .loop .i ≡ l .before .before .before .before .args .labels .count = omega arith in
     rw end at (l .loop .inv .1)

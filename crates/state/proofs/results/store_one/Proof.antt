@@ -1,9 +1,6 @@
 -- `results::store_one` meets its contract.
 -- Assumes nothing.
-use Prim.Native.Nat.{_≤_, _<_}
 use native.Mathlib.Omega.{arith}
-use lib.ListN.{length}
-use Rattle.image.specs.Layout.{view}
 use Rattle.state.specs.State.{held}
 use Rattle.state.specs.Results.{isAbove}
 use Rattle.state.proofs.ResultLaws.{result-count, find-within, result-put}
@@ -15,7 +12,7 @@ place-of-requires : tie.Need-place-of-requires
 place-of-requires c κs = search needs
 
 insert-result-requires : tie.Need-insert-result-requires
-insert-result-requires c κs = 
+insert-result-requires c κs =
     let a = c .before .before .before .before in
     let s = a .args .image .now in
     let e = result-count s (a .pre .0) in
@@ -25,7 +22,7 @@ same-length : tie.Need-same-length
 same-length c = search needs
 
 returns : tie.Need-returns
-returns c = 
+returns c =
     let a = c .before .before .before .before .before .before .before in
     let p = c .before .before .before .before .place-of in
     result-put (a .args .image .now) (a .pre .0) _ (p .result) (a .args .label) (a .args .value) (a .args .left) (p .ensures) (a .pre .2) (c .before .before .insert-result .ensures)

@@ -3,9 +3,6 @@
 use mathlib.Core.Path.{_∙_}
 use Rattle.state.proofs.Holding.{few-results}
 use Rattle.state.proofs.ResultLaws.{result-count}
-use Prim.Native.Nat.{_≤_}
-use lib.ListN.{length}
-use Rattle.state.specs.State.{held}
 use native.Mathlib.Omega.{arith}
 use borrow.Author.Needs.{needs}
 use Rattle.state.proofs.results.total.Statement.{statement}
@@ -15,7 +12,7 @@ result-count-requires : tie.Need-result-count-requires
 result-count-requires c κs = search needs
 
 returns : tie.Need-returns
-returns c = 
+returns c =
     let a = c .before .before in
     let e = c .result-count .ensures ∙ result-count (a .args .image .now) (a .pre) in
     record { is = e; few = omega (arith, e, few-results (a .args .image .now) (a .pre)) }
