@@ -1,1 +1,3 @@
 // The flat session in the image, read and written in place.
+pub mod operation;
+pub mod ops;
