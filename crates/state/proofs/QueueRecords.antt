@@ -4,23 +4,22 @@ use mathlib.Core.Path.{_≡_, refl, sym, ap, _∙_}
 use Prim.Native.Nat.{ℕ, zero, suc, _≤_}
 use native.Mathlib.Omega.{arith}
 use mathlib.Core.Bool.{Bool, true, false, cond, not, true≢false}
-use mathlib.Core.List.{List, []}
+use mathlib.Core.List.{[]}
 use lib.Dec.{eqb}
 use lib.ListN.{getD}
 use Rattle.graph.specs.Acts.{isMap}
-use Rattle.graph.specs.Nodes.{Op}
 use Rattle.graph.specs.OneAtATime.{Labelled, addOf, opOf}
 use Rattle.graph.specs.Packed.{listed, packed}
 use Rattle.graph.specs.declared.act.Act.{Act}
 use Rattle.graph.specs.declared.act.Act.the-variants.{Map, Link, Unlink, Sum, Top, Pick, Near}
 use Rattle.graph.specs.declared.keys.Keys.{Keys}
 use Rattle.graph.proofs.KeyLaws.{listed-packed, normal}
-use Rattle.queue.specs.Flat.{Tagged, isOp, carried}
+use Rattle.queue.specs.Flat.{Tagged, isOp}
 use Rattle.queue.proofs.Places.{by-bool}
 use Rattle.worksteps.specs.FlatSteps.{moveTo, openAs, opIn}
 use Rattle.records.specs.declared.labels.Labels.{Labels}
 use Rattle.records.specs.declared.op.OpRecord.{OpRecord}
-use Rattle.valid.specs.Values.{Fields, actOf, heldOf, fieldsOf, callOf, taggedOf, callRecord, taggedRecord, labelsOf, packedLabels}
+use Rattle.valid.specs.Values.{Fields, actOf, heldOf, fieldsOf, callOf, taggedOf, callRecord, taggedRecord, labelsOf}
 use Rattle.state.specs.declared.operation.Operation.{Operation}
 use Rattle.state.specs.Operations.{opValue, Normal, Carries, Lists, Reads}
 
@@ -49,8 +48,11 @@ map-holds (suc (suc (suc (suc (suc (suc (suc (suc kind)))))))) key a b e = absur
 
 -- RECORDS READ
 module _ (r : OpRecord) where
-  pub is-add : eqb (r .kind) 0 ≡ not (isOp (callOf r))
-  is-add = by-bool (eqb (r .kind) 0) (λ e. rw e refl) (λ e. rw e refl)
+  pub is-add : {x : Tagged} → Reads x r → eqb (r .kind) 0 ≡ not (isOp (x .call))
+  is-add h = by-bool (eqb (r .kind) 0) (λ e. rw e refl) (λ e. rw e refl) ∙ ap (λ (x : Tagged). not (isOp (x .call))) (sym (h .is))
+
+  pub add-of : eqb (r .kind) 0 ≡ true → callOf r ≡ addOf (getD (r .labels .label) 0 0) (r .b)
+  add-of e = rw e refl
 
   module _ (clean : taggedRecord (taggedOf r) ≡ r) where
     -- an add has no targets, and its record none
@@ -61,9 +63,6 @@ module _ (r : OpRecord) where
         let none : r .targets ≡ packed [] = sym (ap (λ (x : OpRecord). x .targets) (rw e at clean)) in
         record { is = rw e (ap listed none ∙ listed-packed []); keys = normal [] none })
         (λ e. record { is = rw e refl; keys = sym (ap (λ (x : OpRecord). x .targets) (rw e at clean)) })
-
-    pub add-of : eqb (r .kind) 0 ≡ true → callOf r ≡ addOf (getD (r .labels .label) 0 0) (r .b)
-    add-of e = rw e refl
 
     pub operation-of : eqb (r .kind) 0 ≡ false
         → Carries (callOf r) (record { act = actOf (r .kind) (r .key) (r .a) (r .b); held = heldOf (r .kind) (r .b); targets = r .targets; labels = r .labels })

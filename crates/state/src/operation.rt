@@ -62,13 +62,48 @@ pub fn fields_of(act: Act, held: u32) -> ActFields
     ensures { λ r. ⌜ fieldsValue r ≡ fieldsOf act held ⌝ }
 {
     match act {
-        Act::Map(m) => ActFields { kind: 1, key: 0, a: m.a, b: m.b },
-        Act::Link(k) => ActFields { kind: 2, key: k, a: 0, b: held },
-        Act::Unlink(k) => ActFields { kind: 3, key: k, a: 0, b: held },
-        Act::Sum => ActFields { kind: 4, key: 0, a: 0, b: held },
-        Act::Top => ActFields { kind: 5, key: 0, a: 0, b: held },
-        Act::Pick => ActFields { kind: 6, key: 0, a: 0, b: held },
-        Act::Near(k) => ActFields { kind: 7, key: k, a: 0, b: held },
+        Act::Map(m) => ActFields {
+            kind: 1,
+            key: 0,
+            a: m.a,
+            b: m.b,
+        },
+        Act::Link(k) => ActFields {
+            kind: 2,
+            key: k,
+            a: 0,
+            b: held,
+        },
+        Act::Unlink(k) => ActFields {
+            kind: 3,
+            key: k,
+            a: 0,
+            b: held,
+        },
+        Act::Sum => ActFields {
+            kind: 4,
+            key: 0,
+            a: 0,
+            b: held,
+        },
+        Act::Top => ActFields {
+            kind: 5,
+            key: 0,
+            a: 0,
+            b: held,
+        },
+        Act::Pick => ActFields {
+            kind: 6,
+            key: 0,
+            a: 0,
+            b: held,
+        },
+        Act::Near(k) => ActFields {
+            kind: 7,
+            key: k,
+            a: 0,
+            b: held,
+        },
     }
 }
 

@@ -15,7 +15,7 @@ use records::op::OpRecord;
 ghost use mathlib.Core.Path.{_≡_};
 ghost use mathlib.Core.Bool.{true, false, not};
 ghost use mathlib.Core.List.{[], _∷_, _++_};
-ghost use Prim.Native.Nat.{_<_, _≤_};
+ghost use Prim.Native.Nat.{_<_};
 ghost use lib.ListN.{length, getD, set};
 ghost use Rattle.graph.specs.OneAtATime.{addOf, opOf};
 ghost use Rattle.queue.specs.Flat.{isOp, find, atPlace, breaks, endOf};
@@ -86,7 +86,10 @@ pub fn add_at(image: &[u8], i: usize) -> Added
     let r = record_at(image, i);
     let labels = r.labels;
     let label = labels.label;
-    Added { label: label[0], value: r.b }
+    Added {
+        label: label[0],
+        value: r.b,
+    }
 }
 
 // The first operation of station k, or the queue's end.

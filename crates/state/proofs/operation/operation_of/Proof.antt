@@ -1,6 +1,5 @@
 -- The fields of the record, each read.
 -- Assumes nothing.
-use mathlib.Core.Path.{sym}
 use Rattle.state.proofs.QueueRecords.{operation-of}
 use borrow.Author.Needs.{needs}
 use Rattle.state.proofs.operation.operation_of.Statement.{statement}

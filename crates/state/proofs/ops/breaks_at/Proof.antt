@@ -1,27 +1,22 @@
-use native.Mathlib.Omega.{arith}
+-- A station other than k breaks the unit, and so does a mark.
+-- Assumes nothing.
+use mathlib.Core.Path.{sym, _∙_}
+use borrow.Author.Tests.{eq-eqb, ne-eqb}
 use borrow.Author.Needs.{needs}
 use Rattle.state.proofs.ops.breaks_at.Statement.{statement}
 use Rattle.state.proofs.ops.breaks_at.Tie as tie
-use Rattle.state.proofs.ops.breaks_at.Reads as reads
-use Rattle.state.proofs.ops.breaks_at.Lts as lts
-use Rattle.state.proofs.ops.opens_at.Reads as opens-at-reads
-use Rattle.state.proofs.ops.place_at.Reads as place-at-reads
 
--- src/ops.rt:113:8
 place-at-requires : tie.Need-place-at-requires
 place-at-requires c κs = search needs
 
--- src/ops.rt:114:9
 returns : tie.Need-returns
-returns c = ?
+returns c = rw (ne-eqb _ _ (λ e. c .if1 .taken (c .before .place-at .ensures ∙ e)))
 
--- src/ops.rt:116:5
 opens-at-requires : tie.Need-opens-at-requires
 opens-at-requires c κs = search needs
 
--- src/ops.rt:109:1
 returns-2 : tie.Need-returns-2
-returns-2 c = ?
+returns-2 c = rw (eq-eqb _ _ (sym (c .before .before .place-at .ensures) ∙ c .before .if1 .left)) (c .opens-at .ensures)
 
 pub breaks-at-spec : {M : Type 1} → statement M
 breaks-at-spec = tie.close (tie.spec place-at-requires returns opens-at-requires returns-2)

@@ -1,18 +1,15 @@
-use native.Mathlib.Omega.{arith}
+-- Kind 0 is an add.
+-- Assumes nothing.
+use Rattle.state.proofs.QueueRecords.{is-add}
 use borrow.Author.Needs.{needs}
 use Rattle.state.proofs.ops.is_add_at.Statement.{statement}
 use Rattle.state.proofs.ops.is_add_at.Tie as tie
-use Rattle.state.proofs.ops.is_add_at.Reads as reads
-use Rattle.state.proofs.ops.is_add_at.Lts as lts
-use Rattle.state.proofs.ops.record_at.Reads as record-at-reads
 
--- src/ops.rt:61:9
 record-at-requires : tie.Need-record-at-requires
 record-at-requires c κs = search needs
 
--- src/ops.rt:57:1
 returns : tie.Need-returns
-returns c = ?
+returns c = is-add (c .before .record-at .result) (c .before .record-at .ensures)
 
 pub is-add-at-spec : {M : Type 1} → statement M
 is-add-at-spec = tie.close (tie.spec record-at-requires returns)

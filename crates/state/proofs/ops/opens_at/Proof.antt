@@ -1,18 +1,16 @@
-use native.Mathlib.Omega.{arith}
+-- The mark of the record.
+-- Assumes nothing.
+use mathlib.Core.Path.{sym, ap}
+use Rattle.queue.specs.Flat.{Tagged}
 use borrow.Author.Needs.{needs}
 use Rattle.state.proofs.ops.opens_at.Statement.{statement}
 use Rattle.state.proofs.ops.opens_at.Tie as tie
-use Rattle.state.proofs.ops.opens_at.Reads as reads
-use Rattle.state.proofs.ops.opens_at.Lts as lts
-use Rattle.state.proofs.ops.record_at.Reads as record-at-reads
 
--- src/ops.rt:53:9
 record-at-requires : tie.Need-record-at-requires
 record-at-requires c κs = search needs
 
--- src/ops.rt:49:1
 returns : tie.Need-returns
-returns c = ?
+returns c = ap (λ (x : Tagged). x .opens) (sym (c .before .record-at .ensures .is))
 
 pub opens-at-spec : {M : Type 1} → statement M
 opens-at-spec = tie.close (tie.spec record-at-requires returns)

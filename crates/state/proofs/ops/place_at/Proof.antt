@@ -1,18 +1,16 @@
-use native.Mathlib.Omega.{arith}
+-- The station of the record.
+-- Assumes nothing.
+use mathlib.Core.Path.{sym, ap}
+use Rattle.queue.specs.Flat.{Tagged}
 use borrow.Author.Needs.{needs}
 use Rattle.state.proofs.ops.place_at.Statement.{statement}
 use Rattle.state.proofs.ops.place_at.Tie as tie
-use Rattle.state.proofs.ops.place_at.Reads as reads
-use Rattle.state.proofs.ops.place_at.Lts as lts
-use Rattle.state.proofs.ops.record_at.Reads as record-at-reads
 
--- src/ops.rt:45:9
 record-at-requires : tie.Need-record-at-requires
 record-at-requires c κs = search needs
 
--- src/ops.rt:41:1
 returns : tie.Need-returns
-returns c = ?
+returns c = ap (λ (x : Tagged). x .place) (sym (c .record-at .ensures .is))
 
 pub place-at-spec : {M : Type 1} → statement M
 place-at-spec = tie.close (tie.spec record-at-requires returns)

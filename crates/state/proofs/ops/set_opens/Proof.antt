@@ -1,32 +1,36 @@
-use native.Mathlib.Omega.{arith}
+-- The record with another mark.
+-- Assumes nothing.
+use mathlib.Core.Path.{sym, _∙_}
+use Rattle.worksteps.specs.FlatSteps.{openAs}
+use Rattle.valid.specs.Values.{taggedOf}
+use Rattle.state.proofs.QueueRecords.{reads-marked}
+use Rattle.state.proofs.QueueHeld.{alter-shown}
 use borrow.Author.Needs.{needs}
 use Rattle.state.proofs.ops.set_opens.Statement.{statement}
 use Rattle.state.proofs.ops.set_opens.Tie as tie
-use Rattle.state.proofs.ops.set_opens.Reads as reads
-use Rattle.state.proofs.ops.set_opens.Lts as lts
-use Rattle.state.proofs.operation.flag.Reads as flag-reads
-use Rattle.state.proofs.ops.put_record.Reads as put-record-reads
-use Rattle.state.proofs.ops.record_at.Reads as record-at-reads
 
--- src/ops.rt:155:9
 record-at-requires : tie.Need-record-at-requires
 record-at-requires c κs = search needs
 
--- src/ops.rt:156:5
 flag-requires : tie.Need-flag-requires
 flag-requires c κs = search needs
 
--- src/ops.rt:157:5
 put-record-requires : tie.Need-put-record-requires
-put-record-requires c κs = search needs
+put-record-requires c κs =
+    let start = c .before .before .before .before .before in
+    let r = c .before .before .record-at in
+    (start .pre .0, start .pre .1, rw (c .before .flag .ensures) (reads-marked (r .result) (r .ensures .clean) (start .args .b) .clean))
 
--- src/ops.rt:151:1
 same-length : tie.Need-same-length
-same-length c = search needs
+same-length c = c .before .before .put-record .ensures .proper .sound .size ∙ sym (c .before .before .before .before .before .before .before .before .pre .0 .sound .size)
 
--- src/ops.rt:151:1
 returns : tie.Need-returns
-returns c = ?
+returns c =
+    let start = c .before .before .before .before .before .before .before .before in
+    let r = c .before .before .before .before .before .record-at in
+    let m = reads-marked (r .result) (r .ensures .clean) (start .args .b) in
+    alter-shown (start .args .image .now) (start .pre .0) _ (openAs (start .args .b)) (start .args .i) (taggedOf (r .result)) (start .pre .1) (r .ensures .is)
+    (rw (m .is, sym (c .before .before .before .before .flag .ensures)) (c .before .before .put-record .ensures))
 
 pub set-opens-spec : {M : Type 1} → statement M
 set-opens-spec =

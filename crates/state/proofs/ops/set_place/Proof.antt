@@ -1,27 +1,31 @@
-use native.Mathlib.Omega.{arith}
+-- The record with another station.
+-- Assumes nothing.
+use mathlib.Core.Path.{sym, _∙_}
+use Rattle.worksteps.specs.FlatSteps.{moveTo}
+use Rattle.valid.specs.Values.{taggedOf}
+use Rattle.state.proofs.QueueRecords.{reads-stationed}
+use Rattle.state.proofs.QueueHeld.{alter-shown}
 use borrow.Author.Needs.{needs}
 use Rattle.state.proofs.ops.set_place.Statement.{statement}
 use Rattle.state.proofs.ops.set_place.Tie as tie
-use Rattle.state.proofs.ops.set_place.Reads as reads
-use Rattle.state.proofs.ops.set_place.Lts as lts
-use Rattle.state.proofs.ops.put_record.Reads as put-record-reads
-use Rattle.state.proofs.ops.record_at.Reads as record-at-reads
 
--- src/ops.rt:146:9
 record-at-requires : tie.Need-record-at-requires
 record-at-requires c κs = search needs
 
--- src/ops.rt:148:5
 put-record-requires : tie.Need-put-record-requires
-put-record-requires c κs = search needs
+put-record-requires c κs =
+    let start = c .before .before .before .before in
+    let r = c .before .record-at in
+    (start .pre .0, start .pre .1, reads-stationed (r .result) (r .ensures .clean) (start .args .k) .clean)
 
--- src/ops.rt:142:1
 same-length : tie.Need-same-length
-same-length c = search needs
+same-length c = c .before .before .put-record .ensures .proper .sound .size ∙ sym (c .before .before .before .before .before .before .before .pre .0 .sound .size)
 
--- src/ops.rt:142:1
 returns : tie.Need-returns
-returns c = ?
+returns c =
+    let start = c .before .before .before .before .before .before .before in
+    let r = c .before .before .before .before .record-at in
+    alter-shown (start .args .image .now) (start .pre .0) _ (moveTo (start .args .k)) (start .args .i) (taggedOf (r .result)) (start .pre .1) (r .ensures .is) (c .before .before .put-record .ensures)
 
 pub set-place-spec : {M : Type 1} → statement M
 set-place-spec = tie.close (tie.spec record-at-requires put-record-requires same-length returns)
