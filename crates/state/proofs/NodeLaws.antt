@@ -41,8 +41,7 @@ module _ (s : List ℕ) (proper : Proper s) where
         record {
           key = ap (λ (y : Node). y .key) n;
           value = ap (λ (y : Node). y .value) n;
-          links = ap (λ (y : Node). y .links) n;
-          normal = sym (ap (λ (y : NodeRecord). y .links) clean);
+          links = record { is = ap (λ (y : Node). y .links) n; keys = sym (ap (λ (y : NodeRecord). y .links) clean) };
         }
 
     pub body-put : {r : NodeRecord} (t : List ℕ) (v : ℕ) (ls : Keys) → r ≡ getD (view s .nodes) i (blank nodeRegion) → ls ≡ packed (listed ls)

@@ -7,8 +7,8 @@ use native.Mathlib.Omega.{arith}
 use mathlib.Core.Bool.{Bool, true, false, cond}
 use mathlib.Core.List.{List, [], _∷_, _++_}
 use lib.Dec.{eqb, ltb}
-use lib.ListN.{length, getD, take, drop, drop-of-length-le}
-use lib.Seq.{drop-cons, take-suc, length-take-le}
+use lib.ListN.{length, getD, take}
+use lib.Seq.{take-suc, length-take-le}
 use Rattle.graph.specs.declared.keys.Keys.{Keys}
 use Rattle.graph.specs.Packed.{listed, packed}
 use Rattle.graph.specs.Refusals.{Answer, refused, done, mapDone}
@@ -26,7 +26,6 @@ use Rattle.state.specs.State.{held, Proper, Shows, withResults}
 use Rattle.state.specs.Results.{IsOutcome, noResult, resultWith, hasLabel, placeOf, takenAt}
 use Rattle.state.proofs.Holding.{ResultsStand, stands-length, stands-at, clean-at, stands-insert, stands-remove, results-stand, results-shown}
 
--- INDEX OF THE FIRST
 module _ {A : Type 0} (p : A → Bool) where
   pub find-within : (l : List A) → find p l ≤ length l
   find-within [] = omega arith
@@ -35,26 +34,6 @@ module _ {A : Type 0} (p : A → Bool) where
       go : (b : Bool) {n m : ℕ} → n ≤ m → cond b zero (suc n) ≤ suc m
       go true h = omega arith
       go false h = omega arith
-
-  -- what a loop knows at i: it is not before i
-  abbrev pub Past : List A → ℕ → Type 0
-  Past l i = find p l ≡ i + find p (drop i l)
-
-  module _ (l : List A) (i : ℕ) (past : Past l i) where
-    pub found : (d : A) → i < length l → p (getD l i d) ≡ true → i ≡ find p l
-    found d h e =
-        let here : find p (drop i l) ≡ 0 = rw (drop-cons l i d h, e) in
-        omega arith
-
-    pub passed : (d : A) → i < length l → p (getD l i d) ≡ false → Past l (i + 1)
-    passed d h e =
-        let next : find p (drop i l) ≡ suc (find p (drop (i + 1) l)) = rw (drop-cons l i d h, e, add-one) in
-        omega arith
-
-    pub nowhere : length l ≤ i → i ≤ length l → length l ≡ find p l
-    nowhere h g =
-        let end : find p (drop i l) ≡ 0 = rw (drop-of-length-le l h) in
-        omega arith
 
 -- BY LABEL
 pub insert-place : (r : Result) (rs : List Result) → insertAt (placeOf (r .label) rs) r rs ≡ insert r rs
@@ -126,8 +105,7 @@ module _ (s : List ℕ) (proper : Proper s) where
         record {
           label = ap (λ (y : Result). y .label) n;
           value = ap (λ (y : Result). y .value) n;
-          left = ap (λ (y : Result). y .left) n;
-          normal = sym (ap (λ (y : ResultRecord). y .left) clean);
+          left = record { is = ap (λ (y : Result). y .left) n; keys = sym (ap (λ (y : ResultRecord). y .left) clean) };
         }
 
   module _ (t : List ℕ) where

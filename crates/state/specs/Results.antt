@@ -1,37 +1,30 @@
 -- What is read of the nodes and of the results, and where a label stands among the results.
 -- Assumes nothing.
-use Prim.Native.Nat.{ℕ, _≤_}
+use Prim.Native.Nat.{ℕ}
 use mathlib.Core.Path.{_≡_}
 use mathlib.Core.Bool.{Bool}
 use mathlib.Core.List.{List, []}
 use lib.Dec.{eqb, ltb}
 use lib.ListN.{getD}
-use Rattle.graph.specs.Packed.{listed, packed}
 use Rattle.graph.specs.Nodes.{Node, Result}
 use Rattle.graph.specs.Acceptance.{Claimed}
 use Rattle.queue.specs.Flat.{find}
 use Rattle.worksteps.specs.FlatSteps.{removeAt}
 use Rattle.state.specs.declared.nodes.Body.{Body}
 use Rattle.state.specs.declared.results.Outcome.{Outcome}
-
--- a number of nodes or of results
-pub record Total (n r : ℕ) : Type 0 where
-  pub is : r ≡ n
-  pub few : r ≤ 64
+use Rattle.state.specs.Operations.{Lists}
 
 -- the struct of a node
 pub record IsBody (n : Node) (r : Body) : Type 0 where
   pub key : r .key ≡ n .key
   pub value : r .value ≡ n .value
-  pub links : listed (r .links) ≡ n .links
-  pub normal : r .links ≡ packed (listed (r .links))
+  pub links : Lists (n .links) (r .links)
 
 -- the struct of a result
 pub record IsOutcome (x : Result) (r : Outcome) : Type 0 where
   pub label : r .label ≡ x .label
   pub value : r .value ≡ x .value
-  pub left : listed (r .left) ≡ x .left
-  pub normal : r .left ≡ packed (listed (r .left))
+  pub left : Lists (x .left) (r .left)
 
 abbrev pub nodeWith : Node → ℕ → List ℕ → Node
 nodeWith n v ls = record { key = n .key; value = v; links = ls }

@@ -12,8 +12,9 @@ ghost use lib.ListN.{length, getD, set};
 ghost use Rattle.graph.specs.Packed.{listed, packed};
 ghost use Rattle.graph.specs.Nodes.{newNode};
 ghost use Rattle.worksteps.specs.FlatSteps.{noNode};
+ghost use Rattle.state.specs.Operations.{Bounded};
 ghost use Rattle.state.specs.State.{held, Proper, Shows, withNodes};
-ghost use Rattle.state.specs.Results.{Total, IsBody, nodeWith};
+ghost use Rattle.state.specs.Results.{IsBody, nodeWith};
 
 // A node's key, value and links.
 pub struct Body {
@@ -24,7 +25,7 @@ pub struct Body {
 
 pub fn total(image: &[u8]) -> usize
     requires { ⌜ Proper (now image) ⌝ }
-    ensures { λ r. ⌜ Total (length (held (now (image .entry)) .nodes)) r ⌝ }
+    ensures { λ r. ⌜ Bounded (length (held (now (image .entry)) .nodes)) 64 r ⌝ }
 {
     node_count(image)
 }

@@ -17,8 +17,9 @@ ghost use Rattle.graph.specs.Sessions.{insert, store};
 ghost use Rattle.queue.specs.Flat.{find};
 ghost use Rattle.worksteps.specs.FlatSteps.{removeAt};
 ghost use Rattle.valid.specs.Values.{labelsOf, packedLabels};
+ghost use Rattle.state.specs.Operations.{Bounded};
 ghost use Rattle.state.specs.State.{held, Proper, Shows, withResults, withLast};
-ghost use Rattle.state.specs.Results.{Total, IsOutcome, noResult, resultWith, hasLabel, placeOf};
+ghost use Rattle.state.specs.Results.{IsOutcome, noResult, resultWith, hasLabel, placeOf};
 
 // A result's label, its value, and the keys that it left unstruck.
 pub struct Outcome {
@@ -29,7 +30,7 @@ pub struct Outcome {
 
 pub fn total(image: &[u8]) -> usize
     requires { ⌜ Proper (now image) ⌝ }
-    ensures { λ r. ⌜ Total (length (held (now (image .entry)) .results)) r ⌝ }
+    ensures { λ r. ⌜ Bounded (length (held (now (image .entry)) .results)) 64 r ⌝ }
 {
     result_count(image)
 }

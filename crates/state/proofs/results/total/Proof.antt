@@ -15,7 +15,7 @@ returns : tie.Need-returns
 returns c =
     let a = c .before .before in
     let e = c .result-count .ensures ∙ result-count (a .args .image .now) (a .pre) in
-    record { is = e; few = omega (arith, e, few-results (a .args .image .now) (a .pre)) }
+    record { is = e; within = omega (arith, e, few-results (a .args .image .now) (a .pre)) }
 
 pub total-spec : {M : Type 1} → statement M
 total-spec = tie.close (tie.spec result-count-requires returns)
