@@ -6,7 +6,7 @@ use native.Mathlib.Omega.{arith}
 use mathlib.Core.List.{List, [], _∷_, _++_, map}
 use lib.ListN.{length, getD, set, take, drop, length-map}
 use Rattle.graph.specs.Nodes.{Node, Result}
-use Rattle.queue.specs.Flat.{Tagged, Flat}
+use Rattle.queue.specs.Flat.{Tagged}
 use Rattle.worksteps.specs.FlatSteps.{withQueue}
 use Rattle.records.specs.declared.node.NodeRecord.{NodeRecord}
 use Rattle.records.specs.declared.op.OpRecord.{OpRecord}
