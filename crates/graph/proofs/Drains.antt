@@ -1,7 +1,7 @@
 -- While a call is pending a step is allowed; drain takes such steps, one by one, and ends with none pending.
 -- Assumes nothing.
 use mathlib.Core.Path.{_≡_, refl, sym, _∙_, ap, ap₂}
-use Prim.Native.Nat.{ℕ, zero, suc, _+_, _≤_, _<_}
+use Prim.Native.Nat.{ℕ, zero, suc, _+_, _*_, _≤_, _<_}
 use native.Mathlib.Omega.{arith}
 use mathlib.Core.Bool.{Bool, true, false, not, _||_, true≢false, or-true}
 use mathlib.Core.List.{List, [], _∷_, _++_}
@@ -13,11 +13,11 @@ use Rattle.graph.specs.Refusals.{Answer, refused, done, mapDone}
 use Rattle.graph.specs.KeyLists.{isNil, contains}
 use Rattle.graph.specs.Nodes.{Node, Op, Result, hits}
 use Rattle.graph.specs.OneAtATime.{Labelled, addOf, opOf}
-use Rattle.graph.specs.Sessions.{Station, station, Session, labelsOfUnit, labelsOfUnits, labelsOfStations, labelsOfCalls, pending}
+use Rattle.graph.specs.Sessions.{Station, station, Session, labelsOfUnit, labelsOfUnits, labelsOfStations, labelsOfCalls, labelsOfResults, pending}
 use Rattle.graph.specs.Steps.{Step, admit, realise, move, finish, join, split, swap, fuse, step, anyHits}
 use Rattle.graph.specs.Allowed.{fromKey, anyFinishes, rule, allowed}
-use Rattle.graph.specs.Drain.{orHere, backmost, Taken, taking, orElse, drainStepAt, drainStep, Drained, drainOn, drainFor, weightOf, drain}
-use Rattle.graph.specs.Valid.{Each, ValidUnit, ValidStation, ValidCall, KeysFall, Valid}
+use Rattle.graph.specs.Drain.{orHere, backmost, Taken, taking, orElse, drainStepAt, drainStep, Drained, drainOn, drainFor, weightOfUnit, weightOfUnits, weightOfStations, weightOfCalls, weightOf, drain}
+use Rattle.graph.specs.Valid.{Each, ValidOp, ValidUnit, ValidStation, ValidCall, KeysFall, Valid}
 use Rattle.graph.specs.Runs.{workSteps, stepAll, Progress}
 use Rattle.graph.proofs.Answers.{Holds, refuses, holds, holds-at, isDone, isDone-map, or-left, eqb-same}
 use Rattle.graph.proofs.Effects.{costs}
@@ -260,3 +260,54 @@ drain-ends s g = resting-pending _ (ends-for (suc (weightOf s)) s g (omega arith
 
 pub drain-drains : (s : Session) → Valid s → Drains s (drain s)
 drain-drains s g = drains-for (suc (weightOf s)) s g
+
+-- STEP BY STEP: what drain comes to after one of its steps, and where it takes none
+enough : (n m : ℕ) (s : Session) → Valid s → weightOf s < n → weightOf s < m → drainFor n s ≡ drainFor m s
+enough zero m s g h k = absurd (omega arith)
+enough (suc n) zero s g h k = absurd (omega arith)
+enough (suc n) (suc m) s g h k = go (drainStep s) (drain-took s) (enough n m)
+  where
+    go : (x : Answer Taken) → Holds (Took s) x → ((u : Session) → Valid u → weightOf u < n → weightOf u < m → drainFor n u ≡ drainFor m u) → drainOn (drainFor n) x s ≡ drainOn (drainFor m) x s
+    go (refused r) j ih = refl
+    go (done t) (holds j) ih =
+        let x = next s g t j in
+        let e : drainFor n (t .to) ≡ drainFor m (t .to) = ih (t .to) (x .valid) (omega (arith, x .lighter)) (omega (arith, x .lighter)) in
+        λ i. record { end = (e i) .end; took = t .what ∷ (e i) .took }
+
+pub drain-next : (s : Session) → Valid s → (t : Taken) → drainStep s ≡ done t → drain s ≡ record { end = (drain (t .to)) .end; took = t .what ∷ (drain (t .to)) .took }
+drain-next s g t e =
+    let x = next s g t (holds-at (rw e at (drain-took s))) in
+    let f : drainFor (weightOf s) (t .to) ≡ drain (t .to) = enough (weightOf s) (suc (weightOf (t .to))) (t .to) (x .valid) (omega (arith, x .lighter)) (omega arith) in
+    ap (λ (y : Answer Taken). drainOn (drainFor (weightOf s)) y s) e ∙ (λ i. record { end = (f i) .end; took = t .what ∷ (f i) .took })
+
+pub drain-rests : (s : Session) (r : ℕ) → drainStep s ≡ refused r → drain s ≡ record { end = s; took = [] }
+drain-rests s r e = ap (λ (y : Answer Taken). drainOn (drainFor (weightOf s)) y s) e
+
+-- BOUND: a valid session weighs at most 73 for each live label
+unit-bound : (d : ℕ) (os : List Op) → d ≤ 63 → Each ValidOp os → weightOfUnit d os ≤ 73 * length (labelsOfUnit os)
+unit-bound d [] h g = omega arith
+unit-bound d (o ∷ os) h g = omega (arith, unit-bound d os h (g .1), g .0 .named, g .0 .targets .few, length-append (o .labels) (labelsOfUnit os))
+
+units-bound : (d : ℕ) (us : List (List Op)) → d ≤ 63 → Each ValidUnit us → weightOfUnits d us ≤ 73 * length (labelsOfUnits us)
+units-bound d [] h g = omega arith
+units-bound d (u ∷ us) h g = omega (arith, unit-bound d u h (g .0 .ops), units-bound d us h (g .1), length-append (labelsOfUnit u) (labelsOfUnits us))
+
+stations-bound : (ss : List Station) → length ss ≤ 64 → Each ValidStation ss → weightOfStations ss ≤ 73 * length (labelsOfStations ss)
+stations-bound [] h g = omega arith
+stations-bound (s ∷ ss) h g = omega (arith, units-bound (length ss) (s .units) (omega arith) (g .0 .units), stations-bound ss (omega arith) (g .1), length-append (labelsOfUnits (s .units)) (labelsOfStations ss))
+
+calls-bound : (cs : List Labelled) → Each ValidCall cs → weightOfCalls cs ≤ 73 * length (labelsOfCalls cs)
+calls-bound [] g = omega arith
+calls-bound (addOf l v ∷ cs) g = omega (arith, calls-bound cs (g .1))
+calls-bound (opOf o ∷ cs) g = omega (arith, calls-bound cs (g .1), g .0 .named, g .0 .targets .few, length-append (o .labels) (labelsOfCalls cs))
+
+pub weight-bound : (s : Session) → Valid s → weightOf s ≤ 73 * 64
+weight-bound s g =
+    omega (
+      arith,
+      stations-bound (s .stations) (omega (arith, g .room)) (g .stations),
+      calls-bound (s .topStream) (g .topStream),
+      length-append (labelsOfStations (s .stations)) (labelsOfCalls (s .topStream)),
+      length-append (pending s) (labelsOfResults (s .results)),
+      g .places,
+    )

@@ -15,13 +15,10 @@ use Rattle.graph.specs.Sessions.{Station, Session, store}
 use Rattle.graph.specs.Steps.{admit, admitted, changed, step}
 use Rattle.queue.specs.Flat.{Tagged, standing, tagUnits, queueOf, nodesOf, waiting, flat, here, atPlace, Keyed}
 use Rattle.queue.proofs.Places.{no-append, find-none, find-at, no-queue, beyond-top, length-nodes}
-use Rattle.worksteps.specs.FlatSteps.{alter, noOp, moveTo, admitCall, admitFrom, flatStep}
+use Rattle.worksteps.specs.FlatSteps.{noOp, moveTo, admitCall, admitFrom, flatStep}
+use Rattle.worksteps.proofs.Turns.{alter-seam}
 use Rattle.worksteps.proofs.Focus.{flatOf}
 use Rattle.worksteps.proofs.Heads.{tagUnits-append, remove-seam}
-
-pub alter-seam : (f : Tagged → Tagged) (D : List Tagged) (y : Tagged) (E : List Tagged) → alter (length D) f (D ++ (y ∷ E)) ≡ D ++ (f y ∷ E)
-alter-seam f [] y E = refl
-alter-seam f (x ∷ D) y E = ap (λ (r : List Tagged). x ∷ r) (alter-seam f D y E)
 
 -- a call that waits
 abbrev waits : Labelled → Tagged

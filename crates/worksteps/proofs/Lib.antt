@@ -1,3 +1,4 @@
+pub mod Turns
 pub mod Focus
 pub mod Heads
 pub mod Admits

@@ -19,7 +19,8 @@ use Rattle.queue.proofs.Places.{No, no-append, find-none, find-at, no-queue, be
 use Rattle.worksteps.specs.FlatSteps.{alter, removeAt, noOp, openAs, unitFrom, withNext, pairFrom, joinFlat, splitFlat, neighbours, swapFlat, fuseFlat, onQueue, flatStep}
 use Rattle.worksteps.proofs.Focus.{flatOf, back, Agrees, step-focus}
 use Rattle.worksteps.proofs.Heads.{regroup-at, ops-split, remove-seam, move-bridge, realise-bridge, finish-bridge}
-use Rattle.worksteps.proofs.Admits.{alter-seam, admit-bridge}
+use Rattle.worksteps.proofs.Admits.{admit-bridge}
+use Rattle.worksteps.proofs.Turns.{alter-seam}
 
 module _ (k : ℕ) (g : ℕ → ℕ → List Tagged → Answer (List Tagged)) where
   pub unit-none : (i : ℕ) (B r : List Tagged) → No (atPlace k) r → unitFrom k g i (length B) (B ++ r) ≡ refused 21
