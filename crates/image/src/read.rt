@@ -1,4 +1,5 @@
 // Counts and records, read in place.
+use records::bytes::long;
 use records::bytes::u16_at;
 use records::node::NodeRecord;
 use records::node::read_node;
@@ -10,12 +11,6 @@ ghost use mathlib.Core.Path.{_≡_};
 ghost use Prim.Native.Nat.{_<_, _≤_};
 ghost use lib.ListN.{length, getD};
 ghost use Rattle.image.specs.Layout.{Sound, view, nodeRegion, opRegion, resultRegion, blank};
-
-fn long(x: u8) -> usize
-    ensures { λ r. ⌜ r ≡ x ⌝ }
-{
-    x as usize
-}
 
 pub fn node_count(image: &[u8]) -> usize
     requires { ⌜ Sound (now image) ⌝ }
