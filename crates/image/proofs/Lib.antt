@@ -2,3 +2,4 @@ pub mod Parts
 pub mod Regions
 pub mod Moves
 pub mod Writers
+pub mod Whole

@@ -19,7 +19,7 @@ abbrev pub Bytes : List ℕ → Type 0
 Bytes s = (i : ℕ) → getD s i 0 < 256
 
 -- NUMBERS
-back16 : (v : ℕ) → v < 2 ^ 16 → le16 (bytes16 v) 0 ≡ v
+pub back16 : (v : ℕ) → v < 2 ^ 16 → le16 (bytes16 v) 0 ≡ v
 back16 v h = omega arith
 
 back32 : (v : ℕ) → v < 2 ^ 32 → le32 (bytes32 v) 0 ≡ v
@@ -31,7 +31,7 @@ low a y h = omega arith
 high : (a y : ℕ) → a < 256 → (a + y * 256) / 256 ≡ y
 high a y h = omega arith
 
-there16 : (a b : ℕ) → a < 256 → b < 256 → bytes16 (a + b * 256) ≡ a ∷ b ∷ []
+pub there16 : (a b : ℕ) → a < 256 → b < 256 → bytes16 (a + b * 256) ≡ a ∷ b ∷ []
 there16 a b ha hb =
     let b′ : b % 256 ≡ b = omega arith in
     simp (low, high, b′)

@@ -1,1 +1,6 @@
-// Stand-in: only the definitions of specs/Values.antt, until the crate lands.
+// The test of refusal 2, in place: are the bytes the image of a valid session?
+pub mod fields;
+pub mod pool;
+pub mod rows;
+pub mod session;
+pub mod spaces;
