@@ -72,6 +72,10 @@ module _ (s : List ℕ) (proper : Proper s) where
     pub shown-as : {l m : List Tagged} → l ≡ m → Shows (withQueue (held s) l) t → Shows (withQueue (held s) m) t
     shown-as e w = subst (λ (l : List Tagged). Shows (withQueue (held s) l) t) e w
 
+    pub append-as : {r : OpRecord} {x : Tagged} → Reads x r → Shows (withQueue (held s) (held s .queue ++ (taggedOf r ∷ []))) t
+        → Shows (withQueue (held s) (held s .queue ++ (x ∷ []))) t
+    append-as e w = shown-as (ap (λ (y : Tagged). held s .queue ++ (y ∷ [])) (sym (e .is))) w
+
     pub alter-shown : (f : Tagged → Tagged) (i : ℕ) (x : Tagged) → i < length (held s .queue) → getD (held s .queue) i noOp ≡ x
         → Shows (withQueue (held s) (set (held s .queue) i (f x))) t → Shows (withQueue (held s) (alter i f (held s .queue))) t
     alter-shown f i x h e w = shown-as (ap (λ (y : Tagged). set (held s .queue) i (f y)) (sym e) ∙ alter-set f (held s .queue) i noOp h) w

@@ -9,7 +9,7 @@ ghost use mathlib.Core.Bool.{true, false, cond};
 ghost use Prim.Native.Nat.{_≤_};
 ghost use lib.Dec.{eqb};
 ghost use Rattle.graph.specs.OneAtATime.{addOf, opOf};
-ghost use Rattle.valid.specs.Values.{actOf, heldOf, fieldsOf, callOf, taggedOf, taggedRecord};
+ghost use Rattle.valid.specs.Values.{actOf, heldOf, fields, fieldsOf, callOf, taggedOf, taggedRecord};
 ghost use Rattle.state.specs.Operations.{opValue, fieldsValue, Normal, Carries, Reads};
 
 // A call that visits nodes: its act, what it holds, the targets that remain, and the labels that its result is for.
@@ -58,6 +58,18 @@ pub fn held_of(kind: u8, b: u32) -> u32
     b
 }
 
+// The fields of an act other than a map.
+fn with_key(kind: u8, key: u8, held: u32) -> ActFields
+    ensures { λ r. ⌜ fieldsValue r ≡ fields kind key 0 held ⌝ }
+{
+    ActFields {
+        kind: kind,
+        key: key,
+        a: 0,
+        b: held,
+    }
+}
+
 pub fn fields_of(act: Act, held: u32) -> ActFields
     ensures { λ r. ⌜ fieldsValue r ≡ fieldsOf act held ⌝ }
 {
@@ -68,42 +80,12 @@ pub fn fields_of(act: Act, held: u32) -> ActFields
             a: m.a,
             b: m.b,
         },
-        Act::Link(k) => ActFields {
-            kind: 2,
-            key: k,
-            a: 0,
-            b: held,
-        },
-        Act::Unlink(k) => ActFields {
-            kind: 3,
-            key: k,
-            a: 0,
-            b: held,
-        },
-        Act::Sum => ActFields {
-            kind: 4,
-            key: 0,
-            a: 0,
-            b: held,
-        },
-        Act::Top => ActFields {
-            kind: 5,
-            key: 0,
-            a: 0,
-            b: held,
-        },
-        Act::Pick => ActFields {
-            kind: 6,
-            key: 0,
-            a: 0,
-            b: held,
-        },
-        Act::Near(k) => ActFields {
-            kind: 7,
-            key: k,
-            a: 0,
-            b: held,
-        },
+        Act::Link(k) => with_key(2, k, held),
+        Act::Unlink(k) => with_key(3, k, held),
+        Act::Sum => with_key(4, 0, held),
+        Act::Top => with_key(5, 0, held),
+        Act::Pick => with_key(6, 0, held),
+        Act::Near(k) => with_key(7, k, held),
     }
 }
 

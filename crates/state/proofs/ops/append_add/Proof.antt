@@ -1,10 +1,7 @@
 -- The record of the add.
 -- Assumes nothing.
-use mathlib.Core.Path.{sym, ap, _∙_}
-use mathlib.Core.List.{[], _∷_, _++_}
-use Rattle.queue.specs.Flat.{Tagged}
-use Rattle.state.specs.State.{held}
-use Rattle.state.proofs.QueueHeld.{shown-as}
+use mathlib.Core.Path.{sym, _∙_}
+use Rattle.state.proofs.QueueHeld.{append-as}
 use borrow.Author.Needs.{needs}
 use Rattle.state.proofs.ops.append_add.Statement.{statement}
 use Rattle.state.proofs.ops.append_add.Tie as tie
@@ -21,9 +18,7 @@ same-length c = c .before .before .append-record .ensures .proper .sound .size �
 returns : tie.Need-returns
 returns c =
     let start = c .before .before .before .before .before .before in
-    shown-as (start .args .image .now) (start .pre .0) _
-    (ap (λ (x : Tagged). held (start .args .image .now) .queue ++ (x ∷ [])) (sym (c .before .before .before .before .add-record .ensures .is)))
-    (c .before .before .append-record .ensures)
+    append-as (start .args .image .now) (start .pre .0) _ (c .before .before .before .before .add-record .ensures) (c .before .before .append-record .ensures)
 
 pub append-add-spec : {M : Type 1} → statement M
 append-add-spec =
