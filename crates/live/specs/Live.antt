@@ -7,7 +7,7 @@ use Rattle.graph.specs.Refusals.{Answer, refused, done, numberOf}
 use Rattle.graph.specs.Sessions.{Session}
 use Rattle.graph.specs.Valid.{Valid}
 use Rattle.queue.specs.Flat.{Flat, flat, nest}
-use Rattle.valid.specs.Values.{encode, sessionOf}
+use Rattle.valid.specs.Values.{encode}
 use Rattle.state.specs.State.{held, Proper, Shows}
 
 -- the image holds a valid session
