@@ -161,9 +161,9 @@ refused-resting s g e = go (backmost (s .stations)) refl e
         ∙ ap₂ _||_ (taking-done (realise k) s) (done-else (taking (finish k) s) _ ∙ ap₂ _||_ (taking-done (finish k) s) (taking-done (move k) s))) ∙ e))
 
 -- a step that drain takes
-record Took (s : Session) (t : Taken) : Type 0 where
-  did : step (t .what) s ≡ done (t .to)
-  cost : costs (t .what) ≡ 1
+pub record Took (s : Session) (t : Taken) : Type 0 where
+  pub did : step (t .what) s ≡ done (t .to)
+  pub cost : costs (t .what) ≡ 1
 
 taking-took : (t : Step) (s : Session) → costs t ≡ 1 → Holds (Took s) (taking t s)
 taking-took t s c = go (step t s) refl
@@ -176,7 +176,7 @@ holds-else : {A : Type 0} {P : A → Type 0} {x y : Answer A} → Holds P x → 
 holds-else refuses h = h
 holds-else (holds p) h = holds p
 
-drain-took : (s : Session) → Holds (Took s) (drainStep s)
+pub drain-took : (s : Session) → Holds (Took s) (drainStep s)
 drain-took s = go (backmost (s .stations))
   where
     go : (b : Option ℕ) → Holds (Took s) (drainStepAt b s)
@@ -213,13 +213,13 @@ drains-none : (s : Session) → Valid s → Drains s (record { end = s; took = [
 drains-none s g = record { valid = g; last = refl; lighter = omega arith; same = λ w. refl; steps = refl }
 
 -- facts of one step of cost 1 that was done
-record Next (s : Session) (u : Session) : Type 0 where
-  valid : Valid u
-  last : u .last ≡ s .last
-  lighter : 1 + weightOf u ≤ weightOf s
-  same : (w : Result → ℕ) → Same w s u
+pub record Next (s : Session) (u : Session) : Type 0 where
+  pub valid : Valid u
+  pub last : u .last ≡ s .last
+  pub lighter : 1 + weightOf u ≤ weightOf s
+  pub same : (w : Result → ℕ) → Same w s u
 
-next : (s : Session) → Valid s → (t : Taken) → Took s t → Next s (t .to)
+pub next : (s : Session) → Valid s → (t : Taken) → Took s t → Next s (t .to)
 next s g t h =
     let v : Stepped s (t .to) = done-holds (h .did) (step-valid (t .what) s g) in
     let l : Lighter (costs (t .what)) s (t .to) = done-holds (h .did) (step-lighter (t .what) s g) in

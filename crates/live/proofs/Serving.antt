@@ -26,7 +26,7 @@ use Rattle.state.specs.State.{held, Shows}
 use Rattle.live.specs.Live.{Live, Works, Serves}
 
 -- an image that shows a valid session's flat view holds that session, and is its image
-nest-shown : (s : Session) (image : List ℕ) → Valid s → held image ≡ flat s → nest (held image) ≡ s
+pub nest-shown : (s : Session) (image : List ℕ) → Valid s → held image ≡ flat s → nest (held image) ≡ s
 nest-shown s image v e = ap nest e ∙ nest-flat s (valid-keyed s v) (valid-room s v)
 
 pub shows-live : (s : Session) (image : List ℕ) → Valid s → Shows (flat s) image → Live image
