@@ -1,0 +1,20 @@
+-- `read::op_count` meets its contract.
+-- Assumes nothing.
+use mathlib.Core.Path.{sym, _∙_}
+use Rattle.image.specs.Layout.{opRegion}
+use Rattle.image.proofs.Regions.{count-of}
+use borrow.Author.Needs.{needs}
+use Rattle.image.proofs.read.op_count.Statement.{statement}
+use Rattle.image.proofs.read.op_count.Tie as tie
+
+shared-slice-read-long : tie.Need-shared-slice-read-long
+shared-slice-read-long c = search needs
+
+long-requires : tie.Need-long-requires
+long-requires c κs = search needs
+
+returns : tie.Need-returns
+returns c = c .long .ensures ∙ sym (count-of opRegion (c .before .before .before .args .image .now))
+
+pub op-count-spec : {M : Type 1} → statement M
+op-count-spec = tie.close (tie.spec shared-slice-read-long long-requires returns)

@@ -1,0 +1,68 @@
+-- `write::append_op` meets its contract.
+-- Assumes nothing.
+use mathlib.Core.Path.{refl, ap, _∙_}
+use lib.ListN.{length}
+use Rattle.records.proofs.Codecs.{op-size}
+use Rattle.image.specs.Layout.{opRegion}
+use Rattle.image.proofs.Writers.{append-change, ops-fit, ops-written}
+use borrow.Author.Needs.{needs}
+use Rattle.image.proofs.write.append_op.Statement.{statement}
+use Rattle.image.proofs.write.append_op.Tie as tie
+
+op-count-requires : tie.Need-op-count-requires
+op-count-requires c κs = search needs
+
+op-bytes-requires : tie.Need-op-bytes-requires
+op-bytes-requires c κs = search needs
+
+mul-store : tie.Need-mul-store
+mul-store c = search needs
+
+add-store : tie.Need-add-store
+add-store c = search needs
+
+slice-aggregate-store : tie.Need-slice-aggregate-store
+slice-aggregate-store c = search needs
+
+store-requires : tie.Need-store-requires
+store-requires c κs = search needs
+
+add-image : tie.Need-add-image
+add-image c = search needs
+
+cast-image : tie.Need-cast-image
+cast-image c = search needs
+
+slice-write-image : tie.Need-slice-write-image
+slice-write-image c = search needs
+
+same-length : tie.Need-same-length
+same-length c = search needs
+
+returns : tie.Need-returns
+returns c =
+    let e = c .before .before .store .ensures in
+    let b = c .before .before .before .before .before .op-bytes in
+    let m = c .before .before .before .before .before .before .op-count in
+    let start = c .before .before .before .before .before .before .before .before .before in
+    let a = start .args in
+    let sound = start .pre .0 in
+    rw (e, m .ensures)
+    (ops-written (a .image .now) sound _ _
+    (append-change opRegion (a .image .now) (ops-fit (a .image .now) sound) (b .result) (a .o) (ap length (b .ensures .bytes) ∙ op-size (a .o)) (b .ensures .back) (start .pre .1) _ refl))
+
+pub append-op-spec : {M : Type 1} → statement M
+append-op-spec =
+    tie.close
+    (tie.spec
+    op-count-requires
+    op-bytes-requires
+    mul-store
+    add-store
+    slice-aggregate-store
+    store-requires
+    add-image
+    cast-image
+    slice-write-image
+    same-length
+    returns)

@@ -1,0 +1,51 @@
+-- `write::put_node` meets its contract.
+-- Assumes nothing.
+use Rattle.image.specs.Layout.{nodeRegion}
+use Rattle.image.proofs.Writers.{put-change, nodes-fit, nodes-written}
+use mathlib.Core.Path.{ap, _∙_}
+use lib.ListN.{length}
+use Rattle.records.proofs.Codecs.{node-size}
+use borrow.Author.Needs.{needs}
+use Rattle.image.proofs.write.put_node.Statement.{statement}
+use Rattle.image.proofs.write.put_node.Tie as tie
+
+node-bytes-requires : tie.Need-node-bytes-requires
+node-bytes-requires c κs = search needs
+
+mul-store : tie.Need-mul-store
+mul-store c = search needs
+
+add-store : tie.Need-add-store
+add-store c = search needs
+
+slice-aggregate-store : tie.Need-slice-aggregate-store
+slice-aggregate-store c = search needs
+
+store-requires : tie.Need-store-requires
+store-requires c κs = search needs
+
+same-length : tie.Need-same-length
+same-length c = search needs
+
+returns : tie.Need-returns
+returns c =
+    let e = c .before .before .store .ensures in
+    let b = c .before .before .before .before .before .node-bytes in
+    let start = c .before .before .before .before .before .before .before in
+    let a = start .args in
+    let sound = start .pre .0 in
+    rw e
+    (nodes-written (a .image .now) sound _ _
+    (put-change nodeRegion (a .image .now) (nodes-fit (a .image .now) sound) (b .result) (a .n) (ap length (b .ensures .bytes) ∙ node-size (a .n)) (b .ensures .back) (a .i) (start .pre .1)))
+
+pub put-node-spec : {M : Type 1} → statement M
+put-node-spec =
+    tie.close
+    (tie.spec
+    node-bytes-requires
+    mul-store
+    add-store
+    slice-aggregate-store
+    store-requires
+    same-length
+    returns)

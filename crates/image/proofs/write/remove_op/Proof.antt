@@ -1,0 +1,75 @@
+-- `write::remove_op` meets its contract.
+-- Assumes nothing.
+use mathlib.Core.Path.{refl, _∙_}
+use lib.ListN.{length-set}
+use Rattle.image.specs.Layout.{opRegion}
+use Rattle.image.proofs.Writers.{remove-change, ops-fit, ops-written}
+use borrow.Author.Needs.{needs}
+use Rattle.image.proofs.write.remove_op.Statement.{statement}
+use Rattle.image.proofs.write.remove_op.Tie as tie
+
+op-count-requires : tie.Need-op-count-requires
+op-count-requires c κs = search needs
+
+mul-end : tie.Need-mul-end
+mul-end c = search needs
+
+add-end : tie.Need-add-end
+add-end c = search needs
+
+mul-move-down : tie.Need-mul-move-down
+mul-move-down c = search needs
+
+add-move-down : tie.Need-add-move-down
+add-move-down c = search needs
+
+move-down-requires : tie.Need-move-down-requires
+move-down-requires c κs = search needs
+
+sub-clear : tie.Need-sub-clear
+sub-clear c = search needs
+
+clear-requires : tie.Need-clear-requires
+clear-requires c κs = search needs
+
+sub-image : tie.Need-sub-image
+sub-image c = search needs
+
+cast-image : tie.Need-cast-image
+cast-image c = search needs
+
+slice-write-image : tie.Need-slice-write-image
+slice-write-image c = search needs
+
+same-length : tie.Need-same-length
+same-length c = simp length-set (c .before .before .clear .ensures .size ∙ c .before .before .before .before .before .before .move-down .ensures .size)
+
+returns : tie.Need-returns
+returns c =
+    let m = c .before .before .before .before .before .before .before .before .op-count in
+    let down = c .before .before .before .before .before .before .move-down .ensures in
+    let cleared = c .before .before .clear .ensures in
+    let start = c .before .before .before .before .before .before .before .before .before .before .before in
+    let a = start .args in
+    let sound = start .pre .0 in
+    rw (m .ensures)
+    (ops-written (a .image .now) sound _ _
+    (remove-change opRegion (a .image .now) _ _ (ops-fit (a .image .now) sound) (a .p) (start .pre .1) (rw (m .ensures) at down) (rw (m .ensures) at cleared) _ refl))
+
+pub remove-op-spec : {M : Type 1} → statement M
+remove-op-spec =
+    tie.close
+    (tie.spec
+    op-count-requires
+    mul-end
+    add-end
+    mul-move-down
+    add-move-down
+    move-down-requires
+    sub-clear
+    clear-requires
+    sub-image
+    cast-image
+    slice-write-image
+    same-length
+    returns)

@@ -1,0 +1,1 @@
+// Images that hold a valid session, definitions and laws alone: what the functions that work on them state.

@@ -1,0 +1,3 @@
+pub mod Tables
+pub mod Codecs
+pub mod Zeros

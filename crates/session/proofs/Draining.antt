@@ -1,0 +1,95 @@
+-- The step that drain takes on a flat session, by what stands at the queue's head.
+-- Assumes nothing.
+use mathlib.Core.Path.{_≡_, refl, sym, _∙_, ap}
+use Prim.Native.Nat.{ℕ, zero, suc, _-_, _≤_, _<_}
+use native.Mathlib.Omega.{arith}
+use mathlib.Core.Bool.{Bool, true, false, cond, not, _&&_, _||_, true≢false, or-true}
+use mathlib.Core.List.{List, [], _∷_}
+use mathlib.Core.Option.{Option, some}
+use lib.Dec.{eqb, ltb}
+use lib.ListN.{length, getD}
+use lib.Seq.{slice, slice-cons}
+use borrow.Author.Tests.{lt-ltb, le-ltb, eqb-true}
+use Rattle.graph.specs.Refusals.{Answer, refused, done, mapDone}
+use Rattle.graph.specs.KeyLists.{isNil}
+use Rattle.graph.specs.Steps.{Step, admit, realise, move, finish}
+use Rattle.graph.specs.Drain.{orElse}
+use Rattle.graph.proofs.Answers.{eqb-same, by-bool, or-left}
+use Rattle.queue.specs.Flat.{Tagged, Flat, find, here, atPlace, isAt, endOf}
+use Rattle.worksteps.specs.FlatSteps.{any, mapFrom, firstIn, noOp, noNode, moveTo, withQueue, opIn, hitsKey, headUnit, moveFlat, actAt, realiseFrom, realiseFlat, finishesAt, finishPlace, finishFrom, finishFlat, admitCall, known, flatStep}
+use Rattle.worksteps.specs.FlatEvents.{firstPlace, FlatTaken, flatTaking, flatDrainStepAt, flatDrainStep}
+use Rattle.worksteps.proofs.Turns.{any-first, first-stop}
+
+abbrev taken : Step → Flat → FlatTaken
+taken t f = record { what = t; to = f }
+
+-- nothing waits
+pub drain-empty : (f : Flat) → f .queue ≡ [] → flatDrainStep f ≡ refused 21
+drain-empty f e = rw e
+
+-- the first waiting call, where no operation stands at a station
+pub drain-admits : (f : Flat) (x : Tagged) (xs : List Tagged) → f .queue ≡ x ∷ xs → x .place ≡ 65 → flatDrainStep f ≡ done (taken admit (admitCall 0 (x .call) f))
+drain-admits f x xs e p = rw (e, p)
+
+module _ (f : Flat) (x : Tagged) (xs : List Tagged) (stands : f .queue ≡ x ∷ xs) (station : eqb (x .place) 65 ≡ false) (node : known (x .place) f ≡ true) where
+  abbrev k : ℕ
+  k = x .place
+
+  abbrev e : ℕ
+  e = endOf k 0 (f .queue)
+
+  abbrev p : ℕ
+  p = firstIn (hitsKey k) 0 e (f .queue)
+
+  abbrev r : ℕ
+  r = firstIn (finishesAt k) 0 e (f .queue)
+
+  -- the head unit of that station begins the queue
+  head : (g : ℕ → ℕ → Flat → Answer Flat) → headUnit k g f ≡ g 0 e f
+  head g =
+      let first : find (atPlace k) (f .queue) ≡ 0 = rw (stands, eqb-same k) in
+      let at : isAt k 0 (f .queue) ≡ true = rw stands (eqb-same k) in
+      rw (first, at)
+
+  drain-is : flatDrainStep f ≡ orElse (flatTaking (realise k) f) (orElse (flatTaking (finish k) f) (flatTaking (move k) f))
+  drain-is = let q : firstPlace (f .queue) ≡ some k = rw (stands, station) in ap (λ (b : Option ℕ). flatDrainStepAt b f) q
+
+  realise-is : flatStep (realise k) f ≡ realiseFrom k e p f
+  realise-is = rw node (head (realiseFlat k))
+
+  finish-is : flatStep (finish k) f ≡ finishFrom e r f
+  finish-is = rw node (head (finishFlat k))
+
+  move-is : flatStep (move k) f ≡ moveFlat k 0 e f
+  move-is = rw node (head (moveFlat k))
+
+  pub drain-realises : p < e → flatDrainStep f ≡ done (taken (realise k) (actAt k p (getD (f .queue) p noOp) (getD (f .nodes) (k - 1) noNode) f))
+  drain-realises h =
+      let s : flatStep (realise k) f ≡ done (actAt k p (getD (f .queue) p noOp) (getD (f .nodes) (k - 1) noNode) f) = realise-is ∙ rw (lt-ltb p e h) in
+      drain-is ∙ ap (λ (y : Answer Flat). orElse (mapDone (taken (realise k)) y) (orElse (flatTaking (finish k) f) (flatTaking (move k) f))) s
+
+  no-realise : e ≤ p → flatDrainStep f ≡ orElse (flatTaking (finish k) f) (flatTaking (move k) f)
+  no-realise h =
+      let s : flatStep (realise k) f ≡ refused 22 = realise-is ∙ rw (le-ltb p e h) in
+      drain-is ∙ ap (λ (y : Answer Flat). orElse (mapDone (taken (realise k)) y) (orElse (flatTaking (finish k) f) (flatTaking (move k) f))) s
+
+  pub drain-finishes : e ≤ p → r < e → flatDrainStep f ≡ done (taken (finish k) (finishPlace r e (getD (f .queue) r noOp) f))
+  drain-finishes h j =
+      let s : flatStep (finish k) f ≡ done (finishPlace r e (getD (f .queue) r noOp) f) = finish-is ∙ rw (lt-ltb r e j) in
+      no-realise h ∙ ap (λ (y : Answer Flat). orElse (mapDone (taken (finish k)) y) (flatTaking (move k) f)) s
+
+  -- at the last station an operation that doesn't target the node finishes
+  last-finishes : e ≤ length (f .queue) → 0 < e → e ≤ p → eqb k 1 ≡ true → r ≡ 0
+  last-finishes w z h l =
+      let hit : hitsKey k (getD (f .queue) 0 noOp) ≡ false = by-bool (hitsKey k (getD (f .queue) 0 noOp)) (λ t. absurd (omega (arith, first-stop (hitsKey k) (f .queue) e w 0 noOp z t))) (λ t. t) in
+      first-stop (finishesAt k) (f .queue) e w 0 noOp z (rw (l, hit) (or-true (isNil (opIn (getD (f .queue) 0 noOp) .targets))))
+
+  pub drain-moves : e ≤ length (f .queue) → 0 < e → e ≤ p → e ≤ r → flatDrainStep f ≡ done (taken (move k) (withQueue f (mapFrom (moveTo (k - 1)) 0 e (f .queue))))
+  drain-moves w z h j =
+      let s : flatStep (finish k) f ≡ refused 22 = finish-is ∙ rw (le-ltb r e j) in
+      let one : eqb k 1 ≡ false = by-bool (eqb k 1) (λ l. absurd (omega (arith, last-finishes w z h l))) (λ l. l) in
+      let none : any (hitsKey k) (slice 0 e (f .queue)) ≡ false = any-first (hitsKey k) (f .queue) e w 0 (omega arith) ∙ le-ltb p e h in
+      let t : flatStep (move k) f ≡ done (withQueue f (mapFrom (moveTo (k - 1)) 0 e (f .queue))) = move-is ∙ rw (one, none) in
+      no-realise h
+      ∙ ap (λ (y : Answer Flat). orElse (mapDone (taken (finish k)) y) (flatTaking (move k) f)) s
+      ∙ ap (mapDone (taken (move k))) t

@@ -1,0 +1,5 @@
+pub mod Holding
+pub mod NodeLaws
+pub mod QueueRecords
+pub mod QueueHeld
+pub mod ResultLaws

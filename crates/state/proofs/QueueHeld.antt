@@ -1,0 +1,90 @@
+-- The queue that a proper image holds: what its readers find, and what its writers show.
+-- Assumes nothing.
+use mathlib.Core.Path.{_≡_, refl, sym, ap, _∙_, subst}
+use Prim.Native.Nat.{ℕ, zero, suc, _+_, _≤_, _<_}
+use native.Mathlib.Nat.{add-zero}
+use native.Mathlib.Numerals.{add-one}
+use native.Mathlib.Omega.{arith}
+use mathlib.Core.Bool.{Bool, true, false}
+use mathlib.Core.List.{List, [], _∷_, _++_}
+use lib.ListN.{length, getD, set, take, drop, drop-of-length-le, length-set}
+use lib.Seq.{drop-cons}
+use Rattle.queue.specs.Flat.{Tagged, Flat, find}
+use Rattle.worksteps.specs.FlatSteps.{alter, removeAt, noOp, withQueue}
+use Rattle.records.specs.declared.op.OpRecord.{OpRecord}
+use Rattle.image.specs.Layout.{view, opRegion, blank, Written, withOps, removeAt as without}
+use Rattle.valid.specs.Values.{taggedOf, taggedRecord}
+use Rattle.state.specs.State.{held, Proper, Shows}
+use Rattle.state.specs.Operations.{Reads}
+use Rattle.state.proofs.Holding.{queue-stands, queue-shown, stands-length, stands-at, clean-at, stands-set, stands-append, stands-remove}
+
+-- LISTS
+module _ {A : Type 0} where
+  alter-set : (f : A → A) (l : List A) (i : ℕ) (d : A) → i < length l → set l i (f (getD l i d)) ≡ alter i f l
+  alter-set f [] i d h = absurd (omega arith)
+  alter-set f (x ∷ l) zero d h = refl
+  alter-set f (x ∷ l) (suc i) d h = ap (λ (r : List A). x ∷ r) (alter-set f l i d (omega arith))
+
+  -- a search from i on: at an element that p holds of, at another, and at the end
+  module _ (p : A → Bool) (l : List A) (i : ℕ) where
+    pub find-end : length l ≤ i → i + find p (drop i l) ≡ i
+    find-end h = rw (drop-of-length-le l h) (add-zero i)
+
+    module _ (d : A) (h : i < length l) where
+      pub find-hit : p (getD l i d) ≡ true → i + find p (drop i l) ≡ i
+      find-hit e = rw (drop-cons l i d h, e) (add-zero i)
+
+      pub find-next : p (getD l i d) ≡ false → i + 1 + find p (drop (i + 1) l) ≡ i + find p (drop i l)
+      find-next e = rw (add-one i, drop-cons l i d h, e) (omega arith)
+
+-- THE IMAGE s, READ
+module _ (s : List ℕ) (proper : Proper s) where
+  pub queue-length : length (view s .ops) ≡ length (held s .queue)
+  queue-length = stands-length taggedOf taggedRecord (queue-stands s proper)
+
+  module _ (i : ℕ) (h : i < length (held s .queue)) where
+    pub in-view : i < length (view s .ops)
+    in-view = rw queue-length h
+
+    pub reads-at : Reads (getD (held s .queue) i noOp) (getD (view s .ops) i (blank opRegion))
+    reads-at =
+        record {
+          is = stands-at taggedOf taggedRecord (queue-stands s proper) i (blank opRegion) noOp in-view;
+          clean = clean-at taggedOf taggedRecord (queue-stands s proper) i (blank opRegion) in-view;
+        }
+
+  -- AND WRITTEN: t is the image after
+  module _ (t : List ℕ) where
+    pub put-shown : (i : ℕ) (r : OpRecord) → taggedRecord (taggedOf r) ≡ r → Written (withOps (view s) (set (view s .ops) i r)) s t
+        → Shows (withQueue (held s) (set (held s .queue) i (taggedOf r))) t
+    put-shown i r e w = queue-shown s proper t (stands-set taggedOf taggedRecord (queue-stands s proper) i r e) w
+
+    pub append-shown : (r : OpRecord) → taggedRecord (taggedOf r) ≡ r → Written (withOps (view s) (view s .ops ++ (r ∷ []))) s t
+        → Shows (withQueue (held s) (held s .queue ++ (taggedOf r ∷ []))) t
+    append-shown r e w = queue-shown s proper t (stands-append taggedOf taggedRecord (queue-stands s proper) r e) w
+
+    pub remove-shown : (i : ℕ) → Written (withOps (view s) (without i (view s .ops))) s t → Shows (withQueue (held s) (removeAt i (held s .queue))) t
+    remove-shown i w =
+        subst (λ (n : ℕ). Shows (withQueue (held s) (take i (held s .queue) ++ drop n (held s .queue))) t) (add-one i)
+        (queue-shown s proper t (stands-remove taggedOf taggedRecord (queue-stands s proper) i) w)
+
+    -- the queue that is shown, said another way
+    pub shown-as : {l m : List Tagged} → l ≡ m → Shows (withQueue (held s) l) t → Shows (withQueue (held s) m) t
+    shown-as e w = subst (λ (l : List Tagged). Shows (withQueue (held s) l) t) e w
+
+    pub append-as : {r : OpRecord} {x : Tagged} → Reads x r → Shows (withQueue (held s) (held s .queue ++ (taggedOf r ∷ []))) t
+        → Shows (withQueue (held s) (held s .queue ++ (x ∷ []))) t
+    append-as e w = shown-as (ap (λ (y : Tagged). held s .queue ++ (y ∷ [])) (sym (e .is))) w
+
+    pub alter-shown : (f : Tagged → Tagged) (i : ℕ) (x : Tagged) → i < length (held s .queue) → getD (held s .queue) i noOp ≡ x
+        → Shows (withQueue (held s) (set (held s .queue) i (f x))) t → Shows (withQueue (held s) (alter i f (held s .queue))) t
+    alter-shown f i x h e w = shown-as (ap (λ (y : Tagged). set (held s .queue) i (f y)) (sym e) ∙ alter-set f (held s .queue) i noOp h) w
+
+    -- two in turn: u is the image after the second
+    module _ (i : ℕ) (x : Tagged) (first : Shows (withQueue (held s) (set (held s .queue) i x)) t) where
+      pub still-in : (j : ℕ) → j < length (held s .queue) → j < length (held t .queue)
+      still-in j h = rw (ap (λ (f : Flat). length (f .queue)) (first .shows) ∙ length-set (held s .queue) i x) h
+
+      pub twice-shown : (u : List ℕ) (j : ℕ) (y : Tagged) → Shows (withQueue (held t) (set (held t .queue) j y)) u
+          → Shows (withQueue (held s) (set (set (held s .queue) i x) j y)) u
+      twice-shown u j y w = subst (λ (f : Flat). Shows (withQueue f (set (f .queue) j y)) u) (first .shows) w

@@ -1,0 +1,139 @@
+-- The results that an image holds: by index, by label, and one more at its place.
+-- Assumes nothing.
+use mathlib.Core.Path.{_≡_, refl, sym, ap, _∙_}
+use Prim.Native.Nat.{ℕ, zero, suc, _+_, _≤_, _<_}
+use native.Mathlib.Numerals.{add-one}
+use native.Mathlib.Omega.{arith}
+use mathlib.Core.Bool.{Bool, true, false, cond}
+use mathlib.Core.List.{List, [], _∷_, _++_}
+use lib.Dec.{eqb, ltb}
+use lib.ListN.{length, getD, take}
+use lib.Seq.{take-suc, length-take-le}
+use Rattle.graph.specs.declared.keys.Keys.{Keys}
+use Rattle.graph.specs.Packed.{listed, packed}
+use Rattle.graph.specs.Refusals.{Answer, refused, done, mapDone}
+use Rattle.graph.specs.Nodes.{Result, resultsFor}
+use Rattle.graph.specs.Sessions.{insert, store}
+use Rattle.graph.specs.Acceptance.{Claimed, takeResult}
+use Rattle.records.specs.declared.labels.Labels.{Labels}
+use Rattle.records.specs.declared.result.ResultRecord.{ResultRecord}
+use Rattle.image.specs.Layout.{view, resultRegion, blank, Written, insertAt}
+use Rattle.image.specs.Layout.{withResults as viewResults, removeAt as without}
+use Rattle.queue.specs.Flat.{Flat, find}
+use Rattle.worksteps.specs.FlatSteps.{removeAt}
+use Rattle.valid.specs.Values.{labelsOf, packedLabels, resultOf, resultRecord}
+use Rattle.state.specs.State.{held, Proper, Shows, withResults}
+use Rattle.state.specs.Results.{IsOutcome, noResult, resultWith, hasLabel, placeOf, takenAt}
+use Rattle.state.proofs.Holding.{ResultsStand, stands-length, stands-at, clean-at, stands-insert, stands-remove, results-stand, results-shown}
+
+module _ {A : Type 0} (p : A → Bool) where
+  pub find-within : (l : List A) → find p l ≤ length l
+  find-within [] = omega arith
+  find-within (x ∷ xs) = go (p x) (find-within xs)
+    where
+      go : (b : Bool) {n m : ℕ} → n ≤ m → cond b zero (suc n) ≤ suc m
+      go true h = omega arith
+      go false h = omega arith
+
+-- BY LABEL
+pub insert-place : (r : Result) (rs : List Result) → insertAt (placeOf (r .label) rs) r rs ≡ insert r rs
+insert-place r [] = refl
+insert-place r (q ∷ qs) = go (ltb (r .label) (q .label)) (insert-place r qs)
+  where
+    go : (b : Bool) → insertAt (placeOf (r .label) qs) r qs ≡ insert r qs → insertAt (cond b zero (suc (placeOf (r .label) qs))) r (q ∷ qs) ≡ cond b (r ∷ q ∷ qs) (q ∷ insert r qs)
+    go true e = refl
+    go false e = ap (λ (l : List Result). q ∷ l) e
+
+length-insert : (r : Result) (rs : List Result) → length (insert r rs) ≡ suc (length rs)
+length-insert r [] = refl
+length-insert r (q ∷ qs) = go (ltb (r .label) (q .label)) (length-insert r qs)
+  where
+    go : (b : Bool) → length (insert r qs) ≡ suc (length qs) → length (cond b (r ∷ q ∷ qs) (q ∷ insert r qs)) ≡ suc (suc (length qs))
+    go true e = refl
+    go false e = ap suc e
+
+-- the results of labels, stored from the first on
+module _ (v : ℕ) (ts : List ℕ) where
+  pub store-next : (ls : List ℕ) (l : ℕ) (rs : List Result) → store (resultsFor (ls ++ (l ∷ [])) v ts) rs ≡ insert (resultWith l v ts) (store (resultsFor ls v ts) rs)
+  store-next [] l rs = refl
+  store-next (k ∷ ls) l rs = store-next ls l (insert (resultWith k v ts) rs)
+
+  pub length-stored : (ls : List ℕ) (rs : List Result) → length (store (resultsFor ls v ts) rs) ≡ length ls + length rs
+  length-stored [] rs = omega arith
+  length-stored (l ∷ ls) rs = omega (arith, length-stored ls (insert (resultWith l v ts) rs), length-insert (resultWith l v ts) rs)
+
+-- a claim takes the result at the index that was found
+module _ (l : ℕ) where
+  pub take-none : (rs : List Result) → find (hasLabel l) rs ≡ length rs → takeResult l rs ≡ refused 32
+  take-none [] e = refl
+  take-none (r ∷ rs) e = go (eqb (r .label) l) (take-none rs) e
+    where
+      go : (b : Bool) → (find (hasLabel l) rs ≡ length rs → takeResult l rs ≡ refused 32) → cond b zero (suc (find (hasLabel l) rs)) ≡ suc (length rs)
+          → cond {A = Answer Claimed} b (done (record { result = r; others = rs })) (mapDone (λ c. record { result = c .result; others = r ∷ c .others }) (takeResult l rs)) ≡ refused 32
+      go true ih e = absurd (omega arith)
+      go false ih e = rw (ih (omega arith))
+
+  pub take-some : (rs : List Result) → find (hasLabel l) rs < length rs → takeResult l rs ≡ done (takenAt (find (hasLabel l) rs) rs)
+  take-some [] h = absurd (omega arith)
+  take-some (r ∷ rs) h = go (eqb (r .label) l) (take-some rs) h
+    where
+      go : (b : Bool) → (find (hasLabel l) rs < length rs → takeResult l rs ≡ done (takenAt (find (hasLabel l) rs) rs)) → cond b zero (suc (find (hasLabel l) rs)) < suc (length rs)
+          → cond b (done (record { result = r; others = rs })) (mapDone (λ c. record { result = c .result; others = r ∷ c .others }) (takeResult l rs))
+          ≡ done (takenAt (cond b zero (suc (find (hasLabel l) rs))) (r ∷ rs))
+      go true ih h = refl
+      go false ih h = rw (ih (omega arith))
+
+-- IN THE IMAGE
+abbrev made : ℕ → ℕ → Keys → ResultRecord
+made l v ts = record { label = l; value = v; left = ts; spare = 0 }
+
+module _ (s : List ℕ) (proper : Proper s) where
+  stand : ResultsStand (view s .results) (held s .results)
+  stand = results-stand s proper
+
+  pub result-count : length (view s .results) ≡ length (held s .results)
+  result-count = stands-length resultOf resultRecord stand
+
+  module _ (i : ℕ) (h : i < length (held s .results)) where
+    pub in-view : i < length (view s .results)
+    in-view = rw result-count h
+
+    pub outcome-of : {r : ResultRecord} → r ≡ getD (view s .results) i (blank resultRegion) → IsOutcome (getD (held s .results) i noResult) (record { label = r .label; value = r .value; left = r .left })
+    outcome-of {r} e =
+        let n : resultOf r ≡ getD (held s .results) i noResult = ap resultOf e ∙ sym (stands-at resultOf resultRecord stand i (blank resultRegion) noResult in-view) in
+        let clean : resultRecord (resultOf r) ≡ r = ap (λ (y : ResultRecord). resultRecord (resultOf y)) e ∙ clean-at resultOf resultRecord stand i (blank resultRegion) in-view ∙ sym e in
+        record {
+          label = ap (λ (y : Result). y .label) n;
+          value = ap (λ (y : Result). y .value) n;
+          left = record { is = ap (λ (y : Result). y .left) n; keys = sym (ap (λ (y : ResultRecord). y .left) clean) };
+        }
+
+  module _ (t : List ℕ) where
+    pub result-put : (p l v : ℕ) (ts : Keys) → p ≡ placeOf l (held s .results) → ts ≡ packed (listed ts)
+        → Written (viewResults (view s) (insertAt p (made l v ts) (view s .results))) s t
+        → Shows (withResults (held s) (insert (resultWith l v (listed ts)) (held s .results))) t
+    result-put p l v ts e normal w =
+        rw (e, insert-place (resultWith l v (listed ts)) (held s .results)) at
+        (results-shown s proper t (stands-insert resultOf resultRecord stand p (made l v ts) (λ i. made l v (sym normal i))) w)
+
+    pub result-taken : (p : ℕ) → Written (viewResults (view s) (without p (view s .results))) s t → Shows (withResults (held s) (removeAt p (held s .results))) t
+    result-taken p w = rw (add-one p) at (results-shown s proper t (stands-remove resultOf resultRecord stand p) w)
+
+-- STORED ONE BY ONE: t holds what s does, with the results of the first i labels
+module _ (s each : List ℕ) (v : ℕ) (ts : List ℕ) where
+  abbrev pub Stored : ℕ → List ℕ → Type 0
+  Stored i t = Shows (withResults (held s) (store (resultsFor (take i each) v ts) (held s .results))) t
+
+  module _ (i : ℕ) (t : List ℕ) (h : i < length each) (x : Stored i t) where
+    pub stored-count : length (held t .results) ≡ i + length (held s .results)
+    stored-count =
+        ap (λ (f : Flat). length (f .results)) (x .shows)
+        ∙ length-stored v ts (take i each) (held s .results)
+        ∙ ap (λ (n : ℕ). n + length (held s .results)) (length-take-le i each (omega arith))
+
+    pub stored-next : (u : List ℕ) → Shows (withResults (held t) (insert (resultWith (getD each i 0) v ts) (held t .results))) u → Stored (i + 1) u
+    stored-next u w = rw (add-one i, take-suc each i 0 h, store-next v ts (take i each) (getD each i 0) (held s .results)) (rw (x .shows) at w)
+
+pub labels-count : (l : Labels) → l ≡ packedLabels (labelsOf l) → l .count ≡ length (labelsOf l)
+unfolding packedLabels
+labels-count l e = ap (λ (x : Labels). x .count) e

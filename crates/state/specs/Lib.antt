@@ -1,0 +1,3 @@
+pub mod Results
+pub mod State
+pub mod Operations

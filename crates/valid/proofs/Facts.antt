@@ -1,0 +1,138 @@
+-- A session is valid exactly where its flat view is.
+-- Assumes nothing.
+use mathlib.Core.Path.{_≡_, refl, sym, ap, ap₂, subst, _∙_}
+use Prim.Native.Nat.{ℕ, zero, suc, _+_, _≤_, _<_}
+use native.Mathlib.Omega.{arith}
+use native.Mathlib.Nat.{not-suc-le-zero}
+use mathlib.Core.Bool.{Bool, true, false, true≢false}
+use mathlib.Core.List.{List, [], _∷_, _++_}
+use lib.ListN.{length, length-append}
+use Rattle.graph.specs.KeyLists.{isNil, rising}
+use Rattle.graph.specs.Nodes.{Node, Op, Result}
+use Rattle.graph.specs.OneAtATime.{Labelled, addOf, opOf}
+use Rattle.graph.specs.Sessions.{Station, Session, live, addsIn, labelsOfResults}
+use Rattle.graph.specs.Valid.{Each, ValidNode, ValidOp, ValidUnit, ValidStation, ValidCall, ValidResult, KeysFall, count, Given, Valid}
+use Rattle.queue.specs.Flat.{Tagged, Flat, tagUnit, tagUnits, queueOf, nodesOf, waiting, flat, calls, ordered, Full, Keyed}
+use Rattle.queue.proofs.Places.{length-nodes}
+use Rattle.queue.proofs.Nesting.{KeysUp, Formed, formed-flat, order-line, line-order}
+use Rattle.valid.proofs.Counting.{each-append, each-left, each-right, each-count, count-each, Fresh, liveFlat, live-count, live-length, adds-same}
+
+abbrev pub ValidTagged : Tagged → Type 0
+ValidTagged x = ValidCall (x .call)
+
+pub record FlatValid (f : Flat) : Type 0 where
+  pub keys : KeysUp 1 (f .nodes)
+  pub nodes : Each ValidNode (f .nodes)
+  pub order : ordered (length (f .nodes)) 0 (f .queue) ≡ true
+  pub queue : Each ValidTagged (f .queue)
+  pub results : Each ValidResult (f .results)
+  pub room : length (f .nodes) + addsIn (calls (f .queue)) ≤ 64
+  pub rise : rising (labelsOfResults (f .results)) ≡ true
+  pub fresh : Fresh (f .last) (liveFlat f)
+  pub places : length (liveFlat f) ≤ 64
+  pub labels : f .last ≤ 65535
+
+-- FROM NESTED TO FLAT
+not-nil : (u : List Op) → 1 ≤ length u → isNil u ≡ false
+not-nil [] h = absurd (not-suc-le-zero h)
+not-nil (o ∷ os) h = refl
+
+full-units : (us : List (List Op)) → Each ValidUnit us → Full us
+full-units [] h = tt
+full-units (u ∷ us) h = (not-nil u (h .0 .some), full-units us (h .1))
+
+pub keyed-of : (ss : List Station) → KeysFall ss → Each ValidStation ss → Keyed ss
+keyed-of [] k v = tt
+keyed-of (s ∷ ss) k v = (k .0, (full-units (s .units) (v .0 .units), keyed-of ss (k .1) (v .1)))
+
+unit-calls : (k : ℕ) (b : Bool) (os : List Op) → Each ValidOp os → Each ValidTagged (tagUnit k b os)
+unit-calls k b [] h = tt
+unit-calls k b (o ∷ os) h = (h .0, unit-calls k false os (h .1))
+
+units-calls : (k : ℕ) (us : List (List Op)) → Each ValidUnit us → Each ValidTagged (tagUnits k us)
+units-calls k [] h = tt
+units-calls k (u ∷ us) h = each-append ValidTagged (tagUnit k true u) (tagUnits k us) (unit-calls k true u (h .0 .ops)) (units-calls k us (h .1))
+
+stations-calls : (ss : List Station) → Each ValidStation ss → Each ValidTagged (queueOf ss)
+stations-calls [] h = tt
+stations-calls (s ∷ ss) h = each-append ValidTagged (queueOf ss) (tagUnits (s .node .key) (s .units)) (stations-calls ss (h .1)) (units-calls (s .node .key) (s .units) (h .0 .units))
+
+stations-nodes : (ss : List Station) → Each ValidStation ss → Each ValidNode (nodesOf ss)
+stations-nodes [] h = tt
+stations-nodes (s ∷ ss) h = each-append ValidNode (nodesOf ss) (s .node ∷ []) (stations-nodes ss (h .1)) (h .0 .node, tt)
+
+waiting-calls : (cs : List Labelled) → Each ValidCall cs → Each ValidTagged (waiting cs)
+waiting-calls [] h = tt
+waiting-calls (c ∷ cs) h = (h .0, waiting-calls cs (h .1))
+
+pub flat-valid : (s : Session) → Valid s → FlatValid (flat s)
+flat-valid s v =
+    let K = keyed-of (s .stations) (v .falling) (v .stations) in
+    let few : length (s .stations) ≤ 64 = omega (arith, v .room) in
+    let n : length (nodesOf (s .stations)) ≡ length (s .stations) = length-nodes (s .stations) in
+    let F : Formed (flat s) = formed-flat s K few in
+    record {
+      keys = F .keys;
+      nodes = stations-nodes (s .stations) (v .stations);
+      order = line-order (length (nodesOf (s .stations))) 0 (omega arith) (omega arith) (omega arith) (omega arith) (λ e. absurd (true≢false (sym e))) (F .line);
+      queue = each-append ValidTagged (queueOf (s .stations)) (waiting (s .topStream)) (stations-calls (s .stations) (v .stations)) (waiting-calls (s .topStream) (v .topStream));
+      results = v .results;
+      room = omega (arith, v .room, adds-same s);
+      rise = v .order;
+      fresh = record {
+        given = count-each (Given (s .last)) (liveFlat (flat s)) (λ l h. each-count (Given (s .last)) (live s) (v .given) l (omega (arith, live-count l s)));
+        once = λ l. omega (arith, live-count l s, v .once l);
+      };
+      places = omega (arith, live-length s, v .places);
+      labels = v .labels;
+    }
+
+-- FROM FLAT TO NESTED
+some-op : (u : List Op) → isNil u ≡ false → 1 ≤ length u
+some-op [] e = absurd (true≢false e)
+some-op (o ∷ os) e = omega arith
+
+calls-unit : (k : ℕ) (b : Bool) (os : List Op) → Each ValidTagged (tagUnit k b os) → Each ValidOp os
+calls-unit k b [] h = tt
+calls-unit k b (o ∷ os) h = (h .0, calls-unit k false os (h .1))
+
+calls-units : (k : ℕ) (us : List (List Op)) → Full us → Each ValidTagged (tagUnits k us) → Each ValidUnit us
+calls-units k [] F h = tt
+calls-units k (u ∷ us) F h = (
+  record { some = some-op u (F .0); ops = calls-unit k true u (each-left ValidTagged (tagUnit k true u) (tagUnits k us) h) },
+  calls-units k us (F .1) (each-right ValidTagged (tagUnit k true u) (tagUnits k us) h),
+)
+
+valid-stations : (ss : List Station) → Keyed ss → Each ValidNode (nodesOf ss) → Each ValidTagged (queueOf ss) → Each ValidStation ss
+valid-stations [] K n q = tt
+valid-stations (s ∷ ss) K n q =
+    let k = s .node .key in (
+      record {
+        node = each-right ValidNode (nodesOf ss) (s .node ∷ []) n .0;
+        units = calls-units k (s .units) (K .1 .0) (each-right ValidTagged (queueOf ss) (tagUnits k (s .units)) q);
+      },
+      valid-stations ss (K .1 .1) (each-left ValidNode (nodesOf ss) (s .node ∷ []) n) (each-left ValidTagged (queueOf ss) (tagUnits k (s .units)) q),
+    )
+
+keys-fall : (ss : List Station) → Keyed ss → KeysFall ss
+keys-fall [] K = tt
+keys-fall (s ∷ ss) K = (K .0, keys-fall ss (K .1 .1))
+
+calls-waiting : (cs : List Labelled) → Each ValidTagged (waiting cs) → Each ValidCall cs
+calls-waiting [] h = tt
+calls-waiting (c ∷ cs) h = (h .0, calls-waiting cs (h .1))
+
+pub valid-flat : (s : Session) → Keyed (s .stations) → FlatValid (flat s) → Valid s
+valid-flat s K f =
+    record {
+      falling = keys-fall (s .stations) K;
+      stations = valid-stations (s .stations) K (f .nodes) (each-left ValidTagged (queueOf (s .stations)) (waiting (s .topStream)) (f .queue));
+      topStream = calls-waiting (s .topStream) (each-right ValidTagged (queueOf (s .stations)) (waiting (s .topStream)) (f .queue));
+      results = f .results;
+      room = omega (arith, f .room, adds-same s, length-nodes (s .stations));
+      order = f .rise;
+      given = count-each (Given (s .last)) (live s) (λ l h. each-count (Given (s .last)) (liveFlat (flat s)) (f .fresh .given) l (omega (arith, live-count l s)));
+      once = λ l. omega (arith, live-count l s, f .fresh .once l);
+      places = omega (arith, live-length s, f .places);
+      labels = f .labels;
+    }

@@ -1,0 +1,7 @@
+pub mod Turns
+pub mod Unused
+pub mod Packing
+pub mod Decoding
+pub mod Counting
+pub mod Facts
+pub mod Exactness

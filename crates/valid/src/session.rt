@@ -1,0 +1,54 @@
+// Refusal 2, and opening.
+use crate::pool::labels_live;
+use crate::rows::add_count;
+use crate::rows::nodes_ok;
+use crate::rows::ops_ok;
+use crate::rows::results_ok;
+use crate::spaces::is_canonical;
+use crate::spaces::is_sound;
+use image::read::node_count;
+use image::shift::clear;
+ghost use mathlib.Core.Path.{_≡_};
+ghost use mathlib.Core.Bool.{cond};
+ghost use lib.Dec.{eqb};
+ghost use lib.ListN.{length};
+ghost use Rattle.graph.specs.Sessions.{fresh};
+ghost use Rattle.valid.specs.Values.{encode};
+ghost use Rattle.valid.specs.Exact.{Exact, Opened};
+
+// Whether the bytes are the image of a valid session: where they are not, that is refusal 2 (a wrong length is refusal 1).
+pub fn image_valid(image: &[u8]) -> bool
+    ensures { λ r. ⌜ Exact (now (image .entry)) r ⌝ }
+{
+    if !is_sound(image) {
+        return false;
+    }
+    if !is_canonical(image) {
+        return false;
+    }
+    if !nodes_ok(image) {
+        return false;
+    }
+    if !ops_ok(image) {
+        return false;
+    }
+    if !results_ok(image) {
+        return false;
+    }
+    if 64 < node_count(image) + add_count(image) {
+        return false;
+    }
+    labels_live(image)
+}
+
+// Writes the fresh image, whatever the bytes were; false where the length is wrong, and then nothing is written.
+pub fn open(image: &mut [u8]) -> bool
+    ensures { λ r. ⌜ Opened (now (image .entry)) (now (image .exit)) r ⌝ }
+{
+    if image.len() != 4112 {
+        return false;
+    }
+    clear(image, 0, 4112);
+    image[0] = 1;
+    true
+}

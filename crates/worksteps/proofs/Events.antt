@@ -1,0 +1,237 @@
+-- Acceptance, claims and drain, flat and nested.
+-- Assumes nothing.
+use mathlib.Core.Path.{_≡_, refl, sym, _∙_, ap, ap₂}
+use Prim.Native.Nat.{ℕ, suc, _+_, _≤_, _<_}
+use native.Mathlib.Omega.{arith}
+use mathlib.Core.Bool.{Bool, true, false, cond, _&&_, _||_, true≢false}
+use mathlib.Core.List.{List, [], _∷_, _++_, append-assoc}
+use mathlib.Core.Option.{Option, none, some}
+use lib.Dec.{eqb, leb, ltb}
+use lib.ListN.{length, length-append}
+use borrow.Author.Tests.{ne-eqb, lt-ltb}
+use Rattle.graph.specs.Refusals.{Answer, refused, done, mapDone, Test, on, unless}
+use Rattle.graph.specs.KeyLists.{contains}
+use Rattle.graph.specs.Calls.{Call, isAdd, formTests}
+use Rattle.graph.specs.Nodes.{Op, Result}
+use Rattle.graph.specs.OneAtATime.{Labelled, addOf, opOf, labelled}
+use Rattle.graph.specs.Sessions.{Station, Session, labelsOfUnit, labelsOfUnits, labelsOfStations, labelsOfCalls, labelsOfResults, pending, live, addsIn}
+use Rattle.graph.specs.Steps.{Step, admit, realise, move, finish, step}
+use Rattle.graph.specs.Acceptance.{callTests, accepted, accept, takeResult, claim}
+use Rattle.graph.specs.Drain.{orHere, backmost, Taken, taking, orElse, drainStepAt, drainStep, weightOfUnit, weightOfUnits, weightOfStations, weightOfCalls, weightOf}
+use Rattle.graph.specs.Valid.{Each, count, ValidUnit, ValidStation, KeysFall, Valid}
+use Rattle.graph.proofs.Outcome.{sum}
+use Rattle.graph.proofs.Labels.{total, byLabel, is, one, total-append, total-is, total-one, total-results}
+use Rattle.queue.specs.Flat.{Tagged, tagUnit, tagUnits, queueOf, nodesOf, waiting, flat, Full, Keyed}
+use Rattle.queue.proofs.Places.{length-nodes}
+use Rattle.worksteps.specs.FlatSteps.{flatStep}
+use Rattle.worksteps.specs.FlatEvents.{labelsIn, queued, addsQueued, flatLive, flatTests, flatAccepted, flatAccept, flatClaim, firstPlace, FlatTaken, flatTaking, flatDrainStepAt, flatDrainStep, weightOfQueue}
+use Rattle.worksteps.proofs.Focus.{flatOf}
+use Rattle.worksteps.proofs.Units.{step-bridge}
+
+-- a valid session has a flat view
+full-units : (us : List (List Op)) → Each ValidUnit us → Full us
+full-units [] g = tt
+full-units ([] ∷ us) g = absurd (omega (arith, g .0 .some))
+full-units ((o ∷ os) ∷ us) g = (refl, full-units us (g .1))
+
+keyed-stations : (ss : List Station) → KeysFall ss → Each ValidStation ss → Keyed ss
+keyed-stations [] f g = tt
+keyed-stations (s ∷ ss) f g = (f .0, (full-units (s .units) (g .0 .units), keyed-stations ss (f .1) (g .1)))
+
+pub valid-keyed : (s : Session) → Valid s → Keyed (s .stations)
+valid-keyed s g = keyed-stations (s .stations) (g .falling) (g .stations)
+
+pub valid-room : (s : Session) → Valid s → length (s .stations) ≤ 64
+valid-room s g = omega (arith, g .room)
+
+pub step-valid-flat : (t : Step) (s : Session) → Valid s → flatStep t (flat s) ≡ mapDone flat (step t s)
+step-valid-flat t s g = step-bridge t s (valid-keyed s g) (valid-room s g)
+
+-- LABELS
+queued-append : (a b : List Tagged) → queued (a ++ b) ≡ queued a ++ queued b
+queued-append [] b = refl
+queued-append (x ∷ xs) b = ap (λ (z : List ℕ). labelsIn (x .call) ++ z) (queued-append xs b) ∙ sym (append-assoc (labelsIn (x .call)) (queued xs) (queued b))
+
+queued-unit : (k : ℕ) (b : Bool) (os : List Op) → queued (tagUnit k b os) ≡ labelsOfUnit os
+queued-unit k b [] = refl
+queued-unit k b (o ∷ os) = ap (λ (z : List ℕ). o .labels ++ z) (queued-unit k false os)
+
+queued-units : (k : ℕ) (us : List (List Op)) → queued (tagUnits k us) ≡ labelsOfUnits us
+queued-units k [] = refl
+queued-units k (u ∷ us) = queued-append (tagUnit k true u) (tagUnits k us) ∙ ap₂ (λ (y z : List ℕ). y ++ z) (queued-unit k true u) (queued-units k us)
+
+queued-waiting : (cs : List Labelled) → queued (waiting cs) ≡ labelsOfCalls cs
+queued-waiting [] = refl
+queued-waiting (addOf l v ∷ cs) = ap (λ (z : List ℕ). l ∷ z) (queued-waiting cs)
+queued-waiting (opOf o ∷ cs) = ap (λ (z : List ℕ). o .labels ++ z) (queued-waiting cs)
+
+-- a sum over the labels: the queue has the stations in another order than `pending`
+queued-total : (v : ℕ → ℕ) (ss : List Station) (A : List Tagged) → total v (queued (queueOf ss ++ A)) ≡ total v (labelsOfStations ss) + total v (queued A)
+queued-total v [] A = omega arith
+queued-total v (s ∷ ss) A =
+    let k : ℕ = s .node .key in
+    ap (λ (z : List Tagged). total v (queued z)) (append-assoc (queueOf ss) (tagUnits k (s .units)) A)
+    ∙ queued-total v ss (tagUnits k (s .units) ++ A)
+    ∙ omega (arith, ap (total v) (queued-append (tagUnits k (s .units)) A), total-append v (queued (tagUnits k (s .units))) (queued A), ap (total v) (queued-units k (s .units)), total-append v (labelsOfUnits (s .units)) (labelsOfStations ss))
+
+pub pending-total : (v : ℕ → ℕ) (s : Session) → total v (queued (flat s .queue)) ≡ total v (pending s)
+pending-total v s =
+    omega (arith, queued-total v (s .stations) (waiting (s .topStream)), ap (total v) (queued-waiting (s .topStream)), total-append v (labelsOfStations (s .stations)) (labelsOfCalls (s .topStream)))
+
+contains-count : (l : ℕ) (xs : List ℕ) → contains l xs ≡ ltb 0 (count l xs)
+contains-count l [] = refl
+contains-count l (x ∷ xs) = go (eqb l x) (contains-count l xs)
+  where
+    go : (b : Bool) → contains l xs ≡ ltb 0 (count l xs) → (b || contains l xs) ≡ ltb 0 (cond b 1 0 + count l xs)
+    go true e = sym (lt-ltb 0 (1 + count l xs) (omega arith))
+    go false e = let z : count l xs ≡ 0 + count l xs = omega arith in e ∙ ap (ltb 0) z
+
+pub pending-same : (l : ℕ) (s : Session) → contains l (queued (flat s .queue)) ≡ contains l (pending s)
+pending-same l s =
+    contains-count l (queued (flat s .queue)) ∙ ap (ltb 0) (sym (total-is l (queued (flat s .queue))) ∙ pending-total (is l) s ∙ total-is l (pending s)) ∙ sym (contains-count l (pending s))
+
+pub live-same : (s : Session) → flatLive (flat s) ≡ length (live s)
+live-same s =
+    omega (
+      arith,
+      pending-total one s,
+      total-one (queued (flat s .queue)),
+      total-one (pending s),
+      length-append (pending s) (labelsOfResults (s .results)),
+      total-one (labelsOfResults (s .results)),
+      total-results one (s .results),
+      sum-one (s .results),
+    )
+  where
+    sum-one : (rs : List Result) → sum (byLabel one) rs ≡ length rs
+    sum-one [] = refl
+    sum-one (r ∷ rs) = omega (arith, sum-one rs)
+
+-- ADDS
+adds-append : (a b : List Tagged) → addsQueued (a ++ b) ≡ addsQueued a + addsQueued b
+adds-append [] b = omega arith
+adds-append (x ∷ xs) b = omega (arith, adds-append xs b)
+
+adds-unit : (k : ℕ) (b : Bool) (os : List Op) → addsQueued (tagUnit k b os) ≡ 0
+adds-unit k b [] = refl
+adds-unit k b (o ∷ os) = omega (arith, adds-unit k false os)
+
+adds-units : (k : ℕ) (us : List (List Op)) → addsQueued (tagUnits k us) ≡ 0
+adds-units k [] = refl
+adds-units k (u ∷ us) = omega (arith, adds-append (tagUnit k true u) (tagUnits k us), adds-unit k true u, adds-units k us)
+
+adds-queue : (ss : List Station) → addsQueued (queueOf ss) ≡ 0
+adds-queue [] = refl
+adds-queue (s ∷ ss) = omega (arith, adds-append (queueOf ss) (tagUnits (s .node .key) (s .units)), adds-queue ss, adds-units (s .node .key) (s .units))
+
+adds-waiting : (cs : List Labelled) → addsQueued (waiting cs) ≡ addsIn cs
+adds-waiting [] = refl
+adds-waiting (addOf l v ∷ cs) = omega (arith, adds-waiting cs)
+adds-waiting (opOf o ∷ cs) = omega (arith, adds-waiting cs)
+
+adds-same : (s : Session) → length (flat s .nodes) + addsQueued (flat s .queue) ≡ length (s .stations) + addsIn (s .topStream)
+adds-same s = omega (arith, length-nodes (s .stations), adds-append (queueOf (s .stations)) (waiting (s .topStream)), adds-queue (s .stations), adds-waiting (s .topStream))
+
+-- CALLS
+waiting-append : (cs ds : List Labelled) → waiting (cs ++ ds) ≡ waiting cs ++ waiting ds
+waiting-append [] ds = refl
+waiting-append (c ∷ cs) ds = ap (λ (z : List Tagged). record { place = 65; opens = true; call = c } ∷ z) (waiting-append cs ds)
+
+accepted-same : (c : Call) (s : Session) → flatAccepted c (flat s) ≡ flat (accepted c s)
+accepted-same c s i =
+    flatOf (nodesOf (s .stations)) ((append-assoc (queueOf (s .stations)) (waiting (s .topStream)) (waiting (labelled c (suc (s .last)) ∷ [])) ∙ ap (λ (z : List Tagged). queueOf (s .stations) ++ z) (sym (waiting-append (s .topStream) (labelled c (suc (s .last)) ∷ [])))) i) (s .results) (suc (s .last))
+
+tests-same : (c : Call) (s : Session) → flatTests c (flat s) ≡ callTests c s
+tests-same c s i = formTests c ++ (on (isAdd c && leb 64 (adds-same s i)) 13 ∷ on (leb 64 (live-same s i)) 14 ∷ on (leb 65535 (s .last)) 15 ∷ [])
+
+unless-map : {A B : Type 0} (g : A → B) (ts : List Test) (a : A) → unless ts (g a) ≡ mapDone g (unless ts a)
+unless-map g [] a = refl
+unless-map g (t ∷ ts) a = go (t .applies) (unless-map g ts a)
+  where
+    go : (b : Bool) → unless ts (g a) ≡ mapDone g (unless ts a) → cond b (refused (t .number)) (unless ts (g a)) ≡ mapDone g (cond b (refused (t .number)) (unless ts a))
+    go true e = refl
+    go false e = e
+
+pub accept-bridge : (c : Call) (s : Session) → flatAccept c (flat s) ≡ mapDone flat (accept c s)
+accept-bridge c s = (λ i. unless (tests-same c s i) (accepted-same c s i)) ∙ unless-map flat (callTests c s) (accepted c s)
+
+-- CLAIMS
+pub claim-bridge : (l : ℕ) (s : Session) → flatClaim l (flat s) ≡ claim l s
+claim-bridge l s i = cond (leb 1 l && leb l (s .last)) (cond (pending-same l s i) (refused 31) (takeResult l (s .results))) (refused 30)
+
+-- DRAIN
+abbrev or : Option ℕ → Option ℕ → Option ℕ
+or (some k) y = some k
+or none y = y
+
+first-units : (k : ℕ) (us : List (List Op)) (A : List Tagged) (b : Option ℕ) → k ≤ 64 → Full us → or b (firstPlace (tagUnits k us ++ A)) ≡ or (orHere b us k) (firstPlace A)
+first-units k us A (some j) h F = refl
+first-units k [] A none h F = refl
+first-units k ([] ∷ us) A none h F = absurd (true≢false (F .0))
+first-units k ((o ∷ os) ∷ us) A none h F = rw (ne-eqb k 65 (λ e. omega arith))
+
+first-queue : (ss : List Station) (A : List Tagged) → Keyed ss → length ss ≤ 64 → firstPlace (queueOf ss ++ A) ≡ or (backmost ss) (firstPlace A)
+first-queue [] A K room = refl
+first-queue (s ∷ ss) A K room =
+    ap firstPlace (append-assoc (queueOf ss) (tagUnits (s .node .key) (s .units)) A) ∙ first-queue ss (tagUnits (s .node .key) (s .units) ++ A) (K .1 .1) (omega arith)
+    ∙ first-units (s .node .key) (s .units) A (backmost ss) (omega (arith, K .0)) (K .1 .0)
+
+first-same : (s : Session) → Keyed (s .stations) → length (s .stations) ≤ 64 → firstPlace (flat s .queue) ≡ backmost (s .stations)
+first-same s K room = first-queue (s .stations) (waiting (s .topStream)) K room ∙ go (backmost (s .stations)) (s .topStream)
+  where
+    go : (b : Option ℕ) (cs : List Labelled) → or b (firstPlace (waiting cs)) ≡ b
+    go (some k) cs = refl
+    go none [] = refl
+    go none (c ∷ cs) = refl
+
+abbrev pub takenFlat : Taken → FlatTaken
+takenFlat t = record { what = t .what; to = flat (t .to) }
+
+taking-bridge : (t : Step) (s : Session) → Keyed (s .stations) → length (s .stations) ≤ 64 → flatTaking t (flat s) ≡ mapDone takenFlat (taking t s)
+taking-bridge t s K room = ap (mapDone (λ u. record { what = t; to = u })) (step-bridge t s K room) ∙ go (step t s)
+  where
+    go : (x : Answer Session) → mapDone (λ u. record { what = t; to = u }) (mapDone flat x) ≡ mapDone takenFlat (mapDone (λ u. record { what = t; to = u }) x)
+    go (refused r) = refl
+    go (done u) = refl
+
+else-map : (x y : Answer Taken) → orElse (mapDone takenFlat x) (mapDone takenFlat y) ≡ mapDone takenFlat (orElse x y)
+else-map (refused r) y = refl
+else-map (done d) y = refl
+
+drain-at : (b : Option ℕ) (s : Session) → Keyed (s .stations) → length (s .stations) ≤ 64 → flatDrainStepAt b (flat s) ≡ mapDone takenFlat (drainStepAt b s)
+drain-at none s K room = taking-bridge admit s K room
+drain-at (some k) s K room =
+    (λ i. orElse (taking-bridge (realise k) s K room i) (orElse (taking-bridge (finish k) s K room i) (taking-bridge (move k) s K room i)))
+    ∙ ap (orElse (mapDone takenFlat (taking (realise k) s))) (else-map (taking (finish k) s) (taking (move k) s)) ∙ else-map (taking (realise k) s) (orElse (taking (finish k) s) (taking (move k) s))
+
+pub drain-bridge : (s : Session) → Valid s → flatDrainStep (flat s) ≡ mapDone takenFlat (drainStep s)
+drain-bridge s g =
+    let K = valid-keyed s g in
+    let room = valid-room s g in
+    ap (λ (b : Option ℕ). flatDrainStepAt b (flat s)) (first-same s K room) ∙ drain-at (backmost (s .stations)) s K room
+
+-- WEIGHT
+weight-append : (a b : List Tagged) → weightOfQueue (a ++ b) ≡ weightOfQueue a + weightOfQueue b
+weight-append [] b = omega arith
+weight-append (x ∷ xs) b = omega (arith, weight-append xs b)
+
+weight-unit : (d : ℕ) (c : Bool) (os : List Op) → d < 64 → weightOfQueue (tagUnit (suc d) c os) ≡ weightOfUnit d os
+weight-unit d c [] h = refl
+weight-unit d c (o ∷ os) h = rw (ne-eqb (suc d) 65 (λ e. omega arith)) (omega (arith, weight-unit d false os h))
+
+weight-units : (d : ℕ) (us : List (List Op)) → d < 64 → weightOfQueue (tagUnits (suc d) us) ≡ weightOfUnits d us
+weight-units d [] h = refl
+weight-units d (u ∷ us) h = omega (arith, weight-append (tagUnit (suc d) true u) (tagUnits (suc d) us), weight-unit d true u h, weight-units d us h)
+
+weight-queue : (ss : List Station) → Keyed ss → length ss ≤ 64 → weightOfQueue (queueOf ss) ≡ weightOfStations ss
+weight-queue [] K room = refl
+weight-queue (s ∷ ss) K room =
+    omega (arith, weight-append (queueOf ss) (tagUnits (s .node .key) (s .units)), weight-queue ss (K .1 .1) (omega arith), ap (λ (k : ℕ). weightOfQueue (tagUnits k (s .units))) (K .0), weight-units (length ss) (s .units) (omega arith))
+
+weight-waiting : (cs : List Labelled) → weightOfQueue (waiting cs) ≡ weightOfCalls cs
+weight-waiting [] = refl
+weight-waiting (c ∷ cs) = omega (arith, weight-waiting cs)
+
+pub weight-same : (s : Session) → Valid s → weightOfQueue (flat s .queue) ≡ weightOf s
+weight-same s g =
+    omega (arith, weight-append (queueOf (s .stations)) (waiting (s .topStream)), weight-queue (s .stations) (valid-keyed s g) (valid-room s g), weight-waiting (s .topStream))

@@ -1,0 +1,118 @@
+-- What a valid session's queue has at an index: the facts that the steps on the image rely on.
+-- Assumes nothing.
+use mathlib.Core.Path.{_≡_, refl, sym, _∙_, ap}
+use Prim.Native.Nat.{ℕ, zero, suc, _+_, _≤_, _<_}
+use native.Mathlib.Omega.{arith}
+use mathlib.Core.Bool.{Bool, true, false, cond, true≢false}
+use mathlib.Core.List.{List, [], _∷_, _++_}
+use lib.Dec.{eqb, ltb, leb·suc-suc, leb·suc-zero}
+use lib.ListN.{length, getD, drop}
+use borrow.Author.Tests.{lt-ltb}
+use Rattle.graph.specs.Refusals.{Answer, refused}
+use Rattle.graph.specs.Nodes.{Op, Result}
+use Rattle.graph.specs.OneAtATime.{Labelled}
+use Rattle.graph.specs.Sessions.{Station, Session, labelsOfResults, pending, live}
+use Rattle.graph.specs.Valid.{Each, ValidOp, ValidUnit, ValidStation, ValidCall, count, Valid}
+use Rattle.graph.proofs.Labels.{total, is, one, total-append, total-is, total-one}
+use Rattle.graph.proofs.Limits.{each-append}
+use Rattle.queue.specs.Flat.{Tagged, tagUnit, tagUnits, queueOf, waiting, flat, isOp, find, here, isAt, endOf}
+use Rattle.worksteps.specs.FlatSteps.{noOp, unitFrom}
+use Rattle.worksteps.specs.FlatEvents.{labelsIn, queued}
+use Rattle.worksteps.proofs.Events.{pending-total}
+
+-- a fact of each element holds at each index
+pub each-at : {A : Type 0} (P : A → Type 0) (xs : List A) (i : ℕ) (d : A) → i < length xs → Each P xs → P (getD xs i d)
+each-at P [] i d h g = absurd (omega arith)
+each-at P (x ∷ xs) zero d h g = g .0
+each-at P (x ∷ xs) (suc i) d h g = each-at P xs i d (omega arith) (g .1)
+
+-- EACH OPERATION OF THE QUEUE
+-- in the top stream a valid call, elsewhere a valid operation
+pub record Sits (x : Tagged) : Type 0 where
+  pub call : ValidCall (x .call)
+  pub placed : eqb (x .place) 65 ≡ false → isOp (x .call) ≡ true
+
+sits-unit : (k : ℕ) (b : Bool) (u : List Op) → Each ValidOp u → Each Sits (tagUnit k b u)
+sits-unit k b [] g = tt
+sits-unit k b (o ∷ os) g = (record { call = g .0; placed = λ e. refl }, sits-unit k false os (g .1))
+
+sits-units : (k : ℕ) (us : List (List Op)) → Each ValidUnit us → Each Sits (tagUnits k us)
+sits-units k [] g = tt
+sits-units k (u ∷ us) g = each-append Sits (tagUnit k true u) (tagUnits k us) (sits-unit k true u (g .0 .ops)) (sits-units k us (g .1))
+
+sits-queue : (ss : List Station) → Each ValidStation ss → Each Sits (queueOf ss)
+sits-queue [] g = tt
+sits-queue (s ∷ ss) g = each-append Sits (queueOf ss) (tagUnits (s .node .key) (s .units)) (sits-queue ss (g .1)) (sits-units (s .node .key) (s .units) (g .0 .units))
+
+sits-waiting : (cs : List Labelled) → Each ValidCall cs → Each Sits (waiting cs)
+sits-waiting [] g = tt
+sits-waiting (c ∷ cs) g = (record { call = g .0; placed = λ e. absurd (true≢false e) }, sits-waiting cs (g .1))
+
+pub sits-at : (s : Session) → Valid s → (i : ℕ) → i < length (flat s .queue) → Sits (getD (flat s .queue) i noOp)
+sits-at s g i h =
+    each-at Sits (flat s .queue) i noOp h (each-append Sits (queueOf (s .stations)) (waiting (s .topStream)) (sits-queue (s .stations) (g .stations)) (sits-waiting (s .topStream) (g .topStream)))
+
+-- LABELS: those of one operation, among all that wait
+queued-at : (v : ℕ → ℕ) (q : List Tagged) (i : ℕ) → i < length q → total v (labelsIn (getD q i noOp .call)) ≤ total v (queued q)
+queued-at v [] i h = absurd (omega arith)
+queued-at v (x ∷ xs) zero h = omega (arith, total-append v (labelsIn (x .call)) (queued xs))
+queued-at v (x ∷ xs) (suc i) h = omega (arith, total-append v (labelsIn (x .call)) (queued xs), queued-at v xs i (omega arith))
+
+module _ (s : Session) (g : Valid s) (i : ℕ) (h : i < length (flat s .queue)) where
+  labels-live : (v : ℕ → ℕ) → total v (labelsIn (getD (flat s .queue) i noOp .call)) + total v (labelsOfResults (s .results)) ≤ total v (live s)
+  labels-live v = omega (arith, queued-at v (flat s .queue) i h, pending-total v s, total-append v (pending s) (labelsOfResults (s .results)))
+
+  -- its labels and those of the results stand once, and there is room for its results
+  pub labels-once : (l : ℕ) → count l (labelsIn (getD (flat s .queue) i noOp .call) ++ labelsOfResults (s .results)) ≤ 1
+  labels-once l =
+      let xs = labelsIn (getD (flat s .queue) i noOp .call) in
+      omega (arith, labels-live (is l), total-append (is l) xs (labelsOfResults (s .results)), total-is l (xs ++ labelsOfResults (s .results)), total-is l (live s), g .once l)
+
+  pub labels-room : length (s .results) + length (labelsIn (getD (flat s .queue) i noOp .call)) ≤ 64
+  labels-room =
+      omega (arith, labels-live one, total-one (labelsIn (getD (flat s .queue) i noOp .call)), total-one (labelsOfResults (s .results)), total-one (live s), length-results (s .results), g .places)
+    where
+      length-results : (rs : List Result) → length (labelsOfResults rs) ≡ length rs
+      length-results [] = refl
+      length-results (r ∷ rs) = ap suc (length-results rs)
+
+-- FOUND: an index that a search gives is below the length exactly where something stands there
+module _ {A : Type 0} where
+  pub here-find : (p : A → Bool) (xs : List A) → here p (drop (find p xs) xs) ≡ ltb (find p xs) (length xs)
+  here-find p [] = sym (leb·suc-zero 0)
+  here-find p (x ∷ xs) = go (p x) refl (here-find p xs)
+    where
+      go : (b : Bool) → p x ≡ b → here p (drop (find p xs) xs) ≡ ltb (find p xs) (length xs) → here p (drop (cond b zero (suc (find p xs))) (x ∷ xs)) ≡ ltb (cond b zero (suc (find p xs))) (suc (length xs))
+      go true e f = e ∙ sym (lt-ltb 0 (suc (length xs)) (omega arith))
+      go false e f = f ∙ sym (leb·suc-suc (suc (find p xs)) (length xs))
+
+  pub here-at : (p : A → Bool) (xs : List A) (i : ℕ) (d : A) → i < length xs → here p (drop i xs) ≡ p (getD xs i d)
+  here-at p [] i d h = absurd (omega arith)
+  here-at p (x ∷ xs) zero d h = refl
+  here-at p (x ∷ xs) (suc i) d h = here-at p xs i d (omega arith)
+
+  pub here-past : (p : A → Bool) (xs : List A) (i : ℕ) → length xs ≤ i → here p (drop i xs) ≡ false
+  here-past p [] zero h = refl
+  here-past p [] (suc i) h = refl
+  here-past p (x ∷ xs) zero h = absurd (omega arith)
+  here-past p (x ∷ xs) (suc i) h = here-past p xs i (omega arith)
+
+-- UNITS BY NUMBER: where unit i starts, counted from 1 at p; the length where there are not so many units before it
+abbrev pub unitStart : ℕ → ℕ → ℕ → List Tagged → ℕ
+unitStart k zero p q = length q
+unitStart k (suc zero) p q = p
+unitStart k (suc (suc i)) p q = cond (isAt k p q) (unitStart k (suc i) (endOf k p q) q) (length q)
+
+-- a step on the unit that starts at n
+abbrev pub onUnit : ℕ → (ℕ → ℕ → List Tagged → Answer (List Tagged)) → ℕ → List Tagged → Answer (List Tagged)
+onUnit k g n q = cond (isAt k n q) (g n (endOf k n q) q) (refused 21)
+
+pub unit-start : (k : ℕ) (g : ℕ → ℕ → List Tagged → Answer (List Tagged)) (i p : ℕ) (q : List Tagged) → unitFrom k g i p q ≡ onUnit k g (unitStart k i p q) q
+unit-start k g zero p q = rw (here-past (λ x. eqb (x .place) k) q (length q) (omega arith))
+unit-start k g (suc zero) p q = refl
+unit-start k g (suc (suc i)) p q = go (isAt k p q) (unit-start k g (suc i) (endOf k p q) q)
+  where
+    go : (b : Bool) → unitFrom k g (suc i) (endOf k p q) q ≡ onUnit k g (unitStart k (suc i) (endOf k p q) q) q →
+        cond b (unitFrom k g (suc i) (endOf k p q) q) (refused 21) ≡ onUnit k g (cond b (unitStart k (suc i) (endOf k p q) q) (length q)) q
+    go true e = e
+    go false e = rw (here-past (λ x. eqb (x .place) k) q (length q) (omega arith))

@@ -1,0 +1,7 @@
+pub mod Turns
+pub mod Focus
+pub mod Heads
+pub mod Admits
+pub mod Units
+pub mod Events
+pub mod Facts

@@ -1,0 +1,88 @@
+-- Searches and changes of a part of a list, one turn of a loop at a time.
+-- Assumes nothing.
+use mathlib.Core.Path.{_≡_, refl, sym, _∙_, ap}
+use Prim.Native.Nat.{ℕ, zero, suc, _+_, _≤_, _<_}
+use native.Mathlib.Nat.{add-zero}
+use native.Mathlib.Omega.{arith}
+use mathlib.Core.Bool.{Bool, true, false, cond, _||_}
+use mathlib.Core.List.{List, [], _∷_, _++_, append-assoc, map}
+use lib.Dec.{ltb, leb·suc-suc}
+use lib.ListN.{length, take, drop, getD, length-append, length-map, take-append-drop}
+use lib.Seq.{slice, slice-empty, slice-cons, length-slice, length-take-le, drop-cons, drop-append-le, take-suc}
+use borrow.Author.Tests.{lt-ltb, le-ltb, ltb-true, ltb-false}
+use Rattle.queue.specs.Flat.{find}
+use Rattle.worksteps.specs.FlatSteps.{any, alter, mapFrom, firstIn}
+
+module _ {A : Type 0} (p : A → Bool) where
+  find-le : (xs : List A) → find p xs ≤ length xs
+  find-le [] = omega arith
+  find-le (x ∷ xs) = go (p x) (find-le xs)
+    where
+      go : (b : Bool) → find p xs ≤ length xs → cond b zero (suc (find p xs)) ≤ suc (length xs)
+      go true h = omega arith
+      go false h = omega arith
+
+  any-find : (xs : List A) → any p xs ≡ ltb (find p xs) (length xs)
+  any-find [] = sym (le-ltb 0 0 (omega arith))
+  any-find (x ∷ xs) = go (p x) (any-find xs)
+    where
+      go : (b : Bool) → any p xs ≡ ltb (find p xs) (length xs) → (b || any p xs) ≡ ltb (cond b zero (suc (find p xs))) (suc (length xs))
+      go true e = sym (lt-ltb 0 (suc (length xs)) (omega arith))
+      go false e = e ∙ sym (leb·suc-suc (suc (find p xs)) (length xs))
+
+  module _ (xs : List A) (e : ℕ) (fits : e ≤ length xs) where
+    -- the search's answer is at most e, and below it exactly where there is one
+    pub first-le : (a : ℕ) → a ≤ e → firstIn p a e xs ≤ e
+    first-le a h = omega (arith, find-le (slice a e xs), length-slice a e xs fits)
+
+    pub any-first : (a : ℕ) → a ≤ e → any p (slice a e xs) ≡ ltb (firstIn p a e xs) e
+    any-first a h = any-find (slice a e xs) ∙ go (find p (slice a e xs)) (length (slice a e xs)) (omega (arith, length-slice a e xs fits))
+      where
+        go : (n m : ℕ) → a + m ≡ e → ltb n m ≡ ltb (a + n) e
+        go n m q = by-ltb (ltb n m) refl
+          where
+            by-ltb : (b : Bool) → ltb n m ≡ b → b ≡ ltb (a + n) e
+            by-ltb true f = sym (lt-ltb (a + n) e (omega (arith, ltb-true n m f)))
+            by-ltb false f = sym (le-ltb (a + n) e (omega (arith, ltb-false n m f)))
+
+    -- a turn of the loop at j: it stops there, or goes on
+    pub first-stop : (j : ℕ) (d : A) → j < e → p (getD xs j d) ≡ true → firstIn p j e xs ≡ j
+    first-stop j d h t = ap (λ (ys : List A). j + find p ys) (slice-cons j e xs d h fits) ∙ rw t (add-zero j)
+
+    pub first-next : (j : ℕ) (d : A) → j < e → p (getD xs j d) ≡ false → firstIn p j e xs ≡ firstIn p (suc j) e xs
+    first-next j d h t = ap (λ (ys : List A). j + find p ys) (slice-cons j e xs d h fits) ∙ rw t (omega arith)
+
+    pub first-end : firstIn p e e xs ≡ e
+    first-end = ap (λ (ys : List A). e + find p ys) (slice-empty e xs) ∙ add-zero e
+
+module _ {A : Type 0} (f : A → A) where
+  pub alter-seam : (xs : List A) (y : A) (ys : List A) → alter (length xs) f (xs ++ (y ∷ ys)) ≡ xs ++ (f y ∷ ys)
+  alter-seam [] y ys = refl
+  alter-seam (x ∷ xs) y ys = ap (λ (r : List A). x ∷ r) (alter-seam xs y ys)
+
+  pub alter-length : (i : ℕ) (xs : List A) → length (alter i f xs) ≡ length xs
+  alter-length i [] = refl
+  alter-length zero (x ∷ xs) = refl
+  alter-length (suc i) (x ∷ xs) = ap suc (alter-length i xs)
+
+  -- the part from a on, changed up to j, and then at j too
+  slice-snoc : (a j : ℕ) (xs : List A) (d : A) → a ≤ j → j < length xs → slice a (suc j) xs ≡ slice a j xs ++ (getD xs j d ∷ [])
+  slice-snoc a j xs d h k =
+      ap (drop a) (take-suc xs j d k) ∙ drop-append-le a (take j xs) (getD xs j d ∷ []) (omega (arith, length-take-le j xs (omega arith)))
+
+  map-append : (xs ys : List A) → map f (xs ++ ys) ≡ map f xs ++ map f ys
+  map-append [] ys = refl
+  map-append (x ∷ xs) ys = ap (λ (r : List A). f x ∷ r) (map-append xs ys)
+
+  pub mapFrom-none : (a : ℕ) (xs : List A) → mapFrom f a a xs ≡ xs
+  mapFrom-none a xs = ap (λ (ys : List A). take a xs ++ (map f ys ++ drop a xs)) (slice-empty a xs) ∙ take-append-drop a xs
+
+  pub mapFrom-next : (a j : ℕ) (xs : List A) (d : A) → a ≤ j → j < length xs → alter j f (mapFrom f a j xs) ≡ mapFrom f a (suc j) xs
+  mapFrom-next a j xs d h k =
+      let left : List A = take a xs ++ map f (slice a j xs) in
+      let size : length left ≡ j = omega (arith, length-append (take a xs) (map f (slice a j xs)), length-take-le a xs (omega arith), length-map (slice a j xs) f, length-slice a j xs (omega arith)) in
+      ap (alter j f) (ap (λ (ys : List A). take a xs ++ (map f (slice a j xs) ++ ys)) (drop-cons xs j d k) ∙ sym (append-assoc (take a xs) (map f (slice a j xs)) (getD xs j d ∷ drop (suc j) xs)))
+      ∙ ap (λ (i : ℕ). alter i f (left ++ (getD xs j d ∷ drop (suc j) xs))) (sym size)
+      ∙ alter-seam left (getD xs j d) (drop (suc j) xs)
+      ∙ append-assoc (take a xs) (map f (slice a j xs)) (f (getD xs j d) ∷ drop (suc j) xs)
+      ∙ ap (λ (ys : List A). take a xs ++ ys) (sym (append-assoc (map f (slice a j xs)) (f (getD xs j d) ∷ []) (drop (suc j) xs)) ∙ ap (λ (ys : List A). ys ++ drop (suc j) xs) (sym (ap (map f) (slice-snoc a j xs d h k) ∙ map-append (slice a j xs) (getD xs j d ∷ []))))

@@ -1,0 +1,91 @@
+-- Acceptance, claims and drain on the flat session, in the shape that the code has.
+-- Assumes nothing.
+use Prim.Native.Nat.{ℕ, suc, _+_}
+use mathlib.Core.Bool.{true, cond, _&&_}
+use mathlib.Core.List.{List, [], _∷_, _++_}
+use mathlib.Core.Option.{Option, none, some}
+use lib.Dec.{eqb, leb}
+use lib.ListN.{length}
+use Rattle.graph.specs.Refusals.{Answer, refused, mapDone, Test, on, unless}
+use Rattle.graph.specs.KeyLists.{contains}
+use Rattle.graph.specs.Calls.{Call, isAdd, formTests}
+use Rattle.graph.specs.Nodes.{Result}
+use Rattle.graph.specs.OneAtATime.{Labelled, addOf, opOf, labelled}
+use Rattle.graph.specs.Steps.{Step, admit, realise, move, finish}
+use Rattle.graph.specs.Acceptance.{Claimed, takeResult}
+use Rattle.graph.specs.Drain.{orElse, weightOfCall}
+use Rattle.queue.specs.Flat.{Tagged, Flat}
+use Rattle.worksteps.specs.FlatSteps.{opIn, flatStep}
+
+-- the labels that wait in the queue
+abbrev pub labelsIn : Labelled → List ℕ
+labelsIn (addOf l v) = l ∷ []
+labelsIn (opOf o) = o .labels
+
+abbrev pub queued : List Tagged → List ℕ
+queued [] = []
+queued (x ∷ xs) = labelsIn (x .call) ++ queued xs
+
+abbrev pub addIn : Labelled → ℕ
+addIn (addOf l v) = 1
+addIn (opOf o) = 0
+
+abbrev pub addsQueued : List Tagged → ℕ
+addsQueued [] = 0
+addsQueued (x ∷ xs) = addIn (x .call) + addsQueued xs
+
+abbrev pub flatLive : Flat → ℕ
+flatLive f = length (queued (f .queue)) + length (f .results)
+
+abbrev pub flatTests : Call → Flat → List Test
+flatTests c f =
+    formTests c
+    ++ (on (isAdd c && leb 64 (length (f .nodes) + addsQueued (f .queue))) 13
+    ∷ on (leb 64 (flatLive f)) 14
+    ∷ on (leb 65535 (f .last)) 15
+    ∷ [])
+
+abbrev pub flatAccepted : Call → Flat → Flat
+flatAccepted c f =
+    record {
+      nodes = f .nodes;
+      queue = f .queue ++ (record { place = 65; opens = true; call = labelled c (suc (f .last)) } ∷ []);
+      results = f .results;
+      last = suc (f .last);
+    }
+
+abbrev pub flatAccept : Call → Flat → Answer Flat
+flatAccept c f = unless (flatTests c f) (flatAccepted c f)
+
+abbrev pub flatClaim : ℕ → Flat → Answer Claimed
+flatClaim l f = cond (leb 1 l && leb l (f .last)) (cond (contains l (queued (f .queue))) (refused 31) (takeResult l (f .results))) (refused 30)
+
+abbrev pub flatKeeping : Flat → List Result → Flat
+flatKeeping f rs = record { nodes = f .nodes; queue = f .queue; results = rs; last = f .last }
+
+-- drain: the queue's first operation stands at the back station that has one
+abbrev pub firstPlace : List Tagged → Option ℕ
+firstPlace [] = none
+firstPlace (x ∷ xs) = cond (eqb (x .place) 65) none (some (x .place))
+
+pub record FlatTaken : Type 0 where
+  pub what : Step
+  pub to : Flat
+
+abbrev pub flatTaking : Step → Flat → Answer FlatTaken
+flatTaking t f = mapDone (λ u. record { what = t; to = u }) (flatStep t f)
+
+abbrev pub flatDrainStepAt : Option ℕ → Flat → Answer FlatTaken
+flatDrainStepAt none f = flatTaking admit f
+flatDrainStepAt (some k) f = orElse (flatTaking (realise k) f) (orElse (flatTaking (finish k) f) (flatTaking (move k) f))
+
+abbrev pub flatDrainStep : Flat → Answer FlatTaken
+flatDrainStep f = flatDrainStepAt (firstPlace (f .queue)) f
+
+-- how many steps can follow, at most: a station's key is one more than the stations behind it
+abbrev pub weightIn : Tagged → ℕ
+weightIn x = cond (eqb (x .place) 65) (weightOfCall (x .call)) (length (opIn x .targets) + x .place)
+
+abbrev pub weightOfQueue : List Tagged → ℕ
+weightOfQueue [] = 0
+weightOfQueue (x ∷ xs) = weightIn x + weightOfQueue xs

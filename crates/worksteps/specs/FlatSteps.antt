@@ -1,0 +1,169 @@
+-- The work steps on the flat session, by index in the queue, in the shape that the code has. proofs/Steps.antt shows that each
+-- is the nested session's step.
+-- Assumes nothing.
+use Prim.Native.Nat.{ℕ, zero, suc, _+_, _-_}
+use mathlib.Core.Bool.{Bool, true, false, cond, not, _&&_, _||_}
+use mathlib.Core.List.{List, [], _∷_, _++_, map}
+use lib.Dec.{eqb, leb, ltb}
+use lib.ListN.{length, take, drop, getD, set}
+use lib.Seq.{slice}
+use Rattle.graph.specs.Refusals.{Answer, refused, done, mapDone}
+use Rattle.graph.specs.KeyLists.{isNil, contains}
+use Rattle.graph.specs.Nodes.{Node, Op, actOn, actBy, stored, newNode, addResult}
+use Rattle.graph.specs.OneAtATime.{Labelled, addOf, opOf}
+use Rattle.graph.specs.Sessions.{store}
+use Rattle.graph.specs.Steps.{Step, admit, realise, move, finish, join, split, swap, fuse, maySwap, mayFuse, fused}
+use Rattle.queue.specs.Flat.{Tagged, Flat, carried, find, atPlace, isAt, endOf}
+
+-- LISTS BY INDEX
+module _ {A : Type 0} where
+  abbrev pub any : (A → Bool) → List A → Bool
+  any p [] = false
+  any p (x ∷ xs) = p x || any p xs
+
+  abbrev pub alter : ℕ → (A → A) → List A → List A
+  alter i f [] = []
+  alter zero f (x ∷ xs) = f x ∷ xs
+  alter (suc i) f (x ∷ xs) = x ∷ alter i f xs
+
+  abbrev pub removeAt : ℕ → List A → List A
+  removeAt p xs = take p xs ++ drop (suc p) xs
+
+  -- f of each element from index a up to, not including, e
+  abbrev pub mapFrom : (A → A) → ℕ → ℕ → List A → List A
+  mapFrom f a e xs = take a xs ++ (map f (slice a e xs) ++ drop e xs)
+
+  -- the first element from index a up to, not including, e, that p holds of; e where there is none
+  abbrev pub firstIn : (A → Bool) → ℕ → ℕ → List A → ℕ
+  firstIn p a e xs = a + find p (slice a e xs)
+
+-- PARTS OF THE QUEUE
+abbrev pub noOp : Tagged
+noOp = record { place = 0; opens = false; call = addOf 0 0 }
+
+abbrev pub noNode : Node
+noNode = record { key = 0; value = 0; links = [] }
+
+abbrev pub moveTo : ℕ → Tagged → Tagged
+moveTo j x = record { place = j; opens = x .opens; call = x .call }
+
+abbrev pub openAs : Bool → Tagged → Tagged
+openAs b x = record { place = x .place; opens = b; call = x .call }
+
+abbrev pub withOp : Tagged → Op → Tagged
+withOp x o = record { place = x .place; opens = x .opens; call = opOf o }
+
+abbrev pub withQueue : Flat → List Tagged → Flat
+withQueue f q = record { nodes = f .nodes; queue = q; results = f .results; last = f .last }
+
+abbrev pub opIn : Tagged → Op
+opIn x = carried (x .call)
+
+-- does it target the node with key k?
+abbrev pub hitsKey : ℕ → Tagged → Bool
+hitsKey k x = contains k (opIn x .targets)
+
+-- a step on the head unit of station k: from index h up to, not including, e
+abbrev pub onHead : ℕ → (ℕ → ℕ → Flat → Answer Flat) → ℕ → Flat → Answer Flat
+onHead k g h f = cond (isAt k h (f .queue)) (g h (endOf k h (f .queue)) f) (refused 21)
+
+abbrev pub headUnit : ℕ → (ℕ → ℕ → Flat → Answer Flat) → Flat → Answer Flat
+headUnit k g f = onHead k g (find (atPlace k) (f .queue)) f
+
+-- MOVE
+abbrev pub moveFlat : ℕ → ℕ → ℕ → Flat → Answer Flat
+moveFlat k h e f = cond (eqb k 1 || any (hitsKey k) (slice h e (f .queue))) (refused 22) (done (withQueue f (mapFrom (moveTo (k - 1)) h e (f .queue))))
+
+-- REALISE
+abbrev pub actAt : ℕ → ℕ → Tagged → Node → Flat → Flat
+actAt k p x n f = record { nodes = set (f .nodes) (k - 1) (actOn (opIn x) n); queue = set (f .queue) p (withOp x (actBy (opIn x) n)); results = f .results; last = f .last }
+
+abbrev pub realiseFrom : ℕ → ℕ → ℕ → Flat → Answer Flat
+realiseFrom k e p f = cond (ltb p e) (done (actAt k p (getD (f .queue) p noOp) (getD (f .nodes) (k - 1) noNode) f)) (refused 22)
+
+abbrev pub realiseFlat : ℕ → ℕ → ℕ → Flat → Answer Flat
+realiseFlat k h e f = realiseFrom k e (firstIn (hitsKey k) h e (f .queue)) f
+
+-- FINISH
+abbrev pub finishesAt : ℕ → Tagged → Bool
+finishesAt k x = isNil (opIn x .targets) || (eqb k 1 && not (hitsKey k x))
+
+-- the operation at p goes, and hands its mark on to the next of its unit
+abbrev pub takeOut : ℕ → ℕ → Tagged → List Tagged → List Tagged
+takeOut p e x q = removeAt p (cond (ltb (suc p) e) (alter (suc p) (openAs (x .opens)) q) q)
+
+abbrev pub finishPlace : ℕ → ℕ → Tagged → Flat → Flat
+finishPlace p e x f = record { nodes = f .nodes; queue = takeOut p e x (f .queue); results = store (stored (opIn x)) (f .results); last = f .last }
+
+abbrev pub finishFrom : ℕ → ℕ → Flat → Answer Flat
+finishFrom e p f = cond (ltb p e) (done (finishPlace p e (getD (f .queue) p noOp) f)) (refused 22)
+
+abbrev pub finishFlat : ℕ → ℕ → ℕ → Flat → Answer Flat
+finishFlat k h e f = finishFrom e (firstIn (finishesAt k) h e (f .queue)) f
+
+-- UNITS BY NUMBER
+-- unit number i, counted from 1 at p: g gets where it starts and ends
+abbrev pub unitFrom : ℕ → (ℕ → ℕ → List Tagged → Answer (List Tagged)) → ℕ → ℕ → List Tagged → Answer (List Tagged)
+unitFrom k g zero p q = refused 21
+unitFrom k g (suc zero) p q = cond (isAt k p q) (g p (endOf k p q) q) (refused 21)
+unitFrom k g (suc (suc i)) p q = cond (isAt k p q) (unitFrom k g (suc i) (endOf k p q) q) (refused 21)
+
+-- that unit and the next: g gets where the one starts, where the next does, and where that ends
+abbrev pub withNext : ℕ → (ℕ → ℕ → ℕ → List Tagged → Answer (List Tagged)) → ℕ → ℕ → List Tagged → Answer (List Tagged)
+withNext k g p e q = cond (isAt k e q) (g p e (endOf k e q) q) (refused 21)
+
+abbrev pub pairFrom : ℕ → (ℕ → ℕ → ℕ → List Tagged → Answer (List Tagged)) → ℕ → ℕ → List Tagged → Answer (List Tagged)
+pairFrom k g i p q = unitFrom k (withNext k g) i p q
+
+abbrev pub joinFlat : ℕ → ℕ → ℕ → List Tagged → Answer (List Tagged)
+joinFlat p e end q = done (alter e (openAs false) q)
+
+abbrev pub splitFlat : ℕ → ℕ → ℕ → List Tagged → Answer (List Tagged)
+splitFlat j p e q = cond (leb 1 j && ltb (p + j) e) (done (alter (p + j) (openAs true) q)) (refused 22)
+
+-- two neighbours, each alone in its unit
+abbrev pub neighbours : (ℕ → ℕ → Tagged → Tagged → List Tagged → Answer (List Tagged)) → ℕ → ℕ → ℕ → List Tagged → Answer (List Tagged)
+neighbours g p e end q = cond (eqb e (suc p) && eqb end (suc e)) (g p e (getD q p noOp) (getD q e noOp) q) (refused 22)
+
+abbrev pub swapFlat : ℕ → ℕ → Tagged → Tagged → List Tagged → Answer (List Tagged)
+swapFlat p e x y q = cond (maySwap (opIn x) (opIn y)) (done (set (set q p y) e x)) (refused 22)
+
+abbrev pub fuseFlat : ℕ → ℕ → Tagged → Tagged → List Tagged → Answer (List Tagged)
+fuseFlat p e x y q = cond (mayFuse (opIn x) (opIn y)) (done (removeAt e (set q p (withOp x (fused (opIn x) (opIn y)))))) (refused 22)
+
+abbrev pub onQueue : (ℕ → List Tagged → Answer (List Tagged)) → ℕ → Flat → Answer Flat
+onQueue g k f = mapDone (withQueue f) (g (find (atPlace k) (f .queue)) (f .queue))
+
+-- ADMIT: w is the place of the first waiting call
+abbrev pub admitCall : ℕ → Labelled → Flat → Flat
+admitCall w (addOf l v) f =
+    record {
+      nodes = f .nodes ++ (newNode (length (f .nodes)) v ∷ []);
+      queue = removeAt w (f .queue);
+      results = store (addResult l (length (f .nodes)) ∷ []) (f .results);
+      last = f .last;
+    }
+admitCall w (opOf o) f =
+    cond (eqb (length (f .nodes)) 0)
+    (record { nodes = f .nodes; queue = removeAt w (f .queue); results = store (stored o) (f .results); last = f .last })
+    (withQueue f (alter w (moveTo (length (f .nodes))) (f .queue)))
+
+abbrev pub admitFrom : ℕ → Flat → Answer Flat
+admitFrom w f = cond (isAt 65 w (f .queue)) (done (admitCall w ((getD (f .queue) w noOp) .call) f)) (refused 21)
+
+-- EVERY STEP
+abbrev pub known : ℕ → Flat → Bool
+known k f = leb 1 k && leb k (length (f .nodes))
+
+abbrev pub atKey : ℕ → (Flat → Answer Flat) → Flat → Answer Flat
+atKey k g f = cond (known k f) (g f) (refused 20)
+
+abbrev pub flatStep : Step → Flat → Answer Flat
+flatStep admit f = admitFrom (find (atPlace 65) (f .queue)) f
+flatStep (realise k) f = atKey k (headUnit k (realiseFlat k)) f
+flatStep (move k) f = atKey k (headUnit k (moveFlat k)) f
+flatStep (finish k) f = atKey k (headUnit k (finishFlat k)) f
+flatStep (join k i) f = atKey k (onQueue (pairFrom k joinFlat i) k) f
+flatStep (split k i j) f = atKey k (onQueue (unitFrom k (splitFlat j) i) k) f
+flatStep (swap k i) f = atKey k (onQueue (pairFrom k (neighbours swapFlat) i) k) f
+flatStep (fuse k i) f = atKey k (onQueue (pairFrom k (neighbours fuseFlat) i) k) f

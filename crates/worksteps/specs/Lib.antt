@@ -1,0 +1,2 @@
+pub mod FlatSteps
+pub mod FlatEvents
