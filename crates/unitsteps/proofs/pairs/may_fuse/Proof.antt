@@ -1,3 +1,14 @@
+-- Test by test, as the definition has them.
+-- Assumes nothing.
+use mathlib.Core.Path.{_≡_, sym, ap, _∙_}
+use Prim.Native.Nat.{ℕ, _+_}
+use mathlib.Core.Bool.{true, false}
+use mathlib.Core.List.{_++_}
+use lib.Dec.{leb}
+use lib.ListN.{length, length-append}
+use borrow.Author.Tests.{not-true, not-false}
+use Rattle.valid.specs.Values.{labelsOf}
+use Rattle.state.proofs.ResultLaws.{labels-count}
 use native.Mathlib.Omega.{arith}
 use borrow.Author.Needs.{needs}
 use Rattle.unitsteps.proofs.pairs.may_fuse.Statement.{statement}
@@ -13,7 +24,7 @@ is-map-requires c κs = search needs
 
 -- src/pairs.rt:32:9
 returns : tie.Need-returns
-returns c = ?
+returns c = rw (sym (c .before .is-map .ensures) ∙ not-true _ (c .if1 .taken))
 
 -- src/pairs.rt:35:9
 is-map-requires-2 : tie.Need-is-map-requires-2
@@ -21,7 +32,7 @@ is-map-requires-2 c κs = search needs
 
 -- src/pairs.rt:36:9
 returns-2 : tie.Need-returns-2
-returns-2 c = ?
+returns-2 c = rw (sym (c .before .before .before .is-map .ensures) ∙ not-false _ (c .before .before .if1 .left), sym (c .before .is-map2 .ensures) ∙ not-true _ (c .if2 .taken))
 
 -- src/pairs.rt:40:9
 same-requires : tie.Need-same-requires
@@ -29,7 +40,7 @@ same-requires c κs = search needs
 
 -- src/pairs.rt:41:9
 returns-3 : tie.Need-returns-3
-returns-3 c = ?
+returns-3 c = rw (sym (c .before .before .before .before .before .before .before .is-map .ensures) ∙ not-false _ (c .before .before .before .before .before .before .if1 .left), sym (c .before .before .before .before .before .is-map2 .ensures) ∙ not-false _ (c .before .before .before .before .if2 .left), sym (c .before .same .ensures) ∙ not-true _ (c .if3 .taken))
 
 -- src/pairs.rt:45:5
 cast-result : tie.Need-cast-result
@@ -45,7 +56,12 @@ add-result c = search needs
 
 -- src/pairs.rt:26:1
 returns-4 : tie.Need-returns-4
-returns-4 c = ?
+returns-4 c = 
+    let s = c .before .before .before .before .before .before .before .before .before .before .before .before in
+    let l = s .args .a .labels in
+    let m = s .args .b .labels in
+    let e : l .count + m .count ≡ length (labelsOf l ++ labelsOf m) = omega (arith, labels-count l (s .pre .0 .names), labels-count m (s .pre .1 .names), length-append (labelsOf l) (labelsOf m)) in
+    rw (sym (c .before .before .before .before .before .before .before .before .before .before .before .is-map .ensures) ∙ not-false _ (c .before .before .before .before .before .before .before .before .before .before .if1 .left), sym (c .before .before .before .before .before .before .before .before .before .is-map2 .ensures) ∙ not-false _ (c .before .before .before .before .before .before .before .before .if2 .left), sym (c .before .before .before .before .before .same .ensures) ∙ not-false _ (c .before .before .before .before .if3 .left)) (ap (λ (n : ℕ). leb n 4) e)
 
 pub may-fuse-spec : {M : Type 1} → statement M
 may-fuse-spec =
