@@ -6,7 +6,7 @@ use native.Mathlib.Numerals.{add-one}
 use native.Mathlib.Omega.{arith}
 use mathlib.Core.List.{List, [], _∷_, _++_, append-nil, append-assoc}
 use lib.ListN.{length, getD, set, take, replicate, length-append}
-use lib.Seq.{take-suc, length-take-le, append-snoc, set-append-seam}
+use lib.Seq.{take-suc, length-take-le, append-snoc, set-append-seam, take-append-seam}
 use Rattle.records.specs.declared.labels.Labels.{Labels}
 use Rattle.valid.specs.Values.{labelsOf, packedLabels}
 
@@ -37,3 +37,8 @@ module _ (a b : Labels) where
 pub packed-made : (l : List ℕ) (n : ℕ) (ls : List ℕ) → n ≡ length l → ls ≡ packedLabels l .label → record { count = n; label = ls } ≡ packedLabels l
 unfolding packedLabels
 packed-made l n ls e d = λ i. record { count = e i; label = d i }
+
+-- the struct of a list lists it
+pub listed-labels : (l : List ℕ) → labelsOf (packedLabels l) ≡ l
+unfolding packedLabels
+listed-labels l = take-append-seam l (replicate (4 - length l) 0)

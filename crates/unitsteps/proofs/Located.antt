@@ -141,3 +141,23 @@ module _ {x : Answer Span} (u : Spot) (e : x ≡ spotted u) where
 
   pub spot-yes : u .refusal ≡ 0 → x ≡ done (spanOf u)
   spot-yes z = e ∙ rw (eq-eqb (u .refusal) 0 z) refl
+
+-- so a step on the unit, or on the two, is refused, or works on what was found
+module _ (k i : ℕ) (f : Flat) (u : Spot) where
+  module _ (g : ℕ → ℕ → List Tagged → Answer (List Tagged)) (e : locate k i f ≡ spotted u) where
+    pub one-no : (u .refusal ≡ 0 → ⊥) → atKey k (onQueue (unitFrom k g i) k) f ≡ refused (u .refusal)
+    one-no n = step-located k i f g ∙ ap (λ (y : Answer Span). andThen y (λ (s : Span). mapDone (withQueue f) (g (s .start) (s .end) (f .queue)))) (spot-no u e n)
+
+    pub one-yes : u .refusal ≡ 0 → atKey k (onQueue (unitFrom k g i) k) f ≡ mapDone (withQueue f) (g (u .start) (u .end) (f .queue))
+    one-yes z = step-located k i f g ∙ ap (λ (y : Answer Span). andThen y (λ (s : Span). mapDone (withQueue f) (g (s .start) (s .end) (f .queue)))) (spot-yes u e z)
+
+  module _ (g : ℕ → ℕ → Tagged → Tagged → List Tagged → Answer (List Tagged)) (e : locateTwo k i f ≡ spotted u) where
+    on : Span → Answer Flat
+    on s = mapDone (withQueue f) (g (s .start) (s .end) (getD (f .queue) (s .start) noOp) (getD (f .queue) (s .end) noOp) (f .queue))
+
+    pub two-no : (u .refusal ≡ 0 → ⊥) → atKey k (onQueue (unitFrom k (withNext k (neighbours g)) i) k) f ≡ refused (u .refusal)
+    two-no n = step-two k i f g ∙ ap (λ (y : Answer Span). andThen y on) (spot-no u e n)
+
+    pub two-yes : u .refusal ≡ 0 → atKey k (onQueue (unitFrom k (withNext k (neighbours g)) i) k) f
+        ≡ mapDone (withQueue f) (g (u .start) (u .end) (getD (f .queue) (u .start) noOp) (getD (f .queue) (u .end) noOp) (f .queue))
+    two-yes z = step-two k i f g ∙ ap (λ (y : Answer Span). andThen y on) (spot-yes u e z)
