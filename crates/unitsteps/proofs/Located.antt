@@ -152,7 +152,7 @@ module _ (k i : ℕ) (f : Flat) (u : Spot) where
     one-yes z = step-located k i f g ∙ ap (λ (y : Answer Span). andThen y (λ (s : Span). mapDone (withQueue f) (g (s .start) (s .end) (f .queue)))) (spot-yes u e z)
 
   module _ (g : ℕ → ℕ → Tagged → Tagged → List Tagged → Answer (List Tagged)) (e : locateTwo k i f ≡ spotted u) where
-    on : Span → Answer Flat
+    abbrev on : Span → Answer Flat
     on s = mapDone (withQueue f) (g (s .start) (s .end) (getD (f .queue) (s .start) noOp) (getD (f .queue) (s .end) noOp) (f .queue))
 
     pub two-no : (u .refusal ≡ 0 → ⊥) → atKey k (onQueue (unitFrom k (withNext k (neighbours g)) i) k) f ≡ refused (u .refusal)
