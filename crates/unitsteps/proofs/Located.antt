@@ -1,0 +1,163 @@
+-- Units by number: one turn of the loop that finds them, and the steps on them.
+-- Assumes nothing.
+use mathlib.Core.Path.{_≡_, refl, sym, _∙_, ap}
+use Prim.Native.Nat.{ℕ, zero, suc, _+_, _≤_, _<_}
+use native.Mathlib.Omega.{arith}
+use mathlib.Core.Bool.{Bool, true, false, cond, true≢false, _&&_}
+use mathlib.Core.List.{List}
+use lib.Dec.{eqb, ltb}
+use lib.ListN.{length, getD, drop, length-drop}
+use borrow.Author.Tests.{ltb-true, ltb-false, eq-eqb, ne-eqb}
+use Rattle.graph.specs.Refusals.{Answer, refused, done, mapDone}
+use Rattle.graph.proofs.Answers.{Holds, refuses, holds, holds-cond, holds-at}
+use Rattle.queue.specs.Flat.{Tagged, Flat, find, breaks, atPlace, isAt, endOf}
+use Rattle.queue.proofs.Places.{by-bool}
+use Rattle.worksteps.specs.FlatSteps.{noOp, unitFrom, withNext, neighbours, onQueue, atKey, withQueue, known}
+use Rattle.worksteps.proofs.Facts.{here-past, onUnit, unit-start}
+use Rattle.worksteps.proofs.Facts.{unitStart as unitStartOf}
+use Rattle.state.proofs.ResultLaws.{find-within}
+use Rattle.unitsteps.specs.declared.units.Spot.{Spot}
+use Rattle.unitsteps.specs.Numbered.{unitStart, andThen, Span, spanAt, locate, alone, locateTwo, spotted}
+
+-- WHERE A UNIT STARTS: one turn of the loop
+module _ (k : ℕ) (q : List Tagged) where
+  pub unit-next : (m i p : ℕ) → i ≡ m + 1 → 1 ≤ m → isAt k p q ≡ true → unitStart k i p q ≡ unitStart k m (endOf k p q) q
+  unit-next zero i p e h t = absurd (omega arith)
+  unit-next (suc m) i p e h t =
+      let f : i ≡ suc (suc m) = omega arith in
+      ap (λ (n : ℕ). unitStart k n p q) f ∙ rw t refl
+
+  pub unit-none : (i p : ℕ) → 1 < i → isAt k p q ≡ false → unitStart k i p q ≡ length q
+  unit-none zero p h t = absurd (omega arith)
+  unit-none (suc zero) p h t = absurd (omega arith)
+  unit-none (suc (suc i)) p h t = rw t refl
+
+  -- an operation of a station stands before the queue's end, and its unit ends at most there
+  pub at-within : (p : ℕ) → isAt k p q ≡ true → p < length q
+  at-within p t =
+      by-bool (ltb p (length q)) (λ e. ltb-true p (length q) e) (λ e. absurd (true≢false (sym t ∙ here-past (atPlace k) q p (ltb-false p (length q) e))))
+
+  pub end-within : (p : ℕ) → p < length q → endOf k p q ≤ length q
+  end-within p h = omega (arith, find-within (breaks k) (drop (suc p) q), length-drop (suc p) q)
+
+  same-start : (i p : ℕ) → unitStartOf k i p q ≡ unitStart k i p q
+  same-start zero p = refl
+  same-start (suc zero) p = refl
+  same-start (suc (suc i)) p = ap (λ (n : ℕ). cond (isAt k p q) n (length q)) (same-start (suc i) (endOf k p q))
+
+  -- two neighbours, each alone in its unit: one test after the other
+  module _ (s : Span) where
+    pub alone-past : isAt k (s .end) q ≡ false → alone k q s ≡ refused 21
+    alone-past t = rw t refl
+
+    module _ (t : isAt k (s .end) q ≡ true) where
+      pub alone-first : (s .start + 1 ≡ s .end → ⊥) → alone k q s ≡ refused 22
+      alone-first n = rw (t, ne-eqb (s .end) (suc (s .start)) (λ e. n (omega arith))) refl
+
+      module _ (d : s .start + 1 ≡ s .end) where
+        pub alone-second : (s .end + 1 ≡ endOf k (s .end) q → ⊥) → alone k q s ≡ refused 22
+        alone-second n = rw (t, eq-eqb (s .end) (suc (s .start)) (omega arith), ne-eqb (endOf k (s .end) q) (suc (s .end)) (λ e. n (omega arith))) refl
+
+        pub alone-both : s .end + 1 ≡ endOf k (s .end) q → alone k q s ≡ done s
+        alone-both e = rw (t, eq-eqb (s .end) (suc (s .start)) (omega arith), eq-eqb (endOf k (s .end) q) (suc (s .end)) (omega arith)) refl
+
+-- THE STEPS, where the unit, or the two, are found
+module _ (k i : ℕ) (f : Flat) where
+  pub step-located : (g : ℕ → ℕ → List Tagged → Answer (List Tagged))
+      → atKey k (onQueue (unitFrom k g i) k) f ≡ andThen (locate k i f) (λ s. mapDone (withQueue f) (g (s .start) (s .end) (f .queue)))
+  step-located g =
+      ap (λ (x : Answer (List Tagged)). cond (known k f) (mapDone (withQueue f) x) (refused 20))
+      (unit-start k g i (find (atPlace k) (f .queue)) (f .queue) ∙ ap (λ (n : ℕ). onUnit k g n (f .queue)) (same-start k (f .queue) i (find (atPlace k) (f .queue))))
+      ∙ go (known k f) (unitStart k i (find (atPlace k) (f .queue)) (f .queue)) (isAt k (unitStart k i (find (atPlace k) (f .queue)) (f .queue)) (f .queue))
+    where
+      go : (b : Bool) (n : ℕ) (d : Bool)
+          → cond b (mapDone (withQueue f) (cond d (g n (endOf k n (f .queue)) (f .queue)) (refused 21))) (refused 20)
+          ≡ andThen (cond b (cond d (done (record { start = n; end = endOf k n (f .queue) })) (refused 21)) (refused 20)) (λ (s : Span). mapDone (withQueue f) (g (s .start) (s .end) (f .queue)))
+      go true n true = refl
+      go true n false = refl
+      go false n d = refl
+
+  pub step-two : (g : ℕ → ℕ → Tagged → Tagged → List Tagged → Answer (List Tagged))
+      → atKey k (onQueue (unitFrom k (withNext k (neighbours g)) i) k) f
+      ≡ andThen (locateTwo k i f) (λ s. mapDone (withQueue f) (g (s .start) (s .end) (getD (f .queue) (s .start) noOp) (getD (f .queue) (s .end) noOp) (f .queue)))
+  step-two g = step-located (withNext k (neighbours g)) ∙ go (locate k i f)
+    where
+      on : Span → Answer (List Tagged)
+      on s = g (s .start) (s .end) (getD (f .queue) (s .start) noOp) (getD (f .queue) (s .end) noOp) (f .queue)
+      at : (s : Span) (b d : Bool) → mapDone (withQueue f) (cond b (cond d (on s) (refused 22)) (refused 21)) ≡ andThen (cond b (cond d (done s) (refused 22)) (refused 21)) (λ (t : Span). mapDone (withQueue f) (on t))
+      at s true true = refl
+      at s true false = refl
+      at s false d = refl
+      go : (x : Answer Span)
+          → andThen x (λ (s : Span). mapDone (withQueue f) (withNext k (neighbours g) (s .start) (s .end) (f .queue)))
+          ≡ andThen (andThen x (alone k (f .queue))) (λ (t : Span). mapDone (withQueue f) (on t))
+      go (refused r) = refl
+      go (done s) = at s (isAt k (s .end) (f .queue)) (eqb (s .end) (suc (s .start)) && eqb (endOf k (s .end) (f .queue)) (suc (s .end)))
+
+-- WHAT IS KNOWN of a unit that was found, and of two
+pub record Stands (k : ℕ) (f : Flat) (s : Span) : Type 0 where
+  pub node : known k f ≡ true
+  pub first : isAt k (s .start) (f .queue) ≡ true
+  pub size : s .end ≡ endOf k (s .start) (f .queue)
+
+pub record Both (k : ℕ) (f : Flat) (s : Span) : Type 0 where
+  pub node : known k f ≡ true
+  pub first : isAt k (s .start) (f .queue) ≡ true
+  pub second : isAt k (s .end) (f .queue) ≡ true
+
+module _ (k i : ℕ) (f : Flat) where
+  located-stands : Holds (Stands k f) (locate k i f)
+  located-stands =
+      let n = unitStart k i (find (atPlace k) (f .queue)) (f .queue) in
+      holds-cond (known k f) (λ e. holds-cond (isAt k n (f .queue)) (λ d. holds (record { node = e; first = d; size = refl })) (λ d. refuses)) (λ e. refuses)
+
+  pub stands : (s : Span) → locate k i f ≡ done s → Stands k f s
+  stands s e = go (locate k i f) located-stands e
+    where
+      go : (x : Answer Span) → Holds (Stands k f) x → x ≡ done s → Stands k f s
+      go x h e = holds-at (rw e at h)
+
+  two-stand : Holds (Both k f) (locateTwo k i f)
+  two-stand = go (locate k i f) located-stands
+    where
+      go : (x : Answer Span) → Holds (Stands k f) x → Holds (Both k f) (andThen x (alone k (f .queue)))
+      go (refused r) h = refuses
+      go (done s) h =
+          holds-cond (isAt k (s .end) (f .queue))
+          (λ d.
+          holds-cond (eqb (s .end) (suc (s .start)) && eqb (endOf k (s .end) (f .queue)) (suc (s .end))) (λ b. holds (record { node = holds-at h .node; first = holds-at h .first; second = d })) (λ b. refuses))
+          (λ d. refuses)
+
+  pub both : (s : Span) → locateTwo k i f ≡ done s → Both k f s
+  both s e = holds-at (rw e at two-stand)
+
+-- AS THE STRUCT SAYS IT
+abbrev pub spanOf : Spot → Span
+spanOf u = record { start = u .start; end = u .end }
+
+module _ {x : Answer Span} (u : Spot) (e : x ≡ spotted u) where
+  pub spot-no : (u .refusal ≡ 0 → ⊥) → x ≡ refused (u .refusal)
+  spot-no n = e ∙ rw (ne-eqb (u .refusal) 0 n) refl
+
+  pub spot-yes : u .refusal ≡ 0 → x ≡ done (spanOf u)
+  spot-yes z = e ∙ rw (eq-eqb (u .refusal) 0 z) refl
+
+-- so a step on the unit, or on the two, is refused, or works on what was found
+module _ (k i : ℕ) (f : Flat) (u : Spot) where
+  module _ (g : ℕ → ℕ → List Tagged → Answer (List Tagged)) (e : locate k i f ≡ spotted u) where
+    pub one-no : (u .refusal ≡ 0 → ⊥) → atKey k (onQueue (unitFrom k g i) k) f ≡ refused (u .refusal)
+    one-no n = step-located k i f g ∙ ap (λ (y : Answer Span). andThen y (λ (s : Span). mapDone (withQueue f) (g (s .start) (s .end) (f .queue)))) (spot-no u e n)
+
+    pub one-yes : u .refusal ≡ 0 → atKey k (onQueue (unitFrom k g i) k) f ≡ mapDone (withQueue f) (g (u .start) (u .end) (f .queue))
+    one-yes z = step-located k i f g ∙ ap (λ (y : Answer Span). andThen y (λ (s : Span). mapDone (withQueue f) (g (s .start) (s .end) (f .queue)))) (spot-yes u e z)
+
+  module _ (g : ℕ → ℕ → Tagged → Tagged → List Tagged → Answer (List Tagged)) (e : locateTwo k i f ≡ spotted u) where
+    abbrev on : Span → Answer Flat
+    on s = mapDone (withQueue f) (g (s .start) (s .end) (getD (f .queue) (s .start) noOp) (getD (f .queue) (s .end) noOp) (f .queue))
+
+    pub two-no : (u .refusal ≡ 0 → ⊥) → atKey k (onQueue (unitFrom k (withNext k (neighbours g)) i) k) f ≡ refused (u .refusal)
+    two-no n = step-two k i f g ∙ ap (λ (y : Answer Span). andThen y on) (spot-no u e n)
+
+    pub two-yes : u .refusal ≡ 0 → atKey k (onQueue (unitFrom k (withNext k (neighbours g)) i) k) f
+        ≡ mapDone (withQueue f) (g (u .start) (u .end) (getD (f .queue) (u .start) noOp) (getD (f .queue) (u .end) noOp) (f .queue))
+    two-yes z = step-two k i f g ∙ ap (λ (y : Answer Span). andThen y on) (spot-yes u e z)

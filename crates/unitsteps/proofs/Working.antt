@@ -1,0 +1,73 @@
+-- The steps on a live image: the operations that stand at a station, and the answers that are given.
+-- Assumes nothing.
+use mathlib.Core.Path.{_≡_, refl, sym, _∙_, ap, subst}
+use Prim.Native.Nat.{ℕ, _≤_, _<_}
+use native.Mathlib.Omega.{arith}
+use mathlib.Core.Bool.{Bool, true, cond, _&&_}
+use mathlib.Core.List.{List, _++_}
+use lib.Dec.{eqb, leb}
+use lib.ListN.{length, getD, set}
+use borrow.Author.Tests.{eqb-true, ne-eqb, leb-true}
+use Rattle.graph.specs.Refusals.{Answer, refused, done, mapDone}
+use Rattle.graph.specs.Acts.{isMap}
+use Rattle.graph.specs.KeyLists.{sameKeys}
+use Rattle.graph.specs.Steps.{maySwap, mayFuse, fused}
+use Rattle.graph.proofs.Answers.{and-right}
+use Rattle.graph.specs.OneAtATime.{opOf}
+use Rattle.graph.specs.Nodes.{Op}
+use Rattle.queue.specs.Flat.{Tagged, Flat, isOp, carried, atPlace, isAt, flat, nest}
+use Rattle.worksteps.specs.FlatSteps.{noOp, known, opIn, withOp, withQueue, removeAt, swapFlat, fuseFlat}
+use Rattle.worksteps.proofs.Facts.{Sits, sits-at, here-at}
+use Rattle.state.specs.Operations.{opValue, Carries}
+use Rattle.state.specs.declared.operation.Operation.{Operation}
+use Rattle.state.specs.State.{held, Shows}
+use Rattle.state.proofs.NodeLaws.{node-count}
+use Rattle.live.specs.Live.{Live, Works}
+use Rattle.unitsteps.proofs.Located.{at-within}
+
+-- ANSWERS
+module _ {x : Answer Flat} {s : List ℕ} where
+  pub works-refused : (n : ℕ) → x ≡ refused n → Works x s s n
+  works-refused n e = rw e (record { number = refl; leaves = refl })
+
+  pub works-done : {f : Flat} (t : List ℕ) → x ≡ done f → Shows f t → Works x s t 0
+  works-done t e h = rw e (record { number = refl; leaves = h })
+
+-- OPERATIONS: what stands at a station is no add
+module _ (image : List ℕ) (live : Live image) (k p : ℕ) (node : known k (held image) ≡ true) (at : isAt k p (held image .queue) ≡ true) where
+  sits : Sits (getD (held image .queue) p noOp)
+  sits =
+      let s = nest (held image) in
+      subst (λ (f : Flat). Sits (getD (f .queue) p noOp)) (live .flat)
+      (sits-at s (live .valid) p (subst (λ (f : Flat). p < length (f .queue)) (sym (live .flat)) (at-within k (held image .queue) p at)))
+
+  pub op-at : isOp (getD (held image .queue) p noOp .call) ≡ true
+  op-at =
+      let x = getD (held image .queue) p noOp in
+      let place : x .place ≡ k = eqb-true (x .place) k (sym (here-at (atPlace k) (held image .queue) p noOp (at-within k (held image .queue) p at)) ∙ at) in
+      let few : k ≤ length (held image .nodes) = leb-true k (length (held image .nodes)) (and-right (leb 1 k) (leb k (length (held image .nodes))) node) in
+      sits .placed (ne-eqb (x .place) 65 (λ e. omega (arith, node-count image (live .proper), live .proper .sound .nodes)))
+
+pub carries-op : (x : Tagged) (o : Operation) → Carries (x .call) o → opIn x ≡ opValue o
+carries-op x o h = ap carried (h .is)
+
+-- THE STEPS ON TWO OPERATIONS, x at p and y at e, which are a and b
+module _ (f : Flat) (p e : ℕ) (x y : Tagged) (a b : Operation) (is : Carries (x .call) a) (next : Carries (y .call) b) where
+  pub swap-by : (t : Bool) → t ≡ maySwap (opValue a) (opValue b)
+      → mapDone (withQueue f) (swapFlat p e x y (f .queue)) ≡ mapDone (withQueue f) (cond t (done (set (set (f .queue) p y) e x)) (refused 22))
+  swap-by t d =
+      ap (λ (c : Bool). mapDone (withQueue f) (cond c (done (set (set (f .queue) p y) e x)) (refused 22))) ((λ i. maySwap (carries-op x a is i) (carries-op y b next i)) ∙ sym d)
+
+  pub fuse-by : (t : Bool) (o : Op) → t ≡ mayFuse (opValue a) (opValue b) → opOf (fused (opValue a) (opValue b)) ≡ opOf o
+      → mapDone (withQueue f) (fuseFlat p e x y (f .queue)) ≡ mapDone (withQueue f) (cond t (done (removeAt e (set (f .queue) p (withOp x o)))) (refused 22))
+  fuse-by t o d m =
+      let test : mayFuse (opIn x) (opIn y) ≡ t = (λ i. mayFuse (carries-op x a is i) (carries-op y b next i)) ∙ sym d in
+      let made : fused (opIn x) (opIn y) ≡ o = (λ i. fused (carries-op x a is i) (carries-op y b next i)) ∙ ap carried m in
+      λ i. mapDone (withQueue f) (cond (test i) (done (removeAt e (set (f .queue) p (withOp x (made i))))) (refused 22))
+
+pub few-labels : (a b : Op) → mayFuse a b ≡ true → length (a .labels ++ b .labels) ≤ 4
+few-labels a b t = leb-true (length (a .labels ++ b .labels)) 4 (and-right (sameKeys (a .targets) (b .targets)) (leb (length (a .labels ++ b .labels)) 4) (and-right (isMap (a .act) && isMap (b .act)) (sameKeys (a .targets) (b .targets) && leb (length (a .labels ++ b .labels)) 4) t))
+
+-- the second goes, after the first was written: s, then t, then u
+pub removed-after : (f : Flat) (q : List Tagged) (t u : List ℕ) (e : ℕ) → Shows (withQueue f q) t → Shows (withQueue (held t) (removeAt e (held t .queue))) u → Shows (withQueue f (removeAt e q)) u
+removed-after f q t u e first then = subst (λ (g : Flat). Shows (withQueue g (removeAt e (g .queue))) u) (first .shows) then

@@ -1,0 +1,45 @@
+-- Units by number: where one starts and ends, and two neighbours that are alone in their units.
+-- Assumes nothing.
+use Prim.Native.Nat.{ℕ, zero, suc}
+use mathlib.Core.Bool.{cond, _&&_}
+use mathlib.Core.List.{List}
+use lib.Dec.{eqb}
+use lib.ListN.{length}
+use Rattle.graph.specs.Refusals.{Answer, refused, done}
+use Rattle.queue.specs.Flat.{Tagged, Flat, find, atPlace, isAt, endOf}
+use Rattle.worksteps.specs.FlatSteps.{known}
+use Rattle.unitsteps.specs.declared.units.Spot.{Spot}
+
+-- where unit i starts, counted from 1 at p; the length where there are not so many units before it
+abbrev pub unitStart : ℕ → ℕ → ℕ → List Tagged → ℕ
+unitStart k zero p q = length q
+unitStart k (suc zero) p q = p
+unitStart k (suc (suc i)) p q = cond (isAt k p q) (unitStart k (suc i) (endOf k p q) q) (length q)
+
+module _ {A B : Type 0} where
+  abbrev pub andThen : Answer A → (A → Answer B) → Answer B
+  andThen (refused r) f = refused r
+  andThen (done a) f = f a
+
+-- where a unit starts, and where it ends: where the next one starts, if there is one
+pub record Span : Type 0 where
+  pub start : ℕ
+  pub end : ℕ
+
+abbrev pub spanAt : ℕ → ℕ → List Tagged → Answer Span
+spanAt k p q = cond (isAt k p q) (done (record { start = p; end = endOf k p q })) (refused 21)
+
+-- unit number i of station k
+abbrev pub locate : ℕ → ℕ → Flat → Answer Span
+locate k i f = cond (known k f) (spanAt k (unitStart k i (find (atPlace k) (f .queue)) (f .queue)) (f .queue)) (refused 20)
+
+-- a unit of one operation, before another such unit
+abbrev pub alone : ℕ → List Tagged → Span → Answer Span
+alone k q s = cond (isAt k (s .end) q) (cond (eqb (s .end) (suc (s .start)) && eqb (endOf k (s .end) q) (suc (s .end))) (done s) (refused 22)) (refused 21)
+
+abbrev pub locateTwo : ℕ → ℕ → Flat → Answer Span
+locateTwo k i f = andThen (locate k i f) (alone k (f .queue))
+
+-- what the struct of src/units.rt says
+abbrev pub spotted : Spot → Answer Span
+spotted r = cond (eqb (r .refusal) 0) (done (record { start = r .start; end = r .end })) (refused (r .refusal))
