@@ -1,6 +1,6 @@
 -- Acceptance after the form's tests: by the numbers of the tests, and by what the image shows after each write.
 -- Assumes nothing.
-use mathlib.Core.Path.{_≡_, refl, ap, _∙_}
+use mathlib.Core.Path.{_≡_, refl, sym, ap, _∙_, subst}
 use Prim.Native.Nat.{ℕ, suc, _+_, _<_}
 use native.Mathlib.Omega.{arith}
 use mathlib.Core.Bool.{Bool, true, false, cond, not, _&&_}
@@ -10,13 +10,13 @@ use lib.ListN.{length}
 use borrow.Author.Tests.{leb-false}
 use Rattle.graph.specs.Calls.{Call, add, map, link, unlink, sum, top, pick, near, isAdd, numbersOf, operandsOf, targetsOf, areWords, formTests}
 use Rattle.graph.specs.KeyLists.{areKeys, rising}
-use Rattle.graph.specs.OneAtATime.{Labelled, addOf, labelled}
+use Rattle.graph.specs.OneAtATime.{Labelled, labelled}
 use Rattle.graph.specs.Refusals.{Answer, refused, done, Test, on, firstOf, unless}
 use Rattle.queue.specs.Flat.{Flat, isOp}
 use Rattle.worksteps.specs.FlatSteps.{withQueue}
 use Rattle.worksteps.specs.FlatEvents.{addsQueued, flatLive, flatAccept}
 use Rattle.state.specs.State.{held, Shows, withLast}
-use Rattle.live.specs.Live.{Live}
+use Rattle.live.specs.Live.{Live, Works}
 use Rattle.calls.specs.Accepting.{liveTests, acceptedAs, flatAcceptRest}
 use Rattle.calls.proofs.Room.{queue-room}
 
@@ -82,6 +82,11 @@ accept-rest c f e =
     go false true d e = absurd (omega arith)
     go false false true e = absurd (omega arith)
     go false false false e = refl
+
+pub accept-works : (c : Call) (f : Flat) {x : Labelled} {before after : List ℕ} {r : ℕ} → firstOf (formTests c) ≡ 0 → labelled c (suc (f .last)) ≡ x
+    → Works (flatAcceptRest x f) before after r → Works (flatAccept c f) before after r
+accept-works c f {x} {before} {after} {r} e q w =
+    subst (λ (y : Answer Flat). Works y before after r) (ap (λ (z : Labelled). flatAcceptRest z f) (sym q) ∙ sym (accept-rest c f e)) w
 
 -- ROOM for one call more
 pub record Spare (f : Flat) : Type 0 where

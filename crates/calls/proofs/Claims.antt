@@ -9,7 +9,7 @@ use lib.ListN.{length}
 use borrow.Author.Tests.{le-leb, lt-leb}
 use Rattle.graph.specs.Acceptance.{takeResult}
 use Rattle.graph.specs.KeyLists.{contains}
-use Rattle.graph.specs.Refusals.{refused, done, numberOf}
+use Rattle.graph.specs.Refusals.{refused, done}
 use Rattle.queue.specs.Flat.{Flat, find}
 use Rattle.worksteps.specs.FlatEvents.{queued, flatClaim}
 use Rattle.state.specs.Results.{hasLabel, takenAt}

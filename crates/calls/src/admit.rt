@@ -10,7 +10,7 @@ ghost use Prim.Native.Nat.{_+_, _<_, _≤_};
 ghost use lib.ListN.{length, getD};
 ghost use Rattle.graph.specs.Steps.{admit};
 ghost use Rattle.queue.specs.Flat.{isOp};
-ghost use Rattle.worksteps.specs.FlatSteps.{noOp, admitCall, flatStep};
+ghost use Rattle.worksteps.specs.FlatSteps.{noOp, flatStep};
 ghost use Rattle.worksteps.specs.FlatEvents.{labelsIn};
 ghost use Rattle.state.specs.State.{held, Proper, Shows};
 ghost use Rattle.live.specs.Live.{Live, Works};

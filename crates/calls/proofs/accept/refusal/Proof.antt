@@ -1,6 +1,5 @@
 -- The first test that applies.
 -- Assumes nothing.
-use mathlib.Core.Path.{sym}
 use native.Mathlib.Omega.{arith}
 use borrow.Author.Tests.{le-leb, lt-leb}
 use Rattle.worksteps.specs.FlatEvents.{flatLive}

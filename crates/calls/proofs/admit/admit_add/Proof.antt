@@ -1,7 +1,7 @@
 -- The node, the call and the result, one after another.
 -- Assumes nothing.
-use mathlib.Core.Path.{sym, ap, _∙_}
-use Prim.Native.Nat.{ℕ, suc}
+use mathlib.Core.Path.{ap, _∙_}
+use Prim.Native.Nat.{suc}
 use native.Mathlib.Numerals.{add-one}
 use lib.ListN.{length}
 use Rattle.graph.specs.Packed.{listed}
