@@ -13,7 +13,7 @@ ghost use Rattle.state.specs.State.{held, Proper};
 ghost use Rattle.calls.specs.Admission.{Names};
 
 // The labels of the call at i.
-pub fn labels_at(image: &[u8], i: usize) -> Labels
+fn labels_at(image: &[u8], i: usize) -> Labels
     requires { ⌜ (Proper (now image)) × (i < length (held (now image) .queue)) ⌝ }
     ensures { λ r. ⌜ Names (labelsIn ((getD (held (now (image .entry)) .queue) i noOp) .call)) r ⌝ }
 {
