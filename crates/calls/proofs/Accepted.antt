@@ -1,0 +1,111 @@
+-- Acceptance after the form's tests: by the numbers of the tests, and by what the image shows after each write.
+-- Assumes nothing.
+use mathlib.Core.Path.{_≡_, refl, sym, ap, _∙_, subst}
+use Prim.Native.Nat.{ℕ, suc, _+_, _<_}
+use native.Mathlib.Omega.{arith}
+use mathlib.Core.Bool.{Bool, true, false, cond, not, _&&_}
+use mathlib.Core.List.{List, [], _∷_, _++_}
+use lib.Dec.{leb}
+use lib.ListN.{length}
+use borrow.Author.Tests.{leb-false}
+use Rattle.graph.specs.Calls.{Call, add, map, link, unlink, sum, top, pick, near, isAdd, numbersOf, operandsOf, targetsOf, areWords, formTests}
+use Rattle.graph.specs.KeyLists.{areKeys, rising}
+use Rattle.graph.specs.OneAtATime.{Labelled, labelled}
+use Rattle.graph.specs.Refusals.{Answer, refused, done, Test, on, firstOf, unless}
+use Rattle.queue.specs.Flat.{Flat, isOp}
+use Rattle.worksteps.specs.FlatSteps.{withQueue}
+use Rattle.worksteps.specs.FlatEvents.{addsQueued, flatLive, flatAccept}
+use Rattle.state.specs.State.{held, Shows, withLast}
+use Rattle.live.specs.Live.{Live, Works}
+use Rattle.calls.specs.Accepting.{liveTests, acceptedAs, flatAcceptRest}
+use Rattle.calls.proofs.Room.{queue-room}
+
+-- THE TESTS
+abbrev spent : Flat → Bool
+spent f = leb 64 (length (f .nodes) + addsQueued (f .queue))
+
+first-refuses : {A : Type 0} (ts : List Test) (a : A) → (firstOf ts ≡ 0 → ⊥) → unless ts a ≡ refused (firstOf ts)
+first-refuses [] a h = absurd (h refl)
+first-refuses (t ∷ ts) a h = go (t .applies) h (first-refuses ts a)
+  where
+    go : (b : Bool) → (cond b (t .number) (firstOf ts) ≡ 0 → ⊥) → ((firstOf ts ≡ 0 → ⊥) → unless ts a ≡ refused (firstOf ts)) → cond b (refused (t .number)) (unless ts a) ≡ refused (cond b (t .number) (firstOf ts))
+    go true h ih = refl
+    go false h ih = ih h
+
+-- none of 14 and 15 applies
+record Open (f : Flat) : Type 0 where
+  pub few : leb 64 (flatLive f) ≡ false
+  pub labels : leb 65535 (f .last) ≡ false
+
+open-of : (f : Flat) → firstOf (liveTests f) ≡ 0 → Open f
+open-of f e = go (leb 64 (flatLive f)) (leb 65535 (f .last)) refl refl e
+  where
+    go : (a b : Bool) → leb 64 (flatLive f) ≡ a → leb 65535 (f .last) ≡ b → _≡_ {A = ℕ} (cond a 14 (cond b 15 0)) 0 → Open f
+    go true b p q e = absurd (omega arith)
+    go false true p q e = absurd (omega arith)
+    go false false p q e = record { few = p; labels = q }
+
+module _ (x : Labelled) (f : Flat) where
+  pub rest-spent : (not (isOp x) && spent f) ≡ true → flatAcceptRest x f ≡ refused 13
+  rest-spent e = ap (λ (b : Bool). cond b (refused 13) (unless (liveTests f) (acceptedAs x f))) e
+
+  module _ (unspent : (not (isOp x) && spent f) ≡ false) where
+    rest-live : flatAcceptRest x f ≡ unless (liveTests f) (acceptedAs x f)
+    rest-live = ap (λ (b : Bool). cond b (refused 13) (unless (liveTests f) (acceptedAs x f))) unspent
+
+    pub rest-refused : (firstOf (liveTests f) ≡ 0 → ⊥) → flatAcceptRest x f ≡ refused (firstOf (liveTests f))
+    rest-refused h = rest-live ∙ first-refuses (liveTests f) (acceptedAs x f) h
+
+    pub rest-done : firstOf (liveTests f) ≡ 0 → flatAcceptRest x f ≡ done (acceptedAs x f)
+    rest-done e =
+        let o = open-of f e in
+        rest-live ∙ (λ i. cond (o .few i) (refused 14) (cond (o .labels i) (refused 15) (done (acceptedAs x f))))
+
+-- a call whose form is good is accepted by what follows
+is-add : (c : Call) (l : ℕ) → isAdd c ≡ not (isOp (labelled c l))
+is-add (add v) l = refl
+is-add (map a b ts) l = refl
+is-add (link k ts) l = refl
+is-add (unlink k ts) l = refl
+is-add (sum s ts) l = refl
+is-add (top s ts) l = refl
+is-add (pick s ts) l = refl
+is-add (near k s ts) l = refl
+
+pub accept-rest : (c : Call) (f : Flat) → firstOf (formTests c) ≡ 0 → flatAccept c f ≡ flatAcceptRest (labelled c (suc (f .last))) f
+accept-rest c f e =
+    go (not (areWords (numbersOf c ++ (operandsOf c ++ targetsOf c)))) (not (areKeys (operandsOf c ++ targetsOf c))) (not (leb (length (targetsOf c)) 8 && rising (targetsOf c))) e
+    ∙ ap (λ (b : Bool). unless (on (b && spent f) 13 ∷ liveTests f) (acceptedAs (labelled c (suc (f .last))) f)) (is-add c (suc (f .last)))
+  where
+    go : {y : Answer Flat} (a b d : Bool) → _≡_ {A = ℕ} (cond a 10 (cond b 11 (cond d 12 0))) 0 → cond a (refused 10) (cond b (refused 11) (cond d (refused 12) y)) ≡ y
+    go true b d e = absurd (omega arith)
+    go false true d e = absurd (omega arith)
+    go false false true e = absurd (omega arith)
+    go false false false e = refl
+
+pub accept-works : (c : Call) (f : Flat) {x : Labelled} {before after : List ℕ} {r : ℕ} → firstOf (formTests c) ≡ 0 → labelled c (suc (f .last)) ≡ x
+    → Works (flatAcceptRest x f) before after r → Works (flatAccept c f) before after r
+accept-works c f {x} {before} {after} {r} e q w =
+    subst (λ (y : Answer Flat). Works y before after r) (ap (λ (z : Labelled). flatAcceptRest z f) (sym q) ∙ sym (accept-rest c f e)) w
+
+-- ROOM for one call more
+pub record Spare (f : Flat) : Type 0 where
+  pub queue : length (f .queue) < 64
+  pub labels : f .last < 65535
+
+pub spare : (s : List ℕ) → Live s → firstOf (liveTests (held s)) ≡ 0 → Spare (held s)
+spare s g e =
+    let o = open-of (held s) e in
+    record { queue = queue-room s g (o .few); labels = leb-false 65535 (held s .last) (o .labels) }
+
+-- THE WRITES: the call, the last label
+pub accepted-shown : (s t u : List ℕ) (x y : Labelled) (m : ℕ) → y ≡ x → m ≡ suc (held s .last)
+    → Shows (withQueue (held s) (held s .queue ++ (record { place = 65; opens = true; call = y } ∷ []))) t → Shows (withLast (held t) m) u → Shows (acceptedAs x (held s)) u
+accepted-shown s t u x y m e em a b =
+    record {
+      proper = b .proper;
+      shows =
+          b .shows
+          ∙ ap (λ (g : Flat). withLast g m) (a .shows)
+          ∙ (λ i. withLast (withQueue (held s) (held s .queue ++ (record { place = 65; opens = true; call = e i } ∷ []))) (em i));
+    }

@@ -1,0 +1,93 @@
+-- Admit by what the image shows after each write.
+-- Assumes nothing.
+use mathlib.Core.Path.{_≡_, sym, ap, _∙_}
+use Prim.Native.Nat.{ℕ, suc, _<_}
+use native.Mathlib.Omega.{arith}
+use mathlib.Core.Bool.{Bool, true, cond, true≢false}
+use mathlib.Core.List.{List, [], _∷_, _++_}
+use lib.ListN.{length, getD}
+use borrow.Author.Tests.{eq-eqb, ne-eqb, lt-ltb, le-ltb}
+use Rattle.graph.specs.Acts.{answer}
+use Rattle.graph.specs.Nodes.{newNode, resultsFor, stored}
+use Rattle.graph.specs.OneAtATime.{Labelled, addOf, opOf}
+use Rattle.graph.specs.Packed.{listed}
+use Rattle.graph.specs.Refusals.{refused, done}
+use Rattle.graph.specs.Sessions.{insert, store}
+use Rattle.graph.specs.Steps.{admit}
+use Rattle.queue.specs.Flat.{Flat, carried, isOp, find, atPlace}
+use Rattle.worksteps.specs.FlatSteps.{alter, removeAt, noOp, moveTo, withQueue, admitCall, flatStep}
+use Rattle.worksteps.proofs.Facts.{here-find}
+use Rattle.valid.specs.Values.{labelsOf}
+use Rattle.state.specs.declared.operation.Operation.{Operation}
+use Rattle.state.specs.Operations.{opValue}
+use Rattle.state.specs.Results.{resultWith}
+use Rattle.state.specs.State.{held, Shows, withNodes, withResults}
+use Rattle.state.proofs.ResultLaws.{find-within}
+use Rattle.calls.specs.Admission.{admittedAt, finishedAt}
+
+-- THE STEP, by where the first waiting call stands
+module _ (f : Flat) where
+  pub admit-refused : find (atPlace 65) (f .queue) ≡ length (f .queue) → flatStep admit f ≡ refused 21
+  admit-refused e =
+      ap (λ (b : Bool). cond b (done (admittedAt (find (atPlace 65) (f .queue)) f)) (refused 21))
+      (here-find (atPlace 65) (f .queue) ∙ le-ltb (find (atPlace 65) (f .queue)) (length (f .queue)) (omega arith))
+
+  pub admit-done : (w : ℕ) → w ≡ find (atPlace 65) (f .queue) → w < length (f .queue) → flatStep admit f ≡ done (admittedAt w f)
+  admit-done w e h =
+      ap (λ (b : Bool). cond b (done (admittedAt (find (atPlace 65) (f .queue)) f)) (refused 21))
+      (here-find (atPlace 65) (f .queue) ∙ lt-ltb (find (atPlace 65) (f .queue)) (length (f .queue)) (omega arith))
+      ∙ ap (λ (p : ℕ). done (admittedAt p f)) (sym e)
+
+  pub first-in : (w n : ℕ) → w ≡ find (atPlace 65) (f .queue) → n ≡ length (f .queue) → (w ≡ n → ⊥) → w < length (f .queue)
+  first-in w n e en h = omega (arith, find-within (atPlace 65) (f .queue), h)
+
+  -- an operation, with no nodes and with some
+  module _ (w : ℕ) (op : isOp (getD (f .queue) w noOp .call) ≡ true) where
+    pub admit-none : length (f .nodes) ≡ 0 → finishedAt w f ≡ admittedAt w f
+    admit-none z = go (getD (f .queue) w noOp .call) op
+      where
+        go : (c : Labelled) → isOp c ≡ true → record { nodes = f .nodes; queue = removeAt w (f .queue); results = store (stored (carried c)) (f .results); last = f .last } ≡ admitCall w c f
+        go (addOf l v) e = absurd (true≢false (sym e))
+        go (opOf o) e = rw (eq-eqb (length (f .nodes)) 0 z)
+
+    pub admit-some : (n : ℕ) → n ≡ length (f .nodes) → (n ≡ 0 → ⊥) → withQueue f (alter w (moveTo n) (f .queue)) ≡ admittedAt w f
+    admit-some n e z = go (getD (f .queue) w noOp .call) op
+      where
+        go : (c : Labelled) → isOp c ≡ true → withQueue f (alter w (moveTo n) (f .queue)) ≡ admitCall w c f
+        go (addOf l v) d = absurd (true≢false (sym d))
+        go (opOf o) d = rw (ne-eqb (length (f .nodes)) 0 (λ q. z (e ∙ q))) (ap (λ (k : ℕ). withQueue f (alter w (moveTo k) (f .queue))) e)
+
+-- THE WRITES
+-- an add: its node, its call, its result
+pub add-shown : (s t u x : List ℕ) (w l v n : ℕ) (ks : List ℕ) → getD (held s .queue) w noOp .call ≡ addOf l v → n ≡ suc (length (held s .nodes)) → ks ≡ []
+    → Shows (withNodes (held s) (held s .nodes ++ (newNode (length (held s .nodes)) v ∷ []))) t
+    → Shows (withQueue (held t) (removeAt w (held t .queue))) u
+    → Shows (withResults (held u) (insert (resultWith l n ks) (held u .results))) x
+    → Shows (admittedAt w (held s)) x
+add-shown s t u x w l v n ks e en ek a b d =
+    let f : Flat = withQueue (withNodes (held s) (held s .nodes ++ (newNode (length (held s .nodes)) v ∷ []))) (removeAt w (held s .queue)) in
+    let u-held : held u ≡ f = b .shows ∙ ap (λ (g : Flat). withQueue g (removeAt w (g .queue))) (a .shows) in
+    record {
+      proper = d .proper;
+      shows =
+          d .shows
+          ∙ ap (λ (g : Flat). withResults g (insert (resultWith l n ks) (g .results))) u-held
+          ∙ (λ i. withResults f (insert (resultWith l (en i) (ek i)) (held s .results)))
+          ∙ sym (ap (λ (c : Labelled). admitCall w c (held s)) e);
+    }
+
+-- an operation that finishes: its call, its results
+pub finish-shown : (s t u : List ℕ) (w v : ℕ) (o : Operation) → getD (held s .queue) w noOp .call ≡ opOf (opValue o) → v ≡ answer (o .act) (o .held)
+    → Shows (withQueue (held s) (removeAt w (held s .queue))) t
+    → Shows (withResults (held t) (store (resultsFor (labelsOf (o .labels)) v (listed (o .targets))) (held t .results))) u
+    → Shows (finishedAt w (held s)) u
+finish-shown s t u w v o e ev a b =
+    let q = removeAt w (held s .queue) in
+    record {
+      proper = b .proper;
+      shows =
+          b .shows
+          ∙ ap (λ (g : Flat). withResults g (store (resultsFor (labelsOf (o .labels)) v (listed (o .targets))) (g .results))) (a .shows)
+          ∙ ap (λ (m : ℕ). withResults (withQueue (held s) q) (store (resultsFor (labelsOf (o .labels)) m (listed (o .targets))) (held s .results))) ev
+          ∙ sym (ap (λ (c : Labelled). withResults (withQueue (held s) q) (store (stored (carried c)) (held s .results))) e);
+    }

@@ -1,0 +1,25 @@
+-- What the functions on the queue's calls state.
+-- Assumes nothing.
+use mathlib.Core.Path.{_≡_}
+use Prim.Native.Nat.{ℕ}
+use mathlib.Core.List.{List}
+use lib.ListN.{getD}
+use Rattle.graph.specs.Nodes.{stored}
+use Rattle.graph.specs.Sessions.{store}
+use Rattle.queue.specs.Flat.{Flat}
+use Rattle.records.specs.declared.labels.Labels.{Labels}
+use Rattle.valid.specs.Values.{labelsOf, packedLabels}
+use Rattle.worksteps.specs.FlatSteps.{noOp, opIn, removeAt, admitCall}
+
+-- a list of labels, zeros after them
+pub record Names (ls : List ℕ) (r : Labels) : Type 0 where
+  pub is : labelsOf r ≡ ls
+  pub normal : r ≡ packedLabels (labelsOf r)
+
+-- the call at w admitted
+abbrev pub admittedAt : ℕ → Flat → Flat
+admittedAt w f = admitCall w ((getD (f .queue) w noOp) .call) f
+
+-- the operation at w finished as it waits
+abbrev pub finishedAt : ℕ → Flat → Flat
+finishedAt w f = record { nodes = f .nodes; queue = removeAt w (f .queue); results = store (stored (opIn (getD (f .queue) w noOp))) (f .results); last = f .last }

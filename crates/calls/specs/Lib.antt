@@ -1,0 +1,3 @@
+pub mod Accepting
+pub mod Admission
+pub mod Claiming

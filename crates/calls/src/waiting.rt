@@ -1,0 +1,118 @@
+// What waits in the queue: its adds, and its labels.
+use records::labels::Labels;
+use state::ops;
+ghost use mathlib.Core.Path.{_≡_};
+ghost use Prim.Native.Nat.{_<_};
+ghost use lib.ListN.{length, getD};
+ghost use Rattle.graph.specs.KeyLists.{contains};
+ghost use Rattle.worksteps.specs.FlatSteps.{noOp};
+ghost use Rattle.worksteps.specs.FlatEvents.{labelsIn, queued, addIn, addsQueued};
+ghost use Rattle.valid.specs.Values.{labelsOf, packedLabels};
+ghost use Rattle.state.specs.Operations.{Bounded};
+ghost use Rattle.state.specs.State.{held, Proper};
+ghost use Rattle.calls.specs.Admission.{Names};
+
+// The labels of the call at i.
+fn labels_at(image: &[u8], i: usize) -> Labels
+    requires { ⌜ (Proper (now image)) × (i < length (held (now image) .queue)) ⌝ }
+    ensures { λ r. ⌜ Names (labelsIn ((getD (held (now (image .entry)) .queue) i noOp) .call)) r ⌝ }
+{
+    if ops::is_add_at(image, i) {
+        let a = ops::add_at(image, i);
+        return Labels {
+            count: 1,
+            label: [a.label, 0, 0, 0],
+        };
+    }
+    let o = ops::operation_at(image, i);
+    o.labels
+}
+
+fn count_at(image: &[u8], i: usize) -> usize
+    requires { ⌜ (Proper (now image)) × (i < length (held (now image) .queue)) ⌝ }
+    ensures { λ r. ⌜ Bounded (length (labelsIn ((getD (held (now (image .entry)) .queue) i noOp) .call))) 4 r ⌝ }
+{
+    let l = labels_at(image, i);
+    l.count as usize
+}
+
+// How many labels wait in the queue.
+pub fn labels_waiting(image: &[u8]) -> usize
+    requires { ⌜ Proper (now image) ⌝ }
+    ensures { λ r. ⌜ Bounded (length (queued (held (now (image .entry)) .queue))) 256 r ⌝ }
+{
+    let n = ops::total(image);
+    let mut sum: usize = 0;
+    let mut i: usize = 0;
+    while i < n {
+        sum += count_at(image, i);
+        i += 1;
+    }
+    sum
+}
+
+fn add_in(image: &[u8], i: usize) -> usize
+    requires { ⌜ (Proper (now image)) × (i < length (held (now image) .queue)) ⌝ }
+    ensures { λ r. ⌜ Bounded (addIn ((getD (held (now (image .entry)) .queue) i noOp) .call)) 1 r ⌝ }
+{
+    if ops::is_add_at(image, i) {
+        return 1;
+    }
+    0
+}
+
+// How many adds wait in the queue.
+pub fn adds_waiting(image: &[u8]) -> usize
+    requires { ⌜ Proper (now image) ⌝ }
+    ensures { λ r. ⌜ Bounded (addsQueued (held (now (image .entry)) .queue)) 64 r ⌝ }
+{
+    let n = ops::total(image);
+    let mut sum: usize = 0;
+    let mut i: usize = 0;
+    while i < n {
+        sum += add_in(image, i);
+        i += 1;
+    }
+    sum
+}
+
+// Is the label listed? The list has zeros after its labels.
+fn has(labels: Labels, label: u16) -> bool
+    requires { ⌜ labels ≡ packedLabels (labelsOf labels) ⌝ }
+    ensures { λ r. ⌜ r ≡ contains label (labelsOf labels) ⌝ }
+{
+    let n = labels.count as usize;
+    let each = labels.label;
+    let mut i: usize = 0;
+    while i < n {
+        if label == each[i] {
+            return true;
+        }
+        i += 1;
+    }
+    false
+}
+
+fn names(image: &[u8], i: usize, label: u16) -> bool
+    requires { ⌜ (Proper (now image)) × (i < length (held (now image) .queue)) ⌝ }
+    ensures { λ r. ⌜ r ≡ contains label (labelsIn ((getD (held (now (image .entry)) .queue) i noOp) .call)) ⌝ }
+{
+    let l = labels_at(image, i);
+    has(l, label)
+}
+
+// Does the label wait in the queue?
+pub fn is_queued(image: &[u8], label: u16) -> bool
+    requires { ⌜ Proper (now image) ⌝ }
+    ensures { λ r. ⌜ r ≡ contains label (queued (held (now (image .entry)) .queue)) ⌝ }
+{
+    let n = ops::total(image);
+    let mut i: usize = 0;
+    while i < n {
+        if names(image, i, label) {
+            return true;
+        }
+        i += 1;
+    }
+    false
+}
