@@ -1,0 +1,173 @@
+-- The head unit of a station: what stands in it, and what each step on it answers.
+-- Assumes nothing.
+use mathlib.Core.Path.{_≡_, refl, sym, _∙_, ap, subst}
+use Prim.Native.Nat.{ℕ, zero, suc, _+_, _-_, _≤_, _<_}
+use native.Mathlib.Omega.{arith}
+use mathlib.Core.Bool.{Bool, true, false, cond, not, _&&_, _||_, true≢false}
+use mathlib.Core.List.{List, [], _∷_}
+use lib.Dec.{eqb, leb, ltb}
+use lib.ListN.{length, getD, drop}
+use lib.Seq.{slice, getD-drop}
+use borrow.Author.Tests.{lt-ltb, le-ltb, eq-eqb, ne-eqb, eqb-true, leb-true}
+use Rattle.graph.specs.Refusals.{Answer, refused, done}
+use Rattle.graph.specs.KeyLists.{isNil, contains}
+use Rattle.graph.specs.Sessions.{Session}
+use Rattle.queue.specs.Flat.{Tagged, Flat, flat, nest, isOp, find, here, atPlace, breaks, isAt, endOf}
+use Rattle.queue.proofs.Places.{length-nodes}
+use Rattle.worksteps.specs.FlatSteps.{any, firstIn, mapFrom, noOp, noNode, moveTo, withQueue, opIn, hitsKey, headUnit, moveFlat, actAt, realiseFlat, finishesAt, finishPlace, finishFlat, known, atKey}
+use Rattle.worksteps.proofs.Turns.{any-first}
+use Rattle.worksteps.proofs.Facts.{here-find, here-at, sits-at}
+use Rattle.worksteps.proofs.Events.{valid-room}
+use Rattle.state.specs.State.{held, Shows}
+use Rattle.live.specs.Live.{Live, Works}
+
+-- ANSWERS
+module _ {before after : List ℕ} {x : Answer Flat} where
+  pub works-refused : (n : ℕ) → x ≡ refused n → after ≡ before → Works x before after n
+  works-refused n e same = subst (λ (y : Answer Flat). Works y before after n) (sym e) (record { number = refl; leaves = same })
+
+  pub works-done : (f : Flat) → x ≡ done f → Shows f after → Works x before after 0
+  works-done f e shows = subst (λ (y : Answer Flat). Works y before after 0) (sym e) (record { number = refl; leaves = shows })
+
+-- KEYS
+pub record InNodes (k : ℕ) (f : Flat) : Type 0 where
+  pub low : 1 ≤ k
+  pub inside : k - 1 < length (f .nodes)
+  pub high : k ≤ length (f .nodes)
+
+pub in-nodes : (k : ℕ) (f : Flat) → known k f ≡ true → InNodes k f
+in-nodes k f e =
+    let l : 1 ≤ k = leb-true 1 k (left (leb 1 k) (leb k (length (f .nodes))) e) in
+    let h : k ≤ length (f .nodes) = leb-true k (length (f .nodes)) (right (leb 1 k) (leb k (length (f .nodes))) e) in
+    record { low = l; inside = omega arith; high = h }
+  where
+    left : (b c : Bool) → (b && c) ≡ true → b ≡ true
+    left true c e = refl
+    left false c e = e
+
+    right : (b c : Bool) → (b && c) ≡ true → c ≡ true
+    right true c e = e
+    right false c e = absurd (true≢false (sym e))
+
+-- SEARCHES
+module _ {A : Type 0} (p : A → Bool) where
+  pub find-in : (xs : List A) → (find p xs ≡ length xs → ⊥) → find p xs < length xs
+  find-in [] n = absurd (n refl)
+  find-in (x ∷ xs) n = go (p x) (find-in xs) n
+    where
+      go : (b : Bool) → ((find p xs ≡ length xs → ⊥) → find p xs < length xs) → (cond b zero (suc (find p xs)) ≡ suc (length xs) → ⊥) → cond b zero (suc (find p xs)) < suc (length xs)
+      go true ih m = omega arith
+      go false ih m = let h : find p xs < length xs = ih (λ e. m (ap suc e)) in omega arith
+
+  find-before : (xs : List A) (i : ℕ) (d : A) → i < find p xs → p (getD xs i d) ≡ false
+  find-before [] i d h = absurd (omega arith)
+  find-before (x ∷ xs) i d h = go (p x) refl (λ j. find-before xs j d) i h
+    where
+      go : (b : Bool) → p x ≡ b → ((j : ℕ) → j < find p xs → p (getD xs j d) ≡ false) → (j : ℕ) → j < cond b zero (suc (find p xs)) → p (getD (x ∷ xs) j d) ≡ false
+      go true e ih j l = absurd (omega arith)
+      go false e ih zero l = e
+      go false e ih (suc j) l = ih j (omega arith)
+
+-- each operation of a unit of station k stands at k
+goes-at : (k : ℕ) (x : Tagged) → breaks k x ≡ false → eqb (x .place) k ≡ true
+goes-at k x e = go (eqb (x .place) k) (x .opens) e
+  where
+    go : (b o : Bool) → (not b || o) ≡ false → b ≡ true
+    go true o e = refl
+    go false o e = absurd (true≢false e)
+
+unit-place : (k : ℕ) (q : List Tagged) (h p : ℕ) → h ≡ find (atPlace k) q → h < length q → h ≤ p → p < endOf k h q → eqb ((getD q p noOp) .place) k ≡ true
+unit-place k q h p first inside low high = go (p - h) (omega arith)
+  where
+    go : (j : ℕ) → p ≡ h + j → eqb ((getD q p noOp) .place) k ≡ true
+    go zero e =
+        let same : h ≡ p = omega arith in
+        let z : find (atPlace k) q < length q = omega arith in
+        ap (λ (m : ℕ). eqb ((getD q m noOp) .place) k) (sym same ∙ first)
+        ∙ sym (here-at (atPlace k) q (find (atPlace k) q) noOp z)
+        ∙ here-find (atPlace k) q
+        ∙ lt-ltb (find (atPlace k) q) (length q) z
+    go (suc j) e =
+        let same : p ≡ suc h + j = omega arith in
+        goes-at k (getD q p noOp)
+        (ap (λ (m : ℕ). breaks k (getD q m noOp)) same
+        ∙ ap (breaks k) (sym (getD-drop (suc h) q j noOp))
+        ∙ find-before (breaks k) (drop (suc h) q) j noOp (omega arith))
+
+-- THE HEAD UNIT of station k, from h up to e
+pub record Head (image : List ℕ) (k h e : ℕ) : Type 0 where
+  pub live : Live image
+  pub node : known k (held image) ≡ true
+  pub first : h ≡ find (atPlace k) (held image .queue)
+  pub inside : h < length (held image .queue)
+  pub ends : e ≡ endOf k h (held image .queue)
+
+module _ (k : ℕ) (g : ℕ → ℕ → Flat → Answer Flat) (f : Flat) where
+  pub no-node : known k f ≡ false → atKey k (headUnit k g) f ≡ refused 20
+  no-node e = rw e
+
+  pub no-unit : known k f ≡ true → find (atPlace k) (f .queue) ≡ length (f .queue) → atKey k (headUnit k g) f ≡ refused 21
+  no-unit e past =
+      let q : List Tagged = f .queue in
+      let h : ℕ = find (atPlace k) (f .queue) in
+      ap (λ (b : Bool). cond b (headUnit k g f) (refused 20)) e
+      ∙ ap (λ (b : Bool). cond b (g h (endOf k h q) f) (refused 21)) (here-find (atPlace k) q ∙ le-ltb h (length q) (omega arith))
+
+pub on-head : (image : List ℕ) (k h e : ℕ) (g : ℕ → ℕ → Flat → Answer Flat) → Head image k h e → atKey k (headUnit k g) (held image) ≡ g h e (held image)
+on-head image k h e g c =
+    let f : Flat = held image in
+    let q : List Tagged = held image .queue in
+    let m : ℕ = find (atPlace k) (held image .queue) in
+    let z : find (atPlace k) (held image .queue) < length (held image .queue) = omega (arith, c .first, c .inside) in
+    ap (λ (b : Bool). cond b (headUnit k g f) (refused 20)) (c .node)
+    ∙ ap (λ (b : Bool). cond b (g m (endOf k m q) f) (refused 21)) (here-find (atPlace k) q ∙ lt-ltb m (length q) z)
+    ∙ ap (λ (n : ℕ). g n (endOf k n q) f) (sym (c .first))
+    ∙ ap (λ (n : ℕ). g h n f) (sym (c .ends))
+
+-- what stands in it is no add
+pub head-op : (image : List ℕ) (k h e p : ℕ) → Head image k h e → h ≤ p → p < e → p < length (held image .queue) → isOp ((getD (held image .queue) p noOp) .call) ≡ true
+head-op image k h e p c low high within =
+    let at : eqb ((getD (held image .queue) p noOp) .place) k ≡ true = unit-place k (held image .queue) h p (c .first) (c .inside) low (omega (arith, c .ends)) in
+    sits (eqb-true _ _ at)
+  where
+    s : Session
+    s = nest (held image)
+
+    few : length (held image .nodes) ≤ 64
+    few = subst (λ (f : Flat). length (f .nodes) ≤ 64) (c .live .flat) (omega (arith, length-nodes (s .stations), valid-room s (c .live .valid)))
+
+    sits : (getD (held image .queue) p noOp) .place ≡ k → isOp ((getD (held image .queue) p noOp) .call) ≡ true
+    sits e =
+        subst (λ (f : Flat). (p < length (f .queue)) → eqb ((getD (f .queue) p noOp) .place) 65 ≡ false → isOp ((getD (f .queue) p noOp) .call) ≡ true) (c .live .flat)
+        (λ i. sits-at s (c .live .valid) p i .placed)
+        within
+        (ne-eqb ((getD (held image .queue) p noOp) .place) 65 (λ z. omega (arith, in-nodes k (held image) (c .node) .high, few, e, z)))
+
+-- THE STEPS
+module _ (k h e : ℕ) (f : Flat) where
+  pub realise-none : e ≤ firstIn (hitsKey k) h e (f .queue) → realiseFlat k h e f ≡ refused 22
+  realise-none past = rw (le-ltb (firstIn (hitsKey k) h e (f .queue)) e past)
+
+  pub realise-one : (p : ℕ) → p ≡ firstIn (hitsKey k) h e (f .queue) → p < e
+      → realiseFlat k h e f ≡ done (actAt k p (getD (f .queue) p noOp) (getD (f .nodes) (k - 1) noNode) f)
+  realise-one p is high =
+      ap (λ (m : ℕ). cond (ltb m e) (done (actAt k m (getD (f .queue) m noOp) (getD (f .nodes) (k - 1) noNode) f)) (refused 22)) (sym is) ∙ rw (lt-ltb p e high)
+
+  pub finish-none : e ≤ firstIn (finishesAt k) h e (f .queue) → finishFlat k h e f ≡ refused 22
+  finish-none past = rw (le-ltb (firstIn (finishesAt k) h e (f .queue)) e past)
+
+  pub finish-one : (p : ℕ) → p ≡ firstIn (finishesAt k) h e (f .queue) → p < e → finishFlat k h e f ≡ done (finishPlace p e (getD (f .queue) p noOp) f)
+  finish-one p is high =
+      ap (λ (m : ℕ). cond (ltb m e) (done (finishPlace m e (getD (f .queue) m noOp) f)) (refused 22)) (sym is) ∙ rw (lt-ltb p e high)
+
+  pub move-last : k ≡ 1 → moveFlat k h e f ≡ refused 22
+  move-last one = rw (eq-eqb k 1 one)
+
+  module _ (high : (k ≡ 1 → ⊥)) (fits : e ≤ length (f .queue)) (low : h ≤ e) where
+    pub move-hit : firstIn (hitsKey k) h e (f .queue) < e → moveFlat k h e f ≡ refused 22
+    move-hit hit =
+        rw (ne-eqb k 1 high, any-first (hitsKey k) (f .queue) e fits h low ∙ lt-ltb (firstIn (hitsKey k) h e (f .queue)) e hit)
+
+    pub move-free : e ≤ firstIn (hitsKey k) h e (f .queue) → moveFlat k h e f ≡ done (withQueue f (mapFrom (moveTo (k - 1)) h e (f .queue)))
+    move-free free =
+        rw (ne-eqb k 1 high, any-first (hitsKey k) (f .queue) e fits h low ∙ le-ltb (firstIn (hitsKey k) h e (f .queue)) e free)

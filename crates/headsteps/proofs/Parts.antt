@@ -1,0 +1,177 @@
+-- The parts of a step on a head unit: a search turn by turn, an act, a move turn by turn, a finish.
+-- Assumes nothing.
+use mathlib.Core.Path.{_≡_, refl, sym, _∙_, ap, subst}
+use Prim.Native.Nat.{ℕ, zero, suc, _+_, _-_, _≤_, _<_}
+use native.Mathlib.Numerals.{add-one}
+use native.Mathlib.Omega.{arith}
+use mathlib.Core.Bool.{Bool, true, false, cond, not, _&&_, _||_, true≢false}
+use mathlib.Core.List.{List, [], _∷_, _++_, map}
+use lib.Dec.{eqb, ltb}
+use lib.ListN.{length, take, drop, getD, set, length-append, length-map, length-drop}
+use lib.Seq.{slice, length-slice, length-take-le}
+use borrow.Author.Tests.{lt-ltb, le-ltb, eq-eqb, ne-eqb}
+use Rattle.graph.specs.declared.act.Act.{Act}
+use Rattle.graph.specs.declared.act.Act.the-variants.{Map, Link, Unlink, Sum, Top, Pick, Near}
+use Rattle.graph.specs.declared.keys.Keys.{Keys}
+use Rattle.graph.specs.Acts.{isMap, newValue, newLinks, newHeld, answer}
+use Rattle.graph.specs.KeyLists.{isNil, contains}
+use Rattle.graph.specs.Nodes.{Node, Op, Result, actOn, actBy, resultsFor, stored}
+use Rattle.graph.specs.OneAtATime.{Labelled, opOf}
+use Rattle.graph.specs.Packed.{listed, packed}
+use Rattle.graph.specs.Sessions.{Session, store}
+use Rattle.graph.proofs.KeyLaws.{listed-packed}
+use Rattle.queue.specs.Flat.{Tagged, Flat, flat, nest, carried}
+use Rattle.worksteps.specs.FlatSteps.{alter, removeAt, mapFrom, firstIn, noOp, noNode, openAs, withOp, withQueue, opIn, hitsKey, finishesAt, actAt, takeOut, finishPlace}
+use Rattle.worksteps.specs.FlatEvents.{labelsIn}
+use Rattle.worksteps.proofs.Turns.{first-stop, first-next, first-end, alter-length, mapFrom-none, mapFrom-next}
+use Rattle.worksteps.proofs.Facts.{labels-room}
+use Rattle.valid.specs.Values.{labelsOf}
+use Rattle.state.specs.declared.nodes.Body.{Body}
+use Rattle.state.specs.declared.operation.Operation.{Operation}
+use Rattle.state.specs.Operations.{opValue, Carries, Bounded}
+use Rattle.state.specs.Results.{IsBody, nodeWith}
+use Rattle.state.specs.State.{held, Proper, Shows, withNodes, withResults}
+use Rattle.live.specs.Live.{Live}
+use Rattle.headsteps.specs.Heads.{bodyValue, handOn}
+
+-- WHICH MAY FINISH
+module _ (k : ℕ) (x : Tagged) where
+  pub finishes-bare : length (opIn x .targets) ≡ 0 → finishesAt k x ≡ true
+  finishes-bare e = go (opIn x .targets) e
+    where
+      go : (l : List ℕ) → length l ≡ 0 → (isNil l || (eqb k 1 && not (contains k l))) ≡ true
+      go [] e = refl
+      go (t ∷ l) e = absurd (omega arith)
+
+  pub finishes-other : (length (opIn x .targets) ≡ 0 → ⊥) → finishesAt k x ≡ (eqb k 1 && not (hitsKey k x))
+  finishes-other n = go (opIn x .targets) n
+    where
+      go : (l : List ℕ) → (length l ≡ 0 → ⊥) → (isNil l || (eqb k 1 && not (contains k l))) ≡ (eqb k 1 && not (contains k l))
+      go [] n = absurd (n refl)
+      go (t ∷ l) n = refl
+
+-- A SEARCH from h, which is at i
+module _ (p : Tagged → Bool) (q : List Tagged) (h e : ℕ) (fits : e ≤ length q) where
+  abbrev pub Searched : ℕ → Type 0
+  Searched i = firstIn p i e q ≡ firstIn p h e q
+
+  module _ (i : ℕ) (so : Searched i) where
+    pub found : i < e → p (getD q i noOp) ≡ true → Bounded (firstIn p h e q) e i
+    found l t = record { is = sym (first-stop p q e fits i noOp l t) ∙ so; within = omega arith }
+
+    pub passed : i < e → p (getD q i noOp) ≡ false → Searched (i + 1)
+    passed l t = ap (λ (m : ℕ). firstIn p m e q) (add-one i) ∙ sym (first-next p q e fits i noOp l t) ∙ so
+
+    pub ended : i ≡ e → Bounded (firstIn p h e q) e e
+    ended z = record { is = sym (first-end p q e fits) ∙ ap (λ (m : ℕ). firstIn p m e q) (sym z) ∙ so; within = omega arith }
+
+-- AN ACT
+-- a map holds what it held
+pub map-holds : (a : Act) (h v : ℕ) (ls : List ℕ) → isMap a ≡ true → newHeld a h v ls ≡ h
+map-holds (Map m) h v ls e = refl
+map-holds (Link k) h v ls e = absurd (true≢false (sym e))
+map-holds (Unlink k) h v ls e = absurd (true≢false (sym e))
+map-holds Sum h v ls e = absurd (true≢false (sym e))
+map-holds Top h v ls e = absurd (true≢false (sym e))
+map-holds Pick h v ls e = absurd (true≢false (sym e))
+map-holds (Near k) h v ls e = absurd (true≢false (sym e))
+
+body-is : (n : Node) (b : Body) → IsBody n b → bodyValue b ≡ n
+body-is n b s = λ i. record { key = s .key i; value = s .value i; links = s .links .is i }
+
+node-acted : (n : Node) (b : Body) → IsBody n b → (a : Act) (v : ℕ) (ls : Keys) → v ≡ newValue a (b .value) → ls ≡ packed (newLinks a (listed (b .links)))
+    → nodeWith n v (listed ls) ≡ record { key = n .key; value = newValue a (n .value); links = newLinks a (n .links) }
+node-acted n b s a v ls ve le =
+    let values : v ≡ newValue a (n .value) = ve ∙ ap (newValue a) (s .value) in
+    let links : listed ls ≡ newLinks a (n .links) = ap listed le ∙ listed-packed (newLinks a (listed (b .links))) ∙ ap (newLinks a) (s .links .is) in
+    λ i. record { key = n .key; value = values i; links = links i }
+
+-- the node is written first, and then the operation
+module _ (f : Flat) (k p : ℕ) (o : Operation) (b : Body) (carries : Carries ((getD (f .queue) p noOp) .call) o) (body : IsBody (getD (f .nodes) (k - 1) noNode) b) where
+  pub act-shown : (v : ℕ) (ls : Keys) (a : Operation) (t u : List ℕ) → v ≡ newValue (o .act) (b .value) → ls ≡ packed (newLinks (o .act) (listed (b .links)))
+      → Shows (withNodes f (set (f .nodes) (k - 1) (nodeWith (getD (f .nodes) (k - 1) noNode) v (listed ls)))) t
+      → Carries (opOf (actBy (opValue o) (bodyValue b))) a
+      → Shows (withQueue (held t) (set (held t .queue) p (withOp (getD (held t .queue) p noOp) (opValue a)))) u
+      → Shows (actAt k p (getD (f .queue) p noOp) (getD (f .nodes) (k - 1) noNode) f) u
+  act-shown v ls a t u ve le first acted second =
+      let x : Tagged = getD (f .queue) p noOp in
+      let n : Node = getD (f .nodes) (k - 1) noNode in
+      let op : opValue o ≡ opIn x = sym (ap carried (carries .is)) in
+      let node : nodeWith n v (listed ls) ≡ actOn (opIn x) n = node-acted n b body (o .act) v ls ve le ∙ ap (λ (y : Op). actOn y n) op in
+      let call : opValue a ≡ actBy (opIn x) n = sym (ap carried (acted .is)) ∙ ap (actBy (opValue o)) (body-is n b body) ∙ ap (λ (y : Op). actBy y n) op in
+      subst (λ (g : Flat). Shows g u)
+      (λ i. record { nodes = set (f .nodes) (k - 1) (node i); queue = set (f .queue) p (withOp x (call i)); results = f .results; last = f .last })
+      (subst (λ (g : Flat). Shows (withQueue g (set (g .queue) p (withOp (getD (g .queue) p noOp) (opValue a)))) u) (first .shows) second)
+
+-- A MOVE from h, which is at j: t is the image by then
+abbrev pub Moved : List ℕ → (Tagged → Tagged) → ℕ → ℕ → List ℕ → Type 0
+Moved s f h j t = Shows (withQueue (held s) (mapFrom f h j (held s .queue))) t
+
+module _ (s : List ℕ) (f : Tagged → Tagged) (h : ℕ) where
+  pub moved-none : Proper s → Moved s f h h s
+  moved-none proper = record { proper = proper; shows = ap (withQueue (held s)) (sym (mapFrom-none f h (held s .queue))) }
+
+  module _ (j : ℕ) (t : List ℕ) (low : h ≤ j) (inside : j < length (held s .queue)) (so : Moved s f h j t) where
+    pub moved-in : j < length (held t .queue)
+    moved-in =
+        let q : List Tagged = held s .queue in
+        let m : List Tagged = map f (slice h j q) in
+        let e : length (held t .queue) ≡ length (take h q ++ (m ++ drop j q)) = ap (λ (g : Flat). length (g .queue)) (so .shows) in
+        omega (
+          arith,
+          e,
+          length-append (take h q) (m ++ drop j q),
+          length-append m (drop j q),
+          length-take-le h q (omega arith),
+          length-map (slice h j q) f,
+          length-slice h j q (omega arith),
+          length-drop j q,
+        )
+
+    pub moved-next : (u : List ℕ) → Shows (withQueue (held t) (alter j f (held t .queue))) u → Moved s f h (j + 1) u
+    moved-next u w =
+        let q : List Tagged = held s .queue in
+        subst (λ (l : List Tagged). Shows (withQueue (held s) l) u) (mapFrom-next f h j q noOp low inside ∙ ap (λ (m : ℕ). mapFrom f h m q) (sym (add-one j)))
+        (subst (λ (g : Flat). Shows (withQueue g (alter j f (g .queue))) u) (so .shows) w)
+
+-- A FINISH
+module _ (p e : ℕ) (x : Tagged) (q : List Tagged) where
+  pub hand-none : e ≤ p + 1 → handOn p e x q ≡ q
+  hand-none h = rw (le-ltb (suc p) e (omega arith))
+
+  pub hand-next : p + 1 < e → (b : Bool) → b ≡ x .opens → alter (p + 1) (openAs b) q ≡ handOn p e x q
+  hand-next h b m = rw (lt-ltb (suc p) e (omega arith)) (λ i. alter (add-one p i) (openAs (m i)) q)
+
+  pub hand-length : length (handOn p e x q) ≡ length q
+  hand-length = go (ltb (suc p) e)
+    where
+      go : (b : Bool) → length (cond b (alter (suc p) (openAs (x .opens)) q) q) ≡ length q
+      go true = alter-length (openAs (x .opens)) (suc p) q
+      go false = refl
+
+-- the mark is handed on first, and then the operation goes
+pub taken-shown : (f : Flat) (p e : ℕ) (t u : List ℕ) → Shows (withQueue f (handOn p e (getD (f .queue) p noOp) (f .queue))) t
+    → Shows (withQueue (held t) (removeAt p (held t .queue))) u → Shows (withQueue f (takeOut p e (getD (f .queue) p noOp) (f .queue))) u
+taken-shown f p e t u first second = subst (λ (g : Flat). Shows (withQueue g (removeAt p (g .queue))) u) (first .shows) second
+
+-- the labels of an operation have room among the results
+pub room-for : (image : List ℕ) (p : ℕ) (o : Operation) → Live image → p < length (held image .queue) → Carries ((getD (held image .queue) p noOp) .call) o
+    → length (held image .results) + length (labelsOf (o .labels)) ≤ 64
+room-for image p o live h carries =
+    let s : Session = nest (held image) in
+    let within : p < length (flat s .queue) = subst (λ (f : Flat). p < length (f .queue)) (sym (live .flat)) h in
+    subst (λ (l : List ℕ). length (held image .results) + length l ≤ 64)
+    (ap (λ (f : Flat). labelsIn ((getD (f .queue) p noOp) .call)) (live .flat) ∙ ap labelsIn (carries .is))
+    (labels-room s (live .valid) p within)
+
+-- the operation is taken out first, and then its results are stored
+pub finish-shown : (f : Flat) (p e : ℕ) (o : Operation) (v : ℕ) (t u : List ℕ) → Carries ((getD (f .queue) p noOp) .call) o → v ≡ answer (o .act) (o .held)
+    → Shows (withQueue f (takeOut p e (getD (f .queue) p noOp) (f .queue))) t
+    → Shows (withResults (held t) (store (resultsFor (labelsOf (o .labels)) v (listed (o .targets))) (held t .results))) u
+    → Shows (finishPlace p e (getD (f .queue) p noOp) f) u
+finish-shown f p e o v t u carries ve first second =
+    let x : Tagged = getD (f .queue) p noOp in
+    let gone : resultsFor (labelsOf (o .labels)) v (listed (o .targets)) ≡ stored (opIn x) =
+    ap (λ (w : ℕ). resultsFor (labelsOf (o .labels)) w (listed (o .targets))) ve ∙ ap stored (sym (ap carried (carries .is))) in
+    subst (λ (rs : List Result). Shows (record { nodes = f .nodes; queue = takeOut p e x (f .queue); results = store rs (f .results); last = f .last }) u) gone
+    (subst (λ (g : Flat). Shows (withResults g (store (resultsFor (labelsOf (o .labels)) v (listed (o .targets))) (g .results))) u) (first .shows) second)

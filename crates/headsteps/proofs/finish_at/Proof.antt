@@ -1,0 +1,48 @@
+-- The operation goes, and its results are stored.
+-- Assumes nothing.
+use mathlib.Core.Path.{sym, ap, _∙_}
+use lib.ListN.{length}
+use Rattle.queue.specs.Flat.{Flat}
+use Rattle.state.specs.State.{held}
+use Rattle.headsteps.proofs.Parts.{room-for, finish-shown}
+use borrow.Author.Needs.{needs}
+use native.Mathlib.Omega.{arith}
+use Rattle.headsteps.proofs.finish_at.Statement.{statement}
+use Rattle.headsteps.proofs.finish_at.Tie as tie
+
+operation-at-requires : tie.Need-operation-at-requires
+operation-at-requires c κs = search needs
+
+take-out-requires : tie.Need-take-out-requires
+take-out-requires c κs = search needs
+
+answer-requires : tie.Need-answer-requires
+answer-requires c κs = search needs
+
+store-all-requires : tie.Need-store-all-requires
+store-all-requires c κs =
+    let a = c .before .before .before .before .before .before .before .before .before .before .before in
+    let o = c .before .before .before .before .before .before .before .before .operation-at in
+    let out = c .before .before .before .before .before .before .take-out .ensures in
+    let room = room-for (a .args .image .now) (a .args .p) (o .result) (a .pre .0) (omega (arith, a .pre .1, a .pre .2)) (o .ensures) in
+    (out .proper, o .ensures .normal .names, rw (ap (λ (f : Flat). length (f .results)) (out .shows)) room, o .ensures .normal .keys)
+
+same-length : tie.Need-same-length
+same-length c = c .before .before .store-all .ensures .proper .sound .size ∙ sym (c .before .before .before .before .before .before .before .before .before .before .before .before .before .before .pre .0 .proper .sound .size)
+
+returns : tie.Need-returns
+returns c =
+    let a = c .before .before .before .before .before .before .before .before .before .before .before .before .before .before in
+    let o = c .before .before .before .before .before .before .before .before .before .before .before .operation-at in
+    finish-shown (held (a .args .image .now)) (a .args .p) (a .args .e) (o .result) _ _ _ (o .ensures) (c .before .before .before .before .before .before .answer .ensures) (c .before .before .before .before .before .before .before .before .before .take-out .ensures) (c .before .before .store-all .ensures)
+
+pub finish-at-spec : {M : Type 1} → statement M
+finish-at-spec =
+    tie.close
+    (tie.spec
+    operation-at-requires
+    take-out-requires
+    answer-requires
+    store-all-requires
+    same-length
+    returns)

@@ -1,0 +1,61 @@
+-- The loop's invariant: from h up to i none may finish.
+-- Assumes nothing.
+use mathlib.Core.Path.{_≡_, refl, sym, _∙_}
+use Prim.Native.Nat.{_-_, _≤_, _<_}
+use Rattle.worksteps.specs.FlatSteps.{firstIn, finishesAt}
+use Rattle.state.specs.State.{held}
+use Rattle.headsteps.proofs.Parts.{found, passed, ended}
+use borrow.Author.Needs.{needs}
+use native.Mathlib.Omega.{arith}
+use Rattle.headsteps.proofs.first_finish.Statement.{statement}
+use Rattle.headsteps.proofs.first_finish.Tie as tie
+
+abbrev Inv-loop : tie.InvT-loop
+Inv-loop image k h e i₀ i = (i ≤ e) × (firstIn (finishesAt k) i e (held image .queue) ≡ firstIn (finishesAt k) h e (held image .queue))
+
+abbrev μ-loop : tie.MeasureT-loop
+μ-loop image k h e i₀ i = e - i
+
+loop-holds : tie.Need-loop-holds Inv-loop μ-loop
+loop-holds c = (c .before .pre .1, refl)
+
+finishes-at-requires : tie.Need-finishes-at-requires Inv-loop μ-loop
+finishes-at-requires c κs = (c .before .before .before .pre .0, omega (arith, c .before .before .before .pre .2))
+
+returns : tie.Need-returns Inv-loop μ-loop
+returns c =
+    let l = c .before .before .before in
+    let a = l .before .before in
+    found (finishesAt (a .args .k)) (held (a .args .image .now) .queue) (a .args .h) (a .args .e) (a .pre .2) (l .loop .i) (l .loop .inv .1) (omega arith) (sym (c .before .finishes-at .ensures) ∙ c .if1 .taken)
+
+add-i : tie.Need-add-i Inv-loop μ-loop
+add-i c = search needs
+
+loop-less : tie.Need-loop-less Inv-loop μ-loop
+loop-less c = search needs
+
+loop-again : tie.Need-loop-again Inv-loop μ-loop
+loop-again c =
+    let l = c .before .before .before in
+    let a = l .before .before in
+    (omega arith, passed (finishesAt (a .args .k)) (held (a .args .image .now) .queue) (a .args .h) (a .args .e) (a .pre .2) (l .loop .i) (l .loop .inv .1) (omega arith) (sym (c .before .finishes-at .ensures) ∙ c .if1 .left))
+
+returns-2 : tie.Need-returns-2 Inv-loop μ-loop
+returns-2 c =
+    let l = c .before in
+    let a = l .before .before in
+    ended (finishesAt (a .args .k)) (held (a .args .image .now) .queue) (a .args .h) (a .args .e) (a .pre .2) (l .loop .i) (l .loop .inv .1) (omega arith)
+
+pub first-finish-spec : {M : Type 1} → statement M
+first-finish-spec =
+    tie.close
+    (tie.spec
+    Inv-loop
+    μ-loop
+    loop-holds
+    finishes-at-requires
+    returns
+    add-i
+    loop-less
+    loop-again
+    returns-2)

@@ -1,0 +1,232 @@
+// Steps on a station's head unit: realise, move, finish.
+use graph::act;
+use state::nodes;
+use state::nodes::Body;
+use state::operation::Operation;
+use state::ops;
+use state::results;
+ghost use mathlib.Core.Path.{_≡_};
+ghost use mathlib.Core.Bool.{true};
+ghost use Prim.Native.Nat.{_-_, _≤_, _<_};
+ghost use lib.ListN.{length, getD};
+ghost use Rattle.graph.specs.Nodes.{actBy};
+ghost use Rattle.graph.specs.OneAtATime.{opOf};
+ghost use Rattle.graph.specs.Steps.{realise, move, finish};
+ghost use Rattle.queue.specs.Flat.{isOp};
+ghost use Rattle.worksteps.specs.FlatSteps.{noOp, noNode, moveTo, mapFrom, firstIn, withQueue, hitsKey, finishesAt, actAt, takeOut, finishPlace, known, flatStep};
+ghost use Rattle.state.specs.Operations.{opValue, Normal, Carries, Bounded};
+ghost use Rattle.state.specs.State.{held, Proper, Shows};
+ghost use Rattle.live.specs.Live.{Live, Works};
+ghost use Rattle.headsteps.specs.Heads.{bodyValue, handOn};
+
+// Whether a node has this key.
+pub fn is_known(image: &[u8], k: u8) -> bool
+    requires { ⌜ Proper (now image) ⌝ }
+    ensures { λ r. ⌜ r ≡ known k (held (now (image .entry))) ⌝ }
+{
+    if k < 1 {
+        return false;
+    }
+    let n = nodes::total(image);
+    k as usize <= n
+}
+
+fn hits_at(image: &[u8], k: u8, i: usize) -> bool
+    requires { ⌜ (Proper (now image)) × (i < length (held (now image) .queue)) ⌝ }
+    ensures { λ r. ⌜ r ≡ hitsKey k (getD (held (now (image .entry)) .queue) i noOp) ⌝ }
+{
+    let targets = ops::targets_at(image, i);
+    targets.contains(k)
+}
+
+fn finishes_at(image: &[u8], k: u8, i: usize) -> bool
+    requires { ⌜ (Proper (now image)) × (i < length (held (now image) .queue)) ⌝ }
+    ensures { λ r. ⌜ r ≡ finishesAt k (getD (held (now (image .entry)) .queue) i noOp) ⌝ }
+{
+    let targets = ops::targets_at(image, i);
+    if targets.len() == 0 {
+        return true;
+    }
+    if k != 1 {
+        return false;
+    }
+    !targets.contains(k)
+}
+
+// The first operation from h up to e that targets the node with key k; e where there is none.
+pub fn first_hit(image: &[u8], k: u8, h: usize, e: usize) -> usize
+    requires { ⌜ (Proper (now image)) × (h ≤ e) × (e ≤ length (held (now image) .queue)) ⌝ }
+    ensures { λ r. ⌜ Bounded (firstIn (hitsKey k) h e (held (now (image .entry)) .queue)) e r ⌝ }
+{
+    let mut i = h;
+    while i < e {
+        if hits_at(image, k, i) {
+            return i;
+        }
+        i += 1;
+    }
+    e
+}
+
+// The first operation from h up to e that may finish at the station with key k; e where there is none.
+pub fn first_finish(image: &[u8], k: u8, h: usize, e: usize) -> usize
+    requires { ⌜ (Proper (now image)) × (h ≤ e) × (e ≤ length (held (now image) .queue)) ⌝ }
+    ensures { λ r. ⌜ Bounded (firstIn (finishesAt k) h e (held (now (image .entry)) .queue)) e r ⌝ }
+{
+    let mut i = h;
+    while i < e {
+        if finishes_at(image, k, i) {
+            return i;
+        }
+        i += 1;
+    }
+    e
+}
+
+// The operation after it acted at a node: the node's key is struck.
+fn acted(o: Operation, n: Body) -> Operation
+    requires { ⌜ Normal o ⌝ }
+    ensures { λ r. ⌜ Carries (opOf (actBy (opValue o) (bodyValue n))) r ⌝ }
+{
+    let act = o.act;
+    let links = n.links;
+    let targets = o.targets;
+    let labels = o.labels;
+    Operation {
+        act: act,
+        held: act::held_after(act, o.held, n.value, links),
+        targets: targets.strike(n.key),
+        labels: labels,
+    }
+}
+
+// The operation at p acts at the node with key k, and strikes that node's key.
+pub fn act_at(image: &mut [u8], k: u8, p: usize)
+    requires { ⌜ (Proper (now image)) × (known k (held (now image)) ≡ true) × (p < length (held (now image) .queue)) × (isOp ((getD (held (now image) .queue) p noOp) .call) ≡ true) ⌝ }
+    ensures { λ _. ⌜ Shows (actAt k p (getD (held (now (image .entry)) .queue) p noOp) (getD (held (now (image .entry)) .nodes) (k - 1) noNode) (held (now (image .entry)))) (now (image .exit)) ⌝ }
+{
+    let i = (k - 1) as usize;
+    let o = ops::operation_at(image, p);
+    let n = nodes::body_at(image, i);
+    let act = o.act;
+    let links = n.links;
+    let value = act::value_after(act, n.value);
+    let linked = act::links_after(act, links);
+    nodes::put_body(image, i, value, linked);
+    let after = acted(o, n);
+    ops::put_operation(image, p, after);
+}
+
+// The unit from h up to e goes to the next station's tail: in the queue only its place changes.
+pub fn move_unit(image: &mut [u8], k: u8, h: usize, e: usize)
+    requires { ⌜ (Proper (now image)) × (1 ≤ k) × (h ≤ e) × (e ≤ length (held (now image) .queue)) ⌝ }
+    ensures { λ _. ⌜ Shows (withQueue (held (now (image .entry))) (mapFrom (moveTo (k - 1)) h e (held (now (image .entry)) .queue))) (now (image .exit)) ⌝ }
+{
+    let next = k - 1;
+    let mut i = h;
+    while i < e {
+        ops::set_place(image, i, next);
+        i += 1;
+    }
+}
+
+// The mark of the operation at p goes to the next of its unit, which ends at e.
+fn hand_on(image: &mut [u8], p: usize, e: usize)
+    requires { ⌜ (Proper (now image)) × (p < e) × (e ≤ length (held (now image) .queue)) ⌝ }
+    ensures { λ _. ⌜ Shows (withQueue (held (now (image .entry))) (handOn p e (getD (held (now (image .entry)) .queue) p noOp) (held (now (image .entry)) .queue))) (now (image .exit)) ⌝ }
+{
+    let next = p + 1;
+    if e <= next {
+        return;
+    }
+    let opens = ops::opens_at(image, p);
+    ops::set_opens(image, next, opens);
+}
+
+// The operation at p, of a unit that ends at e, leaves the queue.
+fn take_out(image: &mut [u8], p: usize, e: usize)
+    requires { ⌜ (Proper (now image)) × (p < e) × (e ≤ length (held (now image) .queue)) ⌝ }
+    ensures { λ _. ⌜ Shows (withQueue (held (now (image .entry))) (takeOut p e (getD (held (now (image .entry)) .queue) p noOp) (held (now (image .entry)) .queue))) (now (image .exit)) ⌝ }
+{
+    hand_on(image, p, e);
+    ops::remove(image, p);
+}
+
+// The operation at p, of a unit that ends at e, leaves the queue and stores its results.
+pub fn finish_at(image: &mut [u8], p: usize, e: usize)
+    requires { ⌜ (Live (now image)) × (p < e) × (e ≤ length (held (now image) .queue)) × (isOp ((getD (held (now image) .queue) p noOp) .call) ≡ true) ⌝ }
+    ensures { λ _. ⌜ Shows (finishPlace p e (getD (held (now (image .entry)) .queue) p noOp) (held (now (image .entry)))) (now (image .exit)) ⌝ }
+{
+    let o = ops::operation_at(image, p);
+    take_out(image, p, e);
+    let act = o.act;
+    let value = act::answer(act, o.held);
+    let labels = o.labels;
+    let left = o.targets;
+    results::store_all(image, labels, value, left);
+}
+
+// In the head unit, the first operation that targets the node acts and strikes its key.
+pub fn realise(image: &mut [u8], k: u8) -> u32
+    requires { ⌜ Live (now image) ⌝ }
+    ensures { λ r. ⌜ Works (flatStep (realise k) (held (now (image .entry)))) (now (image .entry)) (now (image .exit)) r ⌝ }
+{
+    if !is_known(image, k) {
+        return 20;
+    }
+    let h = ops::first_at(image, k);
+    if h == ops::total(image) {
+        return 21;
+    }
+    let e = ops::unit_end(image, k, h);
+    let p = first_hit(image, k, h, e);
+    if p == e {
+        return 22;
+    }
+    act_at(image, k, p);
+    0
+}
+
+// In the head unit, the first operation that may finish stores its results and goes.
+pub fn finish(image: &mut [u8], k: u8) -> u32
+    requires { ⌜ Live (now image) ⌝ }
+    ensures { λ r. ⌜ Works (flatStep (finish k) (held (now (image .entry)))) (now (image .entry)) (now (image .exit)) r ⌝ }
+{
+    if !is_known(image, k) {
+        return 20;
+    }
+    let h = ops::first_at(image, k);
+    if h == ops::total(image) {
+        return 21;
+    }
+    let e = ops::unit_end(image, k, h);
+    let p = first_finish(image, k, h, e);
+    if p == e {
+        return 22;
+    }
+    finish_at(image, p, e);
+    0
+}
+
+// The head unit goes to the next station's tail, where no operation in it targets the node and the station isn't last.
+pub fn move_on(image: &mut [u8], k: u8) -> u32
+    requires { ⌜ Live (now image) ⌝ }
+    ensures { λ r. ⌜ Works (flatStep (move k) (held (now (image .entry)))) (now (image .entry)) (now (image .exit)) r ⌝ }
+{
+    if !is_known(image, k) {
+        return 20;
+    }
+    let h = ops::first_at(image, k);
+    if h == ops::total(image) {
+        return 21;
+    }
+    if k == 1 {
+        return 22;
+    }
+    let e = ops::unit_end(image, k, h);
+    if first_hit(image, k, h, e) < e {
+        return 22;
+    }
+    move_unit(image, k, h, e);
+    0
+}
