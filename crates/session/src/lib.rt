@@ -1,1 +1,1 @@
-// stub
+// Drain on a live image: so far the laws of its loop (proofs/).
