@@ -15,6 +15,11 @@ use Rattle.image.specs.Layout.{removeAt, insertAt}
 pub next-place : (size i n : ℕ) → i < n → size * i + size ≤ size * n
 next-place size i n h = omega (arith, mul-suc size i, mul-le-mul-left {m = suc i} {n = n} size h)
 
+-- an element of a chunk, by its index in the list
+pub chunk-byte : (s : List ℕ) (b n i : ℕ) → i < n → getD (chunk s b n) i 0 ≡ getD s (b + i) 0
+unfolding chunk
+chunk-byte s b n i h = getD-take n (drop b s) i 0 h ∙ getD-drop b s i 0
+
 -- chunks with the same elements
 pub chunk-same : (t s : List ℕ) (b c n : ℕ) → b + n ≤ length t → c + n ≤ length s → ((k : ℕ) → k < n → getD t (b + k) 0 ≡ getD s (c + k) 0) → chunk t b n ≡ chunk s c n
 unfolding chunk

@@ -17,16 +17,12 @@ use Rattle.records.specs.declared.result.ResultRecord.{ResultRecord}
 use Rattle.records.proofs.Tables.{length-tab, tab-snoc, tab-is}
 use Rattle.records.proofs.Codecs.{Bytes, FitNode, FitOp, FitResult, node-back, op-back, result-back, node-there, op-there, result-there, node-size, op-size, result-size, back16, there16}
 use Rattle.image.specs.Layout.{Region, place, recordAt, listedIn, blank, Zeros, Sound, Canonical, View, view, nodeRegion, opRegion, resultRegion, joined, upTo, headOf, imageOf}
-use Rattle.image.proofs.Parts.{next-place, chunk-same, chunk-is}
+use Rattle.image.proofs.Parts.{next-place, chunk-same, chunk-is, chunk-byte}
 use Rattle.image.proofs.Regions.{count-of}
 
 chunk-length : (s : List ℕ) (b n : ℕ) → b + n ≤ length s → length (chunk s b n) ≡ n
 unfolding chunk
 chunk-length s b n h = simp (length-take, length-drop) (omega arith)
-
-chunk-byte : (s : List ℕ) (b n i : ℕ) → i < n → getD (chunk s b n) i 0 ≡ getD s (b + i) 0
-unfolding chunk
-chunk-byte s b n i h = getD-take n (drop b s) i 0 h ∙ getD-drop b s i 0
 
 pub chunk-bytes : (s : List ℕ) → Bytes s → (b n : ℕ) → b + n ≤ length s → Bytes (chunk s b n)
 chunk-bytes s y b n h i = go (decLt i n)

@@ -1,6 +1,8 @@
 // Counts and records, read in place.
 use records::bytes::long;
 use records::bytes::u16_at;
+use records::labels::Labels;
+use records::labels::labels_at;
 use records::node::NodeRecord;
 use records::node::read_node;
 use records::op::OpRecord;
@@ -56,6 +58,42 @@ pub fn op_at(image: &[u8], i: usize) -> OpRecord
     let from = 1040 + 32 * i;
     let to = from + 32;
     read_op(&image[from..to])
+}
+
+// Single fields of an operation's record, for loops over the queue.
+pub fn station_at(image: &[u8], i: usize) -> u8
+    requires { ⌜ (Sound (now image)) × (i < length (view (now image) .ops)) ⌝ }
+    ensures { λ r. ⌜ r ≡ getD (view (now (image .entry)) .ops) i (blank opRegion) .station ⌝ }
+{
+    image[1040 + 32 * i]
+}
+
+pub fn opens_at(image: &[u8], i: usize) -> u8
+    requires { ⌜ (Sound (now image)) × (i < length (view (now image) .ops)) ⌝ }
+    ensures { λ r. ⌜ r ≡ getD (view (now (image .entry)) .ops) i (blank opRegion) .opens ⌝ }
+{
+    image[1041 + 32 * i]
+}
+
+pub fn kind_at(image: &[u8], i: usize) -> u8
+    requires { ⌜ (Sound (now image)) × (i < length (view (now image) .ops)) ⌝ }
+    ensures { λ r. ⌜ r ≡ getD (view (now (image .entry)) .ops) i (blank opRegion) .kind ⌝ }
+{
+    image[1042 + 32 * i]
+}
+
+pub fn op_labels(image: &[u8], i: usize) -> Labels
+    requires { ⌜ (Sound (now image)) × (i < length (view (now image) .ops)) ⌝ }
+    ensures { λ r. ⌜ r ≡ getD (view (now (image .entry)) .ops) i (blank opRegion) .labels ⌝ }
+{
+    labels_at(image, 1061 + 32 * i)
+}
+
+pub fn label_at(image: &[u8], i: usize) -> u16
+    requires { ⌜ (Sound (now image)) × (i < length (view (now image) .results)) ⌝ }
+    ensures { λ r. ⌜ r ≡ getD (view (now (image .entry)) .results) i (blank resultRegion) .label ⌝ }
+{
+    u16_at(image, 3088 + 16 * i)
 }
 
 pub fn result_at(image: &[u8], i: usize) -> ResultRecord

@@ -1,6 +1,8 @@
 // Numbers and key lists in bytes, least significant byte first.
 use graph::keys::Keys;
 ghost use mathlib.Core.Path.{_≡_};
+ghost use mathlib.Core.Bool.{_&&_};
+ghost use lib.Dec.{eqb};
 ghost use Prim.Native.Nat.{_+_, _≤_, _<_};
 ghost use lib.ListN.{length};
 ghost use Rattle.records.specs.Bytes.{le16, le32, bytes8, keysAt, splice, allZero};
@@ -69,16 +71,22 @@ pub fn store(s: &mut [u8], at: usize, bs: &[u8])
     }
 }
 
-// Whether every byte is zero.
+// The greater of two bytes: zero where both are.
+fn greater(a: u8, b: u8) -> u8
+    ensures { λ r. ⌜ eqb r 0 ≡ (eqb a 0 && eqb b 0) ⌝ }
+{
+    if a < b { b } else { a }
+}
+
+// Whether every byte is zero. The loop has no exit on the way, so that many bytes are compared at once.
 pub fn all_zero(s: &[u8]) -> bool
     ensures { λ r. ⌜ r ≡ allZero (now (s .entry)) ⌝ }
 {
+    let mut most: u8 = 0;
     let mut i: usize = 0;
     while i < s.len() {
-        if s[i] != 0 {
-            return false;
-        }
+        most = greater(most, s[i]);
         i += 1;
     }
-    true
+    most == 0
 }

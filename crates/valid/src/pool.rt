@@ -1,8 +1,8 @@
 // The live labels, gathered: each was given, and stands in one place.
+use image::read::label_at;
 use image::read::last_label;
-use image::read::op_at;
 use image::read::op_count;
-use image::read::result_at;
+use image::read::op_labels;
 use image::read::result_count;
 use records::bytes::long;
 use records::labels::Labels;
@@ -46,9 +46,7 @@ fn gather_ops(image: &[u8], pool: &mut [u16]) -> usize
     let mut at: usize = 0;
     let mut i: usize = 0;
     while i < m {
-        let o = op_at(image, i);
-        let l = o.labels;
-        at = push_labels(pool, at, l);
+        at = push_labels(pool, at, op_labels(image, i));
         i += 1;
     }
     at
@@ -62,8 +60,7 @@ fn gather_results(image: &[u8], pool: &mut [u16], at: usize) -> usize
     let m = result_count(image);
     let mut i: usize = 0;
     while i < m {
-        let r = result_at(image, i);
-        pool[at + i] = r.label;
+        pool[at + i] = label_at(image, i);
         i += 1;
     }
     at + m

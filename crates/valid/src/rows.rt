@@ -5,6 +5,7 @@ use crate::fields::most_of;
 use crate::fields::numbers_ok;
 use crate::fields::operand_ok;
 use crate::fields::targets_ok;
+use image::read::kind_at;
 use image::read::node_at;
 use image::read::node_count;
 use image::read::op_at;
@@ -21,7 +22,7 @@ ghost use lib.ListN.{length};
 ghost use Rattle.image.specs.Layout.{Sound, view};
 ghost use Rattle.queue.specs.Flat.{placed, follows};
 ghost use Rattle.valid.specs.Values.{taggedOf};
-ghost use Rattle.valid.specs.Tests.{nodeOk, opOk, resultOk, nodesOk, opsOk, resultsOk, addsAmong, isAdd};
+ghost use Rattle.valid.specs.Tests.{nodeOk, opOk, resultOk, nodesOk, opsOk, resultsOk, addsAmong};
 
 fn node_ok(i: usize, r: NodeRecord) -> bool
     requires { ⌜ i < 64 ⌝ }
@@ -173,12 +174,6 @@ pub fn results_ok(image: &[u8]) -> bool
     true
 }
 
-fn is_add(o: OpRecord) -> bool
-    ensures { λ b. ⌜ b ≡ isAdd o ⌝ }
-{
-    o.kind == 0
-}
-
 // How many operations are adds.
 pub fn add_count(image: &[u8]) -> usize
     requires { ⌜ Sound (now image) ⌝ }
@@ -188,7 +183,7 @@ pub fn add_count(image: &[u8]) -> usize
     let mut adds: usize = 0;
     let mut i: usize = 0;
     while i < m {
-        if is_add(op_at(image, i)) {
+        if kind_at(image, i) == 0 {
             adds += 1;
         }
         i += 1;

@@ -5,6 +5,7 @@ use Prim.Native.Nat.{ℕ, _+_, _*_, _-_, _≤_, _<_}
 use lib.ListN.{length, take, length-append}
 use mathlib.Core.List.{List, _++_}
 use lib.Seq.{take-all}
+use Rattle.records.specs.declared.labels.Labels.{Labels}
 use Rattle.records.specs.declared.op.OpRecord.{OpRecord}
 use Rattle.image.specs.Layout.{view, blank, opRegion}
 use Rattle.valid.specs.Values.{labelsOf}
@@ -28,8 +29,8 @@ loop-holds : tie.Need-loop-holds Inv-loop μ-loop
 unfolding opLabels
 loop-holds c = (omega arith, omega arith, record { size = refl; count = refl; front = refl })
 
-op-at-requires : tie.Need-op-at-requires Inv-loop μ-loop
-op-at-requires c κs = search needs
+op-labels-requires : tie.Need-op-labels-requires Inv-loop μ-loop
+op-labels-requires c κs = search needs
 
 push-labels-requires : tie.Need-push-labels-requires Inv-loop μ-loop
 push-labels-requires c κs = search needs
@@ -42,20 +43,20 @@ loop-less c = search needs
 
 loop-again : tie.Need-loop-again Inv-loop μ-loop
 loop-again c =
-    let l = c .before .before .before .before .before .before .before .loop in
-    let a = c .before .before .before .before .before .before .before .before .before .before .before .args in
-    let m = c .before .before .before .before .before .before .before .before .op-count in
+    let l = c .before .before .before .before .before .before .loop in
+    let a = c .before .before .before .before .before .before .before .before .before .before .args in
+    let m = c .before .before .before .before .before .before .before .op-count in
     let os = view (a .image .now) .ops in
     let h : l .i < length os = omega (arith, m .ensures) in
-    let p = c .before .before .push-labels .ensures .0 in
-    let o = c .before .before .before .before .before .op-at .ensures in
-    let e : opLabels (take (l .i + 1) os) ≡ opLabels (take (l .i) os) ++ labelsOf (c .before .before .before .before .before .op-at .result .labels) = ops-next os (blank opRegion) (l .i) h ∙ ap (λ (r : OpRecord). opLabels (take (l .i) os) ++ labelsOf (r .labels)) (sym o) in (
+    let p = c .before .before .push-labels .ensures in
+    let o = c .before .before .before .op-labels in
+    let e : opLabels (take (l .i + 1) os) ≡ opLabels (take (l .i) os) ++ labelsOf (o .result) = ops-next os (blank opRegion) (l .i) h ∙ ap (λ (x : Labels). opLabels (take (l .i) os) ++ labelsOf x) (sym (o .ensures)) in (
       omega arith,
-      omega (arith, c .before .before .push-labels .ensures .1, l .inv .1),
+      omega (arith, p .1, l .inv .1),
       record {
-        size = p .size ∙ l .inv .2 .size;
-        count = p .count ∙ omega (arith, l .inv .2 .count, length-append (opLabels (take (l .i) os)) (labelsOf (c .before .before .before .before .before .op-at .result .labels)), ap length e);
-        front = p .front ∙ ap (λ (x : List ℕ). x ++ labelsOf (c .before .before .before .before .before .op-at .result .labels)) (l .inv .2 .front) ∙ sym e;
+        size = p .0 .size ∙ l .inv .2 .size;
+        count = p .0 .count ∙ omega (arith, l .inv .2 .count, length-append (opLabels (take (l .i) os)) (labelsOf (o .result)), ap length e);
+        front = p .0 .front ∙ ap (λ (x : List ℕ). x ++ labelsOf (o .result)) (l .inv .2 .front) ∙ sym e;
       },
     )
 
@@ -80,7 +81,7 @@ gather-ops-spec =
     μ-loop
     op-count-requires
     loop-holds
-    op-at-requires
+    op-labels-requires
     push-labels-requires
     add-i
     loop-less

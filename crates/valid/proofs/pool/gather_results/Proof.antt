@@ -30,8 +30,8 @@ loop-holds c =
     let e : a .at + 0 ≡ a .at = omega arith in
     (omega arith, refl, ap (λ (n : ℕ). take n (a .pool .now)) e ∙ sym (append-nil _))
 
-result-at-requires : tie.Need-result-at-requires Inv-loop μ-loop
-result-at-requires c κs = search needs
+label-at-requires : tie.Need-label-at-requires Inv-loop μ-loop
+label-at-requires c κs = search needs
 
 add-pool : tie.Need-add-pool Inv-loop μ-loop
 add-pool c = search needs
@@ -59,9 +59,9 @@ loop-again c =
     let q : a .at + l .i < length (l .pool) = omega (arith, l .inv .1, c .before .before .before .before .before .before .pre .1) in (
       omega arith,
       simp length-set (l .inv .1),
-      push (l .pool) (a .pool .now) (resultLabels (take (l .i) rs)) (a .at) (l .i) _ q (l .inv .2)
+      push (l .pool) (a .pool .now) (resultLabels (take (l .i) rs)) (a .at) (l .i) (c .label-at .result) q (l .inv .2)
           ∙ ap (λ (x : List ℕ). take (a .at) (a .pool .now) ++ x)
-          (ap (λ (r : ResultRecord). resultLabels (take (l .i) rs) ++ (r .label ∷ [])) (c .result-at .ensures) ∙ sym (results-next rs (blank resultRegion) (l .i) h)),
+          (ap (λ (n : ℕ). resultLabels (take (l .i) rs) ++ (n ∷ [])) (c .label-at .ensures) ∙ sym (results-next rs (blank resultRegion) (l .i) h)),
     )
 
 add-result : tie.Need-add-result Inv-loop μ-loop
@@ -96,7 +96,7 @@ gather-results-spec =
     μ-loop
     result-count-requires
     loop-holds
-    result-at-requires
+    label-at-requires
     add-pool
     mul-pool
     slice-write-pool

@@ -1,13 +1,15 @@
 -- `rows::add_count` meets its contract.
 -- Assumes nothing.
 use mathlib.Core.Path.{_≡_, sym, ap, _∙_}
-use Prim.Native.Nat.{_+_, _-_, _≤_, _<_}
-use lib.ListN.{length, getD, drop}
+use Prim.Native.Nat.{ℕ, _+_, _-_, _≤_, _<_}
+use lib.ListN.{length, drop}
+use borrow.Author.Tests.{eq-eqb, ne-eqb}
+use lib.Dec.{eqb}
 use native.Mathlib.Nat.{zero-add}
 use mathlib.Core.Bool.{Bool, true, false, cond}
 use mathlib.Core.Logic.{⊎-elim}
 use Rattle.image.specs.Layout.{view, blank, opRegion}
-use Rattle.valid.specs.Tests.{isAdd, addsAmong}
+use Rattle.valid.specs.Tests.{addsAmong}
 use Rattle.valid.proofs.Turns.{adds-next, adds-end}
 use borrow.Author.Needs.{needs}
 use native.Mathlib.Omega.{arith}
@@ -26,11 +28,8 @@ op-count-requires c κs = search needs
 loop-holds : tie.Need-loop-holds Inv-loop μ-loop
 loop-holds c = (omega arith, omega arith, zero-add _)
 
-op-at-requires : tie.Need-op-at-requires Inv-loop μ-loop
-op-at-requires c κs = search needs
-
-is-add-requires : tie.Need-is-add-requires Inv-loop μ-loop
-is-add-requires c κs = search needs
+kind-at-requires : tie.Need-kind-at-requires Inv-loop μ-loop
+kind-at-requires c κs = search needs
 
 add-adds : tie.Need-add-adds Inv-loop μ-loop
 add-adds c = search needs
@@ -43,14 +42,14 @@ loop-less c = search needs
 
 loop-again : tie.Need-loop-again Inv-loop μ-loop
 loop-again c =
-    let xs = view (c .before .before .before .before .before .before .before .args .image .now) .ops in
-    let l = c .before .before .before .before .loop in
-    let h : l .i < length xs = omega (arith, c .before .before .before .before .before .op-count .ensures) in
-    let e : isAdd (getD xs (l .i) (blank opRegion)) ≡ c .before .is-add .result = ap isAdd (sym (c .before .before .op-at .ensures)) ∙ sym (c .before .is-add .ensures) in
-    let next : (b : Bool) → c .before .is-add .result ≡ b → addsAmong (drop (l .i) xs) ≡ cond b 1 0 + addsAmong (drop (l .i + 1) xs) = λ b q. adds-next xs (blank opRegion) (l .i) b h (e ∙ q) in
+    let xs = view (c .before .before .before .before .before .before .args .image .now) .ops in
+    let l = c .before .before .before .loop in
+    let h : l .i < length xs = omega (arith, c .before .before .before .before .op-count .ensures) in
+    let k = c .before .kind-at in
+    let next : (b : Bool) → eqb (k .result) 0 ≡ b → addsAmong (drop (l .i) xs) ≡ cond b 1 0 + addsAmong (drop (l .i + 1) xs) = λ b q. adds-next xs (blank opRegion) (l .i) b h (ap (λ (n : ℕ). eqb n 0) (sym (k .ensures)) ∙ q) in
     ⊎-elim
-    (λ w. (omega arith, omega (arith, w .1), omega (arith, w .1, l .inv .2, next true (w .0 .taken))))
-    (λ w. (omega arith, omega (arith, w .1), omega (arith, w .1, l .inv .2, next false (w .0 .left))))
+    (λ w. (omega arith, omega (arith, w .1), omega (arith, w .1, l .inv .2, next true (eq-eqb (k .result) 0 (w .0 .taken)))))
+    (λ w. (omega arith, omega (arith, w .1), omega (arith, w .1, l .inv .2, next false (ne-eqb (k .result) 0 (w .0 .left)))))
     (c .if1 .came)
 
 returns : tie.Need-returns Inv-loop μ-loop
@@ -68,8 +67,7 @@ add-count-spec =
     μ-loop
     op-count-requires
     loop-holds
-    op-at-requires
-    is-add-requires
+    kind-at-requires
     add-adds
     add-i
     loop-less

@@ -1,0 +1,21 @@
+-- `read::kind_at` meets its contract.
+-- Assumes nothing.
+use Rattle.image.proofs.Bytewise.{kind-of}
+use borrow.Author.Needs.{needs}
+use Rattle.image.proofs.read.kind_at.Statement.{statement}
+use Rattle.image.proofs.read.kind_at.Tie as tie
+
+mul-result : tie.Need-mul-result
+mul-result c = search needs
+
+add-result : tie.Need-add-result
+add-result c = search needs
+
+shared-slice-read-result : tie.Need-shared-slice-read-result
+shared-slice-read-result c = search needs
+
+returns : tie.Need-returns
+returns c = kind-of (c .before .args .image .now) (c .before .args .i) (c .before .pre .1)
+
+pub kind-at-spec : {M : Type 1} → statement M
+kind-at-spec = tie.close (tie.spec mul-result add-result shared-slice-read-result returns)
