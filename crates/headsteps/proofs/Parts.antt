@@ -51,19 +51,18 @@ module _ (k : ℕ) (x : Tagged) where
       go (t ∷ l) n = refl
 
 -- A SEARCH from h, which is at i
-module _ (p : Tagged → Bool) (q : List Tagged) (h e : ℕ) (fits : e ≤ length q) where
-  abbrev pub Searched : ℕ → Type 0
-  Searched i = firstIn p i e q ≡ firstIn p h e q
+abbrev pub Searched : (Tagged → Bool) → List Tagged → ℕ → ℕ → ℕ → Type 0
+Searched p q h e i = firstIn p i e q ≡ firstIn p h e q
 
-  module _ (i : ℕ) (so : Searched i) where
-    pub found : i < e → p (getD q i noOp) ≡ true → Bounded (firstIn p h e q) e i
-    found l t = record { is = sym (first-stop p q e fits i noOp l t) ∙ so; within = omega arith }
+module _ (p : Tagged → Bool) (q : List Tagged) (h e : ℕ) (fits : e ≤ length q) (i : ℕ) (so : Searched p q h e i) where
+  pub found : i < e → p (getD q i noOp) ≡ true → Bounded (firstIn p h e q) e i
+  found l t = record { is = sym (first-stop p q e fits i noOp l t) ∙ so; within = omega arith }
 
-    pub passed : i < e → p (getD q i noOp) ≡ false → Searched (i + 1)
-    passed l t = ap (λ (m : ℕ). firstIn p m e q) (add-one i) ∙ sym (first-next p q e fits i noOp l t) ∙ so
+  pub passed : i < e → p (getD q i noOp) ≡ false → Searched p q h e (i + 1)
+  passed l t = ap (λ (m : ℕ). firstIn p m e q) (add-one i) ∙ sym (first-next p q e fits i noOp l t) ∙ so
 
-    pub ended : i ≡ e → Bounded (firstIn p h e q) e e
-    ended z = record { is = sym (first-end p q e fits) ∙ ap (λ (m : ℕ). firstIn p m e q) (sym z) ∙ so; within = omega arith }
+  pub ended : i ≡ e → Bounded (firstIn p h e q) e e
+  ended z = record { is = sym (first-end p q e fits) ∙ ap (λ (m : ℕ). firstIn p m e q) (sym z) ∙ so; within = omega arith }
 
 -- AN ACT
 -- a map holds what it held
