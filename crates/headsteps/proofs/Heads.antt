@@ -7,13 +7,12 @@ use mathlib.Core.Bool.{Bool, true, false, cond, not, _&&_, _||_, true≢false}
 use mathlib.Core.List.{List, [], _∷_}
 use lib.Dec.{eqb, leb, ltb}
 use lib.ListN.{length, getD, drop}
-use lib.Seq.{slice, getD-drop}
+use lib.Seq.{getD-drop}
 use borrow.Author.Tests.{lt-ltb, le-ltb, eq-eqb, ne-eqb, eqb-true, leb-true}
 use Rattle.graph.specs.Refusals.{Answer, refused, done}
-use Rattle.graph.specs.KeyLists.{isNil, contains}
 use Rattle.graph.specs.Sessions.{Session}
 use Rattle.graph.specs.Steps.{realise, move, finish}
-use Rattle.queue.specs.Flat.{Tagged, Flat, flat, nest, isOp, find, here, atPlace, breaks, isAt, endOf}
+use Rattle.queue.specs.Flat.{Tagged, Flat, flat, nest, isOp, find, atPlace, breaks, endOf}
 use Rattle.queue.proofs.Places.{length-nodes}
 use Rattle.worksteps.specs.FlatSteps.{firstIn, mapFrom, noOp, noNode, moveTo, withQueue, hitsKey, headUnit, moveFlat, actAt, realiseFrom, realiseFlat, finishesAt, finishPlace, finishFrom, finishFlat, known, atKey, flatStep}
 use Rattle.worksteps.proofs.Turns.{any-first}

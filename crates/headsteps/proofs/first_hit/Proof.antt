@@ -1,7 +1,7 @@
 -- The loop's invariant: from h up to i none targets the node.
 -- Assumes nothing.
-use mathlib.Core.Path.{_≡_, refl, sym, _∙_}
-use Prim.Native.Nat.{_-_, _≤_, _<_}
+use mathlib.Core.Path.{refl, sym, _∙_}
+use Prim.Native.Nat.{_-_, _≤_}
 use Rattle.worksteps.specs.FlatSteps.{hitsKey}
 use Rattle.state.specs.State.{held}
 use Rattle.headsteps.proofs.Parts.{Searched, found, passed, ended}
