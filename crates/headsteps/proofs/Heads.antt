@@ -7,19 +7,20 @@ use mathlib.Core.Bool.{Bool, true, false, cond, not, _&&_, _||_, true≢false}
 use mathlib.Core.List.{List, [], _∷_}
 use lib.Dec.{eqb, leb, ltb}
 use lib.ListN.{length, getD, drop}
-use lib.Seq.{slice, getD-drop}
+use lib.Seq.{getD-drop}
 use borrow.Author.Tests.{lt-ltb, le-ltb, eq-eqb, ne-eqb, eqb-true, leb-true}
 use Rattle.graph.specs.Refusals.{Answer, refused, done}
-use Rattle.graph.specs.KeyLists.{isNil, contains}
 use Rattle.graph.specs.Sessions.{Session}
-use Rattle.queue.specs.Flat.{Tagged, Flat, flat, nest, isOp, find, here, atPlace, breaks, isAt, endOf}
+use Rattle.graph.specs.Steps.{realise, move, finish}
+use Rattle.queue.specs.Flat.{Tagged, Flat, flat, nest, isOp, find, atPlace, breaks, endOf}
 use Rattle.queue.proofs.Places.{length-nodes}
-use Rattle.worksteps.specs.FlatSteps.{any, firstIn, mapFrom, noOp, noNode, moveTo, withQueue, opIn, hitsKey, headUnit, moveFlat, actAt, realiseFlat, finishesAt, finishPlace, finishFlat, known, atKey}
+use Rattle.worksteps.specs.FlatSteps.{firstIn, mapFrom, noOp, noNode, moveTo, withQueue, hitsKey, headUnit, moveFlat, actAt, realiseFrom, realiseFlat, finishesAt, finishPlace, finishFrom, finishFlat, known, atKey, flatStep}
 use Rattle.worksteps.proofs.Turns.{any-first}
 use Rattle.worksteps.proofs.Facts.{here-find, here-at, sits-at}
 use Rattle.worksteps.proofs.Events.{valid-room}
 use Rattle.state.specs.State.{held, Shows}
 use Rattle.live.specs.Live.{Live, Works}
+use Rattle.headsteps.specs.Heads.{Head}
 
 -- ANSWERS
 module _ {before after : List ℕ} {x : Answer Flat} where
@@ -51,7 +52,7 @@ in-nodes k f e =
 
 -- SEARCHES
 module _ {A : Type 0} (p : A → Bool) where
-  pub find-in : (xs : List A) → (find p xs ≡ length xs → ⊥) → find p xs < length xs
+  find-in : (xs : List A) → (find p xs ≡ length xs → ⊥) → find p xs < length xs
   find-in [] n = absurd (n refl)
   find-in (x ∷ xs) n = go (p x) (find-in xs) n
     where
@@ -67,6 +68,12 @@ module _ {A : Type 0} (p : A → Bool) where
       go true e ih j l = absurd (omega arith)
       go false e ih zero l = e
       go false e ih (suc j) l = ih j (omega arith)
+
+-- a search that has not come to the end has found something
+pub head-in : (k h n : ℕ) (q : List Tagged) → h ≡ find (atPlace k) q → n ≡ length q → (h ≡ n → ⊥) → h < length q
+head-in k h n q first size ne =
+    let z : find (atPlace k) q < length q = find-in (atPlace k) q (λ e. ne (first ∙ e ∙ sym size)) in
+    omega arith
 
 -- each operation of a unit of station k stands at k
 goes-at : (k : ℕ) (x : Tagged) → breaks k x ≡ false → eqb (x .place) k ≡ true
@@ -94,14 +101,7 @@ unit-place k q h p first inside low high = go (p - h) (omega arith)
         ∙ ap (breaks k) (sym (getD-drop (suc h) q j noOp))
         ∙ find-before (breaks k) (drop (suc h) q) j noOp (omega arith))
 
--- THE HEAD UNIT of station k, from h up to e
-pub record Head (image : List ℕ) (k h e : ℕ) : Type 0 where
-  pub live : Live image
-  pub node : known k (held image) ≡ true
-  pub first : h ≡ find (atPlace k) (held image .queue)
-  pub inside : h < length (held image .queue)
-  pub ends : e ≡ endOf k h (held image .queue)
-
+-- THE HEAD UNIT of station k
 module _ (k : ℕ) (g : ℕ → ℕ → Flat → Answer Flat) (f : Flat) where
   pub no-node : known k f ≡ false → atKey k (headUnit k g) f ≡ refused 20
   no-node e = rw e
@@ -125,8 +125,8 @@ on-head image k h e g c =
     ∙ ap (λ (n : ℕ). g h n f) (sym (c .ends))
 
 -- what stands in it is no add
-pub head-op : (image : List ℕ) (k h e p : ℕ) → Head image k h e → h ≤ p → p < e → p < length (held image .queue) → isOp ((getD (held image .queue) p noOp) .call) ≡ true
-head-op image k h e p c low high within =
+pub head-op : (image : List ℕ) (k h e p : ℕ) → Live image → Head image k h e → h ≤ p → p < e → p < length (held image .queue) → isOp ((getD (held image .queue) p noOp) .call) ≡ true
+head-op image k h e p live c low high within =
     let at : eqb ((getD (held image .queue) p noOp) .place) k ≡ true = unit-place k (held image .queue) h p (c .first) (c .inside) low (omega (arith, c .ends)) in
     sits (eqb-true _ _ at)
   where
@@ -134,40 +134,46 @@ head-op image k h e p c low high within =
     s = nest (held image)
 
     few : length (held image .nodes) ≤ 64
-    few = subst (λ (f : Flat). length (f .nodes) ≤ 64) (c .live .flat) (omega (arith, length-nodes (s .stations), valid-room s (c .live .valid)))
+    few = subst (λ (f : Flat). length (f .nodes) ≤ 64) (live .flat) (omega (arith, length-nodes (s .stations), valid-room s (live .valid)))
 
     sits : (getD (held image .queue) p noOp) .place ≡ k → isOp ((getD (held image .queue) p noOp) .call) ≡ true
     sits e =
-        subst (λ (f : Flat). (p < length (f .queue)) → eqb ((getD (f .queue) p noOp) .place) 65 ≡ false → isOp ((getD (f .queue) p noOp) .call) ≡ true) (c .live .flat)
-        (λ i. sits-at s (c .live .valid) p i .placed)
+        subst (λ (f : Flat). (p < length (f .queue)) → eqb ((getD (f .queue) p noOp) .place) 65 ≡ false → isOp ((getD (f .queue) p noOp) .call) ≡ true) (live .flat)
+        (λ i. sits-at s (live .valid) p i .placed)
         within
         (ne-eqb ((getD (held image .queue) p noOp) .place) 65 (λ z. omega (arith, in-nodes k (held image) (c .node) .high, few, e, z)))
 
--- THE STEPS
-module _ (k h e : ℕ) (f : Flat) where
-  pub realise-none : e ≤ firstIn (hitsKey k) h e (f .queue) → realiseFlat k h e f ≡ refused 22
-  realise-none past = rw (le-ltb (firstIn (hitsKey k) h e (f .queue)) e past)
+-- THE STEPS at a head unit
+module _ (image : List ℕ) (k h e : ℕ) (at : Head image k h e) where
+  pub realise-none : e ≤ firstIn (hitsKey k) h e (held image .queue) → flatStep (realise k) (held image) ≡ refused 22
+  realise-none past = on-head image k h e (realiseFlat k) at ∙ rw (le-ltb (firstIn (hitsKey k) h e (held image .queue)) e past)
 
-  pub realise-one : (p : ℕ) → p ≡ firstIn (hitsKey k) h e (f .queue) → p < e
-      → realiseFlat k h e f ≡ done (actAt k p (getD (f .queue) p noOp) (getD (f .nodes) (k - 1) noNode) f)
+  pub realise-one : (p : ℕ) → p ≡ firstIn (hitsKey k) h e (held image .queue) → p < e
+      → flatStep (realise k) (held image) ≡ done (actAt k p (getD (held image .queue) p noOp) (getD (held image .nodes) (k - 1) noNode) (held image))
   realise-one p is high =
-      ap (λ (m : ℕ). cond (ltb m e) (done (actAt k m (getD (f .queue) m noOp) (getD (f .nodes) (k - 1) noNode) f)) (refused 22)) (sym is) ∙ rw (lt-ltb p e high)
+      on-head image k h e (realiseFlat k) at ∙ ap (λ (m : ℕ). realiseFrom k e m (held image)) (sym is) ∙ rw (lt-ltb p e high)
 
-  pub finish-none : e ≤ firstIn (finishesAt k) h e (f .queue) → finishFlat k h e f ≡ refused 22
-  finish-none past = rw (le-ltb (firstIn (finishesAt k) h e (f .queue)) e past)
+  pub finish-none : e ≤ firstIn (finishesAt k) h e (held image .queue) → flatStep (finish k) (held image) ≡ refused 22
+  finish-none past = on-head image k h e (finishFlat k) at ∙ rw (le-ltb (firstIn (finishesAt k) h e (held image .queue)) e past)
 
-  pub finish-one : (p : ℕ) → p ≡ firstIn (finishesAt k) h e (f .queue) → p < e → finishFlat k h e f ≡ done (finishPlace p e (getD (f .queue) p noOp) f)
+  pub finish-one : (p : ℕ) → p ≡ firstIn (finishesAt k) h e (held image .queue) → p < e
+      → flatStep (finish k) (held image) ≡ done (finishPlace p e (getD (held image .queue) p noOp) (held image))
   finish-one p is high =
-      ap (λ (m : ℕ). cond (ltb m e) (done (finishPlace m e (getD (f .queue) m noOp) f)) (refused 22)) (sym is) ∙ rw (lt-ltb p e high)
+      on-head image k h e (finishFlat k) at ∙ ap (λ (m : ℕ). finishFrom e m (held image)) (sym is) ∙ rw (lt-ltb p e high)
 
-  pub move-last : k ≡ 1 → moveFlat k h e f ≡ refused 22
-  move-last one = rw (eq-eqb k 1 one)
+  pub move-last : k ≡ 1 → flatStep (move k) (held image) ≡ refused 22
+  move-last one = on-head image k h e (moveFlat k) at ∙ rw (eq-eqb k 1 one)
 
-  module _ (high : (k ≡ 1 → ⊥)) (fits : e ≤ length (f .queue)) (low : h ≤ e) where
-    pub move-hit : firstIn (hitsKey k) h e (f .queue) < e → moveFlat k h e f ≡ refused 22
-    move-hit hit =
-        rw (ne-eqb k 1 high, any-first (hitsKey k) (f .queue) e fits h low ∙ lt-ltb (firstIn (hitsKey k) h e (f .queue)) e hit)
+  module _ (other : (k ≡ 1 → ⊥)) where
+    hit-or-free : (b : Bool) → ltb (firstIn (hitsKey k) h e (held image .queue)) e ≡ b
+        → flatStep (move k) (held image) ≡ cond b (refused 22) (done (withQueue (held image) (mapFrom (moveTo (k - 1)) h e (held image .queue))))
+    hit-or-free b t =
+        let low : h ≤ e = omega (arith, at .ends) in
+        on-head image k h e (moveFlat k) at ∙ rw (ne-eqb k 1 other, any-first (hitsKey k) (held image .queue) e (at .fits) h low ∙ t)
 
-    pub move-free : e ≤ firstIn (hitsKey k) h e (f .queue) → moveFlat k h e f ≡ done (withQueue f (mapFrom (moveTo (k - 1)) h e (f .queue)))
-    move-free free =
-        rw (ne-eqb k 1 high, any-first (hitsKey k) (f .queue) e fits h low ∙ le-ltb (firstIn (hitsKey k) h e (f .queue)) e free)
+    pub move-hit : firstIn (hitsKey k) h e (held image .queue) < e → flatStep (move k) (held image) ≡ refused 22
+    move-hit hit = hit-or-free true (lt-ltb _ _ hit)
+
+    pub move-free : e ≤ firstIn (hitsKey k) h e (held image .queue)
+        → flatStep (move k) (held image) ≡ done (withQueue (held image) (mapFrom (moveTo (k - 1)) h e (held image .queue)))
+    move-free free = hit-or-free false (le-ltb _ _ free)

@@ -1,7 +1,7 @@
 -- The parts of a step on a head unit: a search turn by turn, an act, a move turn by turn, a finish.
 -- Assumes nothing.
 use mathlib.Core.Path.{_≡_, refl, sym, _∙_, ap, subst}
-use Prim.Native.Nat.{ℕ, zero, suc, _+_, _-_, _≤_, _<_}
+use Prim.Native.Nat.{ℕ, suc, _+_, _-_, _≤_, _<_}
 use native.Mathlib.Numerals.{add-one}
 use native.Mathlib.Omega.{arith}
 use mathlib.Core.Bool.{Bool, true, false, cond, not, _&&_, _||_, true≢false}
@@ -9,14 +9,14 @@ use mathlib.Core.List.{List, [], _∷_, _++_, map}
 use lib.Dec.{eqb, ltb}
 use lib.ListN.{length, take, drop, getD, set, length-append, length-map, length-drop}
 use lib.Seq.{slice, length-slice, length-take-le}
-use borrow.Author.Tests.{lt-ltb, le-ltb, eq-eqb, ne-eqb}
+use borrow.Author.Tests.{lt-ltb, le-ltb}
 use Rattle.graph.specs.declared.act.Act.{Act}
 use Rattle.graph.specs.declared.act.Act.the-variants.{Map, Link, Unlink, Sum, Top, Pick, Near}
 use Rattle.graph.specs.declared.keys.Keys.{Keys}
 use Rattle.graph.specs.Acts.{isMap, newValue, newLinks, newHeld, answer}
 use Rattle.graph.specs.KeyLists.{isNil, contains}
 use Rattle.graph.specs.Nodes.{Node, Op, Result, actOn, actBy, resultsFor, stored}
-use Rattle.graph.specs.OneAtATime.{Labelled, opOf}
+use Rattle.graph.specs.OneAtATime.{opOf}
 use Rattle.graph.specs.Packed.{listed, packed}
 use Rattle.graph.specs.Sessions.{Session, store}
 use Rattle.graph.proofs.KeyLaws.{listed-packed}
@@ -51,19 +51,18 @@ module _ (k : ℕ) (x : Tagged) where
       go (t ∷ l) n = refl
 
 -- A SEARCH from h, which is at i
-module _ (p : Tagged → Bool) (q : List Tagged) (h e : ℕ) (fits : e ≤ length q) where
-  abbrev pub Searched : ℕ → Type 0
-  Searched i = firstIn p i e q ≡ firstIn p h e q
+abbrev pub Searched : (Tagged → Bool) → List Tagged → ℕ → ℕ → ℕ → Type 0
+Searched p q h e i = firstIn p i e q ≡ firstIn p h e q
 
-  module _ (i : ℕ) (so : Searched i) where
-    pub found : i < e → p (getD q i noOp) ≡ true → Bounded (firstIn p h e q) e i
-    found l t = record { is = sym (first-stop p q e fits i noOp l t) ∙ so; within = omega arith }
+module _ (p : Tagged → Bool) (q : List Tagged) (h e : ℕ) (fits : e ≤ length q) (i : ℕ) (so : Searched p q h e i) where
+  pub found : i < e → p (getD q i noOp) ≡ true → Bounded (firstIn p h e q) e i
+  found l t = record { is = sym (first-stop p q e fits i noOp l t) ∙ so; within = omega arith }
 
-    pub passed : i < e → p (getD q i noOp) ≡ false → Searched (i + 1)
-    passed l t = ap (λ (m : ℕ). firstIn p m e q) (add-one i) ∙ sym (first-next p q e fits i noOp l t) ∙ so
+  pub passed : i < e → p (getD q i noOp) ≡ false → Searched p q h e (i + 1)
+  passed l t = ap (λ (m : ℕ). firstIn p m e q) (add-one i) ∙ sym (first-next p q e fits i noOp l t) ∙ so
 
-    pub ended : i ≡ e → Bounded (firstIn p h e q) e e
-    ended z = record { is = sym (first-end p q e fits) ∙ ap (λ (m : ℕ). firstIn p m e q) (sym z) ∙ so; within = omega arith }
+  pub ended : i ≡ e → Bounded (firstIn p h e q) e e
+  ended z = record { is = sym (first-end p q e fits) ∙ ap (λ (m : ℕ). firstIn p m e q) (sym z) ∙ so; within = omega arith }
 
 -- AN ACT
 -- a map holds what it held
@@ -102,6 +101,10 @@ module _ (f : Flat) (k p : ℕ) (o : Operation) (b : Body) (carries : Carries ((
       subst (λ (g : Flat). Shows g u)
       (λ i. record { nodes = set (f .nodes) (k - 1) (node i); queue = set (f .queue) p (withOp x (call i)); results = f .results; last = f .last })
       (subst (λ (g : Flat). Shows (withQueue g (set (g .queue) p (withOp (getD (g .queue) p noOp) (opValue a)))) u) (first .shows) second)
+
+-- new nodes leave the queue as it was
+pub still-queued : (f : Flat) (ns : List Node) (t : List ℕ) (p : ℕ) → Shows (withNodes f ns) t → p < length (f .queue) → p < length (held t .queue)
+still-queued f ns t p first h = subst (λ (g : Flat). p < length (g .queue)) (sym (first .shows)) h
 
 -- A MOVE from h, which is at j: t is the image by then
 abbrev pub Moved : List ℕ → (Tagged → Tagged) → ℕ → ℕ → List ℕ → Type 0

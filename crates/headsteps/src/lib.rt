@@ -17,7 +17,7 @@ ghost use Rattle.worksteps.specs.FlatSteps.{noOp, noNode, moveTo, mapFrom, firs
 ghost use Rattle.state.specs.Operations.{opValue, Normal, Carries, Bounded};
 ghost use Rattle.state.specs.State.{held, Proper, Shows};
 ghost use Rattle.live.specs.Live.{Live, Works};
-ghost use Rattle.headsteps.specs.Heads.{bodyValue, handOn};
+ghost use Rattle.headsteps.specs.Heads.{bodyValue, handOn, IsHead};
 
 // Whether a node has this key.
 pub fn is_known(image: &[u8], k: u8) -> bool
@@ -166,21 +166,51 @@ pub fn finish_at(image: &mut [u8], p: usize, e: usize)
     results::store_all(image, labels, value, left);
 }
 
+// A station's head unit, from start up to end; where there is none, the refusal's number.
+struct Span {
+    refusal: u32,
+    start: usize,
+    end: usize,
+}
+
+fn head_unit(image: &[u8], k: u8) -> Span
+    requires { ⌜ Proper (now image) ⌝ }
+    ensures { λ r. ⌜ IsHead (now (image .entry)) k r ⌝ }
+{
+    if !is_known(image, k) {
+        return Span {
+            refusal: 20,
+            start: 0,
+            end: 0,
+        };
+    }
+    let h = ops::first_at(image, k);
+    if h == ops::total(image) {
+        return Span {
+            refusal: 21,
+            start: 0,
+            end: 0,
+        };
+    }
+    let e = ops::unit_end(image, k, h);
+    Span {
+        refusal: 0,
+        start: h,
+        end: e,
+    }
+}
+
 // In the head unit, the first operation that targets the node acts and strikes its key.
 pub fn realise(image: &mut [u8], k: u8) -> u32
     requires { ⌜ Live (now image) ⌝ }
     ensures { λ r. ⌜ Works (flatStep (realise k) (held (now (image .entry)))) (now (image .entry)) (now (image .exit)) r ⌝ }
 {
-    if !is_known(image, k) {
-        return 20;
+    let u = head_unit(image, k);
+    if u.refusal != 0 {
+        return u.refusal;
     }
-    let h = ops::first_at(image, k);
-    if h == ops::total(image) {
-        return 21;
-    }
-    let e = ops::unit_end(image, k, h);
-    let p = first_hit(image, k, h, e);
-    if p == e {
+    let p = first_hit(image, k, u.start, u.end);
+    if p == u.end {
         return 22;
     }
     act_at(image, k, p);
@@ -192,19 +222,15 @@ pub fn finish(image: &mut [u8], k: u8) -> u32
     requires { ⌜ Live (now image) ⌝ }
     ensures { λ r. ⌜ Works (flatStep (finish k) (held (now (image .entry)))) (now (image .entry)) (now (image .exit)) r ⌝ }
 {
-    if !is_known(image, k) {
-        return 20;
+    let u = head_unit(image, k);
+    if u.refusal != 0 {
+        return u.refusal;
     }
-    let h = ops::first_at(image, k);
-    if h == ops::total(image) {
-        return 21;
-    }
-    let e = ops::unit_end(image, k, h);
-    let p = first_finish(image, k, h, e);
-    if p == e {
+    let p = first_finish(image, k, u.start, u.end);
+    if p == u.end {
         return 22;
     }
-    finish_at(image, p, e);
+    finish_at(image, p, u.end);
     0
 }
 
@@ -213,20 +239,16 @@ pub fn move_on(image: &mut [u8], k: u8) -> u32
     requires { ⌜ Live (now image) ⌝ }
     ensures { λ r. ⌜ Works (flatStep (move k) (held (now (image .entry)))) (now (image .entry)) (now (image .exit)) r ⌝ }
 {
-    if !is_known(image, k) {
-        return 20;
-    }
-    let h = ops::first_at(image, k);
-    if h == ops::total(image) {
-        return 21;
+    let u = head_unit(image, k);
+    if u.refusal != 0 {
+        return u.refusal;
     }
     if k == 1 {
         return 22;
     }
-    let e = ops::unit_end(image, k, h);
-    if first_hit(image, k, h, e) < e {
+    if first_hit(image, k, u.start, u.end) < u.end {
         return 22;
     }
-    move_unit(image, k, h, e);
+    move_unit(image, k, u.start, u.end);
     0
 }

@@ -1,12 +1,10 @@
 -- The node after the act, and then the operation after it.
 -- Assumes nothing.
-use mathlib.Core.Path.{sym, ap, _∙_}
-use lib.ListN.{length}
+use mathlib.Core.Path.{sym, _∙_}
 use Rattle.graph.proofs.KeyLaws.{normal}
-use Rattle.queue.specs.Flat.{Flat}
 use Rattle.state.specs.State.{held}
 use Rattle.headsteps.proofs.Heads.{in-nodes}
-use Rattle.headsteps.proofs.Parts.{act-shown}
+use Rattle.headsteps.proofs.Parts.{act-shown, still-queued}
 use borrow.Author.Needs.{needs}
 use native.Mathlib.Omega.{arith}
 use Rattle.headsteps.proofs.act_at.Statement.{statement}
@@ -43,7 +41,7 @@ acted-requires c κs = c .before .before .before .before .before .before .before
 put-operation-requires : tie.Need-put-operation-requires
 put-operation-requires c κs =
     let put = c .before .before .before .before .put-body .ensures in
-    (put .proper, rw (ap (λ (f : Flat). length (f .queue)) (put .shows)) (c .before .before .before .before .before .before .before .before .before .before .before .before .before .before .pre .2), c .before .acted .ensures .normal)
+    (put .proper, still-queued (held (c .before .before .before .before .before .before .before .before .before .before .before .before .before .before .args .image .now)) _ _ (c .before .before .before .before .before .before .before .before .before .before .before .before .before .before .args .p) put (c .before .before .before .before .before .before .before .before .before .before .before .before .before .before .pre .2), c .before .acted .ensures .normal)
 
 same-length : tie.Need-same-length
 same-length c = c .before .before .put-operation .ensures .proper .sound .size ∙ sym (c .before .before .before .before .before .before .before .before .before .before .before .before .before .before .before .before .before .pre .0 .sound .size)

@@ -1,8 +1,6 @@
 -- What it holds now, and its targets without the key; a map still holds 0.
 -- Assumes nothing.
 use mathlib.Core.Path.{_≡_, sym, ap, _∙_}
-use mathlib.Core.List.{List}
-use Prim.Native.Nat.{ℕ}
 use Rattle.graph.specs.KeyLists.{strike}
 use Rattle.graph.specs.OneAtATime.{opOf}
 use Rattle.graph.specs.Packed.{listed}

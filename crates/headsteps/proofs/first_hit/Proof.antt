@@ -1,17 +1,17 @@
 -- The loop's invariant: from h up to i none targets the node.
 -- Assumes nothing.
-use mathlib.Core.Path.{_≡_, refl, sym, _∙_}
-use Prim.Native.Nat.{_-_, _≤_, _<_}
-use Rattle.worksteps.specs.FlatSteps.{firstIn, hitsKey}
+use mathlib.Core.Path.{refl, sym, _∙_}
+use Prim.Native.Nat.{_-_, _≤_}
+use Rattle.worksteps.specs.FlatSteps.{hitsKey}
 use Rattle.state.specs.State.{held}
-use Rattle.headsteps.proofs.Parts.{found, passed, ended}
+use Rattle.headsteps.proofs.Parts.{Searched, found, passed, ended}
 use borrow.Author.Needs.{needs}
 use native.Mathlib.Omega.{arith}
 use Rattle.headsteps.proofs.first_hit.Statement.{statement}
 use Rattle.headsteps.proofs.first_hit.Tie as tie
 
 abbrev Inv-loop : tie.InvT-loop
-Inv-loop image k h e i₀ i = (i ≤ e) × (firstIn (hitsKey k) i e (held image .queue) ≡ firstIn (hitsKey k) h e (held image .queue))
+Inv-loop image k h e i₀ i = (i ≤ e) × Searched (hitsKey k) (held image .queue) h e i
 
 abbrev μ-loop : tie.MeasureT-loop
 μ-loop image k h e i₀ i = e - i
