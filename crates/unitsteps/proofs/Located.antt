@@ -17,7 +17,7 @@ use Rattle.worksteps.proofs.Facts.{here-past, onUnit, unit-start}
 use Rattle.worksteps.proofs.Facts.{unitStart as unitStartOf}
 use Rattle.state.proofs.ResultLaws.{find-within}
 use Rattle.unitsteps.specs.declared.units.Spot.{Spot}
-use Rattle.unitsteps.specs.Numbered.{unitStart, andThen, Span, spanAt, locate, alone, locateTwo, spotted}
+use Rattle.unitsteps.specs.Numbered.{unitStart, andThen, Span, locate, alone, locateTwo, spotted}
 
 -- WHERE A UNIT STARTS: one turn of the loop
 module _ (k : ℕ) (q : List Tagged) where
@@ -84,10 +84,12 @@ module _ (k i : ℕ) (f : Flat) where
     where
       on : Span → Answer (List Tagged)
       on s = g (s .start) (s .end) (getD (f .queue) (s .start) noOp) (getD (f .queue) (s .end) noOp) (f .queue)
+
       at : (s : Span) (b d : Bool) → mapDone (withQueue f) (cond b (cond d (on s) (refused 22)) (refused 21)) ≡ andThen (cond b (cond d (done s) (refused 22)) (refused 21)) (λ (t : Span). mapDone (withQueue f) (on t))
       at s true true = refl
       at s true false = refl
       at s false d = refl
+
       go : (x : Answer Span)
           → andThen x (λ (s : Span). mapDone (withQueue f) (withNext k (neighbours g) (s .start) (s .end) (f .queue)))
           ≡ andThen (andThen x (alone k (f .queue))) (λ (t : Span). mapDone (withQueue f) (on t))

@@ -1,6 +1,7 @@
 // The work steps on numbered units, in the image: join, split, swap, fuse. Each answers 0, or a refusal's number.
 pub mod pairs;
 pub mod units;
+
 use crate::pairs::may_fuse;
 use crate::pairs::may_swap;
 use crate::pairs::merge;

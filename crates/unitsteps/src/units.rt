@@ -87,7 +87,7 @@ pub fn unit_at(image: &[u8], k: u8, unit: u32) -> Spot
     }
 }
 
-// The same where that unit and the next have one operation each: at its start, and at its end.
+// The same where that unit and the next have one operation each: the one at the start, the other at the end.
 pub fn two_at(image: &[u8], k: u8, unit: u32) -> Spot
     requires { ⌜ Proper (now image) ⌝ }
     ensures { λ r. ⌜ locateTwo k unit (held (now (image .entry))) ≡ spotted r ⌝ }

@@ -1,74 +1,56 @@
 -- The unit, the next, and the next one's mark.
 -- Assumes nothing.
-use mathlib.Core.Path.{_≡_, refl, sym, ap, _∙_}
-use Prim.Native.Nat.{ℕ, _+_, _<_, _≤_}
+use mathlib.Core.Path.{_≡_, refl, sym, _∙_}
 use mathlib.Core.Bool.{true, false}
-use lib.ListN.{length, getD}
-use Rattle.graph.specs.Steps.{join, split, swap, fuse}
-use Rattle.queue.specs.Flat.{isAt, endOf}
+use Rattle.queue.specs.Flat.{isAt}
 use Rattle.state.specs.State.{held}
-use borrow.Author.Tests.{not-true, not-false, le-leb, lt-leb, lt-ltb, le-ltb}
+use borrow.Author.Tests.{not-true, not-false}
 use Rattle.worksteps.specs.FlatSteps.{withNext, joinFlat}
 use Rattle.unitsteps.proofs.Located.{at-within, one-no, one-yes}
 use Rattle.unitsteps.proofs.Working.{works-refused, works-done}
-use native.Mathlib.Omega.{arith}
 use borrow.Author.Needs.{needs}
 use Rattle.unitsteps.proofs.join.Statement.{statement}
 use Rattle.unitsteps.proofs.join.Tie as tie
-use Rattle.unitsteps.proofs.join.Reads as reads
-use Rattle.unitsteps.proofs.join.Lts as lts
-use Rattle.state.proofs.ops.set_opens.Reads as set-opens-reads
-use Rattle.unitsteps.proofs.units.is_at.Reads as is-at-reads
-use Rattle.unitsteps.proofs.units.unit_at.Reads as unit-at-reads
 
--- src/lib.rt:21:9
 unit-at-requires : tie.Need-unit-at-requires
 unit-at-requires c κs = search needs
 
--- src/lib.rt:23:9
 same-length : tie.Need-same-length
 same-length c = search needs
 
--- src/lib.rt:23:9
 returns : tie.Need-returns
-returns c = 
+returns c =
     let s = c .before .before .before .before .before in
     let f = held (s .args .image .now) in
     let u = c .before .before .unit-at in
     works-refused _ (one-no (s .args .k) (s .args .unit) f (u .result) (withNext (s .args .k) joinFlat) (u .ensures) (c .if1 .taken))
 
--- src/lib.rt:26:9
 is-at-requires : tie.Need-is-at-requires
 is-at-requires c κs = search needs
 
--- src/lib.rt:27:9
 same-length-2 : tie.Need-same-length-2
 same-length-2 c = search needs
 
--- src/lib.rt:27:9
 returns-2 : tie.Need-returns-2
-returns-2 c = 
+returns-2 c =
     let s = c .before .before .before .before .before .before .before .before in
     let f = held (s .args .image .now) in
     let u = c .before .before .before .before .before .unit-at in
     let t : isAt (s .args .k) (u .result .end) (f .queue) ≡ false = sym (c .before .is-at .ensures) ∙ not-true _ (c .if2 .taken) in
     works-refused 21 (one-yes (s .args .k) (s .args .unit) f (u .result) (withNext (s .args .k) joinFlat) (u .ensures) (c .before .before .before .if1 .left) ∙ rw t refl)
 
--- src/lib.rt:29:5
 set-opens-requires : tie.Need-set-opens-requires
-set-opens-requires c κs = 
+set-opens-requires c κs =
     let s = c .before .before .before .before .before .before .before .before .before in
     let f = held (s .args .image .now) in
     let u = c .before .before .before .before .before .before .unit-at in
     (s .pre .proper, at-within (s .args .k) (f .queue) (u .result .end) (sym (c .before .before .is-at .ensures) ∙ not-false _ (c .before .if2 .left)))
 
--- src/lib.rt:17:1
 same-length-3 : tie.Need-same-length-3
 same-length-3 c = search needs
 
--- src/lib.rt:17:1
 returns-3 : tie.Need-returns-3
-returns-3 c = 
+returns-3 c =
     let s = c .before .before .before .before .before .before .before .before .before .before .before .before in
     let f = held (s .args .image .now) in
     let u = c .before .before .before .before .before .before .before .before .before .unit-at in

@@ -1,13 +1,9 @@
 -- The cut is inside the unit.
 -- Assumes nothing.
-use mathlib.Core.Path.{_≡_, refl, sym, ap, _∙_}
-use Prim.Native.Nat.{ℕ, _+_, _<_, _≤_}
-use mathlib.Core.Bool.{true, false}
-use lib.ListN.{length, getD}
-use Rattle.graph.specs.Steps.{join, split, swap, fuse}
-use Rattle.queue.specs.Flat.{isAt, endOf}
+use mathlib.Core.Path.{refl, _∙_}
+use Prim.Native.Nat.{_+_, _<_, _≤_}
 use Rattle.state.specs.State.{held}
-use borrow.Author.Tests.{not-true, not-false, le-leb, lt-leb, lt-ltb, le-ltb}
+use borrow.Author.Tests.{le-leb, lt-leb, lt-ltb, le-ltb}
 use Rattle.worksteps.specs.FlatSteps.{splitFlat}
 use Rattle.unitsteps.proofs.Located.{at-within, end-within, stands, spanOf, spot-yes, one-no, one-yes}
 use Rattle.unitsteps.proofs.Working.{works-refused, works-done}
@@ -15,55 +11,43 @@ use native.Mathlib.Omega.{arith}
 use borrow.Author.Needs.{needs}
 use Rattle.unitsteps.proofs.split.Statement.{statement}
 use Rattle.unitsteps.proofs.split.Tie as tie
-use Rattle.unitsteps.proofs.split.Reads as reads
-use Rattle.unitsteps.proofs.split.Lts as lts
-use Rattle.state.proofs.ops.set_opens.Reads as set-opens-reads
-use Rattle.unitsteps.proofs.units.unit_at.Reads as unit-at-reads
 
--- src/lib.rt:38:9
 unit-at-requires : tie.Need-unit-at-requires
 unit-at-requires c κs = search needs
 
--- src/lib.rt:40:9
 same-length : tie.Need-same-length
 same-length c = search needs
 
--- src/lib.rt:40:9
 returns : tie.Need-returns
-returns c = 
+returns c =
     let s = c .before .before .before .before .before in
     let f = held (s .args .image .now) in
     let u = c .before .before .unit-at in
     works-refused _ (one-no (s .args .k) (s .args .unit) f (u .result) (splitFlat (s .args .after)) (u .ensures) (c .if1 .taken))
 
--- src/lib.rt:43:9
 same-length-2 : tie.Need-same-length-2
 same-length-2 c = search needs
 
--- src/lib.rt:43:9
 returns-2 : tie.Need-returns-2
-returns-2 c = 
+returns-2 c =
     let s = c .before .before .before .before .before .before in
     let f = held (s .args .image .now) in
     let u = c .before .before .before .unit-at in
     works-refused 22 (one-yes (s .args .k) (s .args .unit) f (u .result) (splitFlat (s .args .after)) (u .ensures) (c .before .if1 .left) ∙ rw (lt-leb 1 (s .args .after) (c .if2 .taken)) refl)
 
--- src/lib.rt:47:8
 sub-if3 : tie.Need-sub-if3
-sub-if3 c = 
+sub-if3 c =
     let s = c .before .before .before .before .before .before .before in
     let f = held (s .args .image .now) in
     let u = c .before .before .before .before .unit-at in
     let w = stands (s .args .k) (s .args .unit) f (spanOf (u .result)) (spot-yes (u .result) (u .ensures) (c .before .before .if1 .left)) in
     omega (arith, w .size)
 
--- src/lib.rt:48:9
 same-length-3 : tie.Need-same-length-3
 same-length-3 c = search needs
 
--- src/lib.rt:48:9
 returns-3 : tie.Need-returns-3
-returns-3 c = 
+returns-3 c =
     let s = c .before .before .before .before .before .before .before .before in
     let f = held (s .args .image .now) in
     let u = c .before .before .before .before .before .unit-at in
@@ -71,26 +55,22 @@ returns-3 c =
     let h : u .result .end ≤ u .result .start + s .args .after = omega (arith, w .size) in
     works-refused 22 (one-yes (s .args .k) (s .args .unit) f (u .result) (splitFlat (s .args .after)) (u .ensures) (c .before .before .before .if1 .left) ∙ rw (le-leb 1 (s .args .after) (c .before .before .if2 .left), le-ltb (u .result .start + s .args .after) (u .result .end) h) refl)
 
--- src/lib.rt:50:27
 add-set-opens : tie.Need-add-set-opens
 add-set-opens c = search needs
 
--- src/lib.rt:50:5
 set-opens-requires : tie.Need-set-opens-requires
-set-opens-requires c κs = 
+set-opens-requires c κs =
     let s = c .before .before .before .before .before .before .before .before .before in
     let f = held (s .args .image .now) in
     let u = c .before .before .before .before .before .before .unit-at in
     let w = stands (s .args .k) (s .args .unit) f (spanOf (u .result)) (spot-yes (u .result) (u .ensures) (c .before .before .before .before .if1 .left)) in
     (s .pre .proper, omega (arith, w .size, end-within (s .args .k) (f .queue) (u .result .start) (at-within (s .args .k) (f .queue) (u .result .start) (w .first))))
 
--- src/lib.rt:34:1
 same-length-4 : tie.Need-same-length-4
 same-length-4 c = search needs
 
--- src/lib.rt:34:1
 returns-4 : tie.Need-returns-4
-returns-4 c = 
+returns-4 c =
     let s = c .before .before .before .before .before .before .before .before .before .before .before .before in
     let f = held (s .args .image .now) in
     let u = c .before .before .before .before .before .before .before .before .before .unit-at in

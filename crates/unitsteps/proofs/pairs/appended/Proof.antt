@@ -1,9 +1,9 @@
 -- The loop's invariant: the first's labels, and i of the second's.
 -- Assumes nothing.
-use mathlib.Core.Path.{_≡_, sym, ap, _∙_}
-use Prim.Native.Nat.{ℕ, _≤_, _<_, _-_, _+_}
-use mathlib.Core.List.{List, _++_}
-use lib.ListN.{length, take, set, getD, length-append, length-take}
+use mathlib.Core.Path.{_≡_, ap, _∙_}
+use Prim.Native.Nat.{ℕ, _≤_, _-_, _+_}
+use mathlib.Core.List.{_++_}
+use lib.ListN.{length, take, set, getD, length-append}
 use Rattle.valid.specs.Values.{labelsOf, packedLabels}
 use Rattle.state.proofs.ResultLaws.{labels-count}
 use Rattle.unitsteps.proofs.LabelLaws.{labels-none, labels-next, packed-made}
@@ -11,8 +11,6 @@ use borrow.Author.Needs.{needs}
 use native.Mathlib.Omega.{arith}
 use Rattle.unitsteps.proofs.pairs.appended.Statement.{statement}
 use Rattle.unitsteps.proofs.pairs.appended.Tie as tie
-use Rattle.unitsteps.proofs.pairs.appended.Reads as reads
-use Rattle.unitsteps.proofs.pairs.appended.Lts as lts
 
 abbrev Inv-loop : tie.InvT-loop
 Inv-loop n m from label₀ i₀ label i = (i ≤ m) × (label ≡ packedLabels (take n label₀ ++ take i from) .label)
@@ -39,70 +37,56 @@ within s =
       four-too = search needs;
     }
 
--- src/pairs.rt:53:13
 cast-n : tie.Need-cast-n Inv-loop μ-loop
 cast-n c = search needs
 
--- src/pairs.rt:54:13
 cast-m : tie.Need-cast-m Inv-loop μ-loop
 cast-m c = search needs
 
--- src/pairs.rt:58:5
 loop-holds : tie.Need-loop-holds Inv-loop μ-loop
-loop-holds c = 
+loop-holds c =
     let s = c .before .before .before .before in
     (omega arith, labels-none (s .args .a) (s .args .b) (s .pre .0))
 
--- src/pairs.rt:59:24
 mul-label : tie.Need-mul-label Inv-loop μ-loop
 mul-label c = search needs
 
--- src/pairs.rt:59:24
 array-read-label : tie.Need-array-read-label Inv-loop μ-loop
 array-read-label c = omega (arith, within (c .before .before .before .before .before .before))
 
--- src/pairs.rt:59:15
 add-label : tie.Need-add-label Inv-loop μ-loop
 add-label c = omega (arith, within (c .before .before .before .before .before .before))
 
--- src/pairs.rt:59:9
 mul-label-2 : tie.Need-mul-label-2 Inv-loop μ-loop
 mul-label-2 c = search needs
 
--- src/pairs.rt:59:9
 array-write-label : tie.Need-array-write-label Inv-loop μ-loop
 array-write-label c = omega (arith, within (c .before .before .before .before .before .before))
 
--- src/pairs.rt:60:9
 add-i : tie.Need-add-i Inv-loop μ-loop
 add-i c = search needs
 
--- src/pairs.rt:58:5
 loop-less : tie.Need-loop-less Inv-loop μ-loop
 loop-less c = search needs
 
--- src/pairs.rt:58:5
 loop-again : tie.Need-loop-again Inv-loop μ-loop
-loop-again c = 
+loop-again c =
     let l = c .before in
     let s = l .before .before .before .before .before in
     let w = within s in (
       omega arith,
       (λ j. set (l .loop .inv .1 j) (w .first j + l .loop .i) (getD (s .args .b .label) (l .loop .i) 0))
-      ∙ labels-next (s .args .a) (s .args .b) (l .loop .i) (omega arith) (omega (arith, w .first)),
+          ∙ labels-next (s .args .a) (s .args .b) (l .loop .i) (omega arith) (omega (arith, w .first)),
     )
 
--- src/pairs.rt:63:17
 add-t17 : tie.Need-add-t17 Inv-loop μ-loop
 add-t17 c = omega (arith, within (c .before .before .before .before .before .before))
 
--- src/pairs.rt:63:16
 cast-t18 : tie.Need-cast-t18 Inv-loop μ-loop
 cast-t18 c = omega (arith, within (c .before .before .before .before .before .before))
 
--- src/pairs.rt:49:1
 returns : tie.Need-returns Inv-loop μ-loop
-returns c = 
+returns c =
     let l = c .before in
     let s = l .before .before .before .before .before in
     let w = within s in

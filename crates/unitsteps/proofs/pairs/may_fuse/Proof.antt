@@ -2,7 +2,6 @@
 -- Assumes nothing.
 use mathlib.Core.Path.{_≡_, sym, ap, _∙_}
 use Prim.Native.Nat.{ℕ, _+_}
-use mathlib.Core.Bool.{true, false}
 use mathlib.Core.List.{_++_}
 use lib.Dec.{leb}
 use lib.ListN.{length, length-append}
@@ -13,50 +12,36 @@ use native.Mathlib.Omega.{arith}
 use borrow.Author.Needs.{needs}
 use Rattle.unitsteps.proofs.pairs.may_fuse.Statement.{statement}
 use Rattle.unitsteps.proofs.pairs.may_fuse.Tie as tie
-use Rattle.unitsteps.proofs.pairs.may_fuse.Reads as reads
-use Rattle.unitsteps.proofs.pairs.may_fuse.Lts as lts
-use Rattle.graph.proofs.act.is_map.Reads as is-map-reads
-use Rattle.graph.proofs.keys.Keys.same.Reads as same-reads
 
--- src/pairs.rt:31:9
 is-map-requires : tie.Need-is-map-requires
 is-map-requires c κs = search needs
 
--- src/pairs.rt:32:9
 returns : tie.Need-returns
 returns c = rw (sym (c .before .is-map .ensures) ∙ not-true _ (c .if1 .taken))
 
--- src/pairs.rt:35:9
 is-map-requires-2 : tie.Need-is-map-requires-2
 is-map-requires-2 c κs = search needs
 
--- src/pairs.rt:36:9
 returns-2 : tie.Need-returns-2
 returns-2 c = rw (sym (c .before .before .before .is-map .ensures) ∙ not-false _ (c .before .before .if1 .left), sym (c .before .is-map2 .ensures) ∙ not-true _ (c .if2 .taken))
 
--- src/pairs.rt:40:9
 same-requires : tie.Need-same-requires
 same-requires c κs = search needs
 
--- src/pairs.rt:41:9
 returns-3 : tie.Need-returns-3
 returns-3 c = rw (sym (c .before .before .before .before .before .before .before .is-map .ensures) ∙ not-false _ (c .before .before .before .before .before .before .if1 .left), sym (c .before .before .before .before .before .is-map2 .ensures) ∙ not-false _ (c .before .before .before .before .if2 .left), sym (c .before .same .ensures) ∙ not-true _ (c .if3 .taken))
 
--- src/pairs.rt:45:5
 cast-result : tie.Need-cast-result
 cast-result c = search needs
 
--- src/pairs.rt:45:22
 cast-result-2 : tie.Need-cast-result-2
 cast-result-2 c = search needs
 
--- src/pairs.rt:45:5
 add-result : tie.Need-add-result
 add-result c = search needs
 
--- src/pairs.rt:26:1
 returns-4 : tie.Need-returns-4
-returns-4 c = 
+returns-4 c =
     let s = c .before .before .before .before .before .before .before .before .before .before .before .before in
     let l = s .args .a .labels in
     let m = s .args .b .labels in

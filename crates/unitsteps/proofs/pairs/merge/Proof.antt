@@ -1,9 +1,7 @@
 -- The fields of the fused operation, one by one.
 -- Assumes nothing.
 use mathlib.Core.Path.{_≡_, refl, sym, ap, _∙_}
-use Prim.Native.Nat.{ℕ, _+_, _<_, _≤_}
-use mathlib.Core.List.{List, _++_}
-use Rattle.graph.specs.declared.affine.Affine.{Affine}
+use mathlib.Core.List.{_++_}
 use Rattle.graph.specs.declared.act.Act.the-variants.{Map}
 use Rattle.graph.specs.Acts.{affineOf}
 use Rattle.graph.specs.Affine.{composed}
@@ -11,37 +9,26 @@ use Rattle.graph.specs.OneAtATime.{opOf}
 use Rattle.graph.specs.Packed.{listed}
 use Rattle.valid.specs.Values.{labelsOf, packedLabels}
 use Rattle.unitsteps.proofs.LabelLaws.{listed-labels}
-use native.Mathlib.Omega.{arith}
 use borrow.Author.Needs.{needs}
 use Rattle.unitsteps.proofs.pairs.merge.Statement.{statement}
 use Rattle.unitsteps.proofs.pairs.merge.Tie as tie
-use Rattle.unitsteps.proofs.pairs.merge.Reads as reads
-use Rattle.unitsteps.proofs.pairs.merge.Lts as lts
-use Rattle.graph.proofs.act.affine_of.Reads as affine-of-reads
-use Rattle.graph.proofs.affine.Affine.compose.Reads as compose-reads
-use Rattle.unitsteps.proofs.pairs.appended.Reads as appended-reads
 
--- src/pairs.rt:78:9
 affine-of-requires : tie.Need-affine-of-requires
 affine-of-requires c κs = search needs
 
--- src/pairs.rt:79:9
 affine-of-requires-2 : tie.Need-affine-of-requires-2
 affine-of-requires-2 c κs = search needs
 
--- src/pairs.rt:80:9
 compose-requires : tie.Need-compose-requires
 compose-requires c κs = search needs
 
--- src/pairs.rt:81:9
 appended-requires : tie.Need-appended-requires
-appended-requires c κs = 
+appended-requires c κs =
     let s = c .before .before .before .before .before .before in
     (s .pre .0 .names, s .pre .1 .names, s .pre .2)
 
--- src/pairs.rt:69:1
 returns : tie.Need-returns
-returns c = 
+returns c =
     let s = c .before .before .before .before .before .before .before in
     let a = s .args .a in
     let b = s .args .b in

@@ -12,29 +12,21 @@ use native.Mathlib.Omega.{arith}
 use borrow.Author.Needs.{needs}
 use Rattle.unitsteps.proofs.units.is_at.Statement.{statement}
 use Rattle.unitsteps.proofs.units.is_at.Tie as tie
-use Rattle.unitsteps.proofs.units.is_at.Reads as reads
-use Rattle.unitsteps.proofs.units.is_at.Lts as lts
-use Rattle.state.proofs.ops.place_at.Reads as place-at-reads
-use Rattle.state.proofs.ops.total.Reads as total-reads
 
--- src/units.rt:34:8
 total-requires : tie.Need-total-requires
 total-requires c κs = search needs
 
--- src/units.rt:35:9
 returns : tie.Need-returns
-returns c = 
+returns c =
     let a = c .before .before .before .args in
     let h : length (held (a .image .now) .queue) ≤ a .p = omega (arith, c .before .total .ensures .is) in
     sym (here-past (atPlace (a .k)) (held (a .image .now) .queue) (a .p) h)
 
--- src/units.rt:37:5
 place-at-requires : tie.Need-place-at-requires
 place-at-requires c κs = search needs
 
--- src/units.rt:30:1
 returns-2 : tie.Need-returns-2
-returns-2 c = 
+returns-2 c =
     let a = c .before .before .before .before .args in
     let h : a .p < length (held (a .image .now) .queue) = omega (arith, c .before .before .total .ensures .is) in
     ap (λ (n : ℕ). eqb n (a .k)) (c .place-at .ensures) ∙ sym (here-at (atPlace (a .k)) (held (a .image .now) .queue) (a .p) noOp h)

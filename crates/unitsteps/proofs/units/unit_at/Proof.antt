@@ -2,68 +2,51 @@
 -- Assumes nothing.
 use mathlib.Core.Path.{_≡_, sym, ap, _∙_}
 use Prim.Native.Nat.{ℕ}
-use mathlib.Core.Bool.{true, false, cond}
-use Rattle.graph.specs.Refusals.{Answer, refused, done}
-use Rattle.queue.specs.Flat.{isAt, endOf}
+use mathlib.Core.Bool.{true, false}
+use Rattle.graph.specs.Refusals.{done}
+use Rattle.queue.specs.Flat.{isAt}
 use Rattle.worksteps.specs.FlatSteps.{known}
 use borrow.Author.Tests.{not-true, not-false}
 use Rattle.state.specs.State.{held}
-use Rattle.unitsteps.specs.Numbered.{Span, spanAt, spotted}
+use Rattle.unitsteps.specs.Numbered.{spanAt, spotted}
 use Rattle.unitsteps.proofs.Located.{at-within}
-use native.Mathlib.Omega.{arith}
 use borrow.Author.Needs.{needs}
 use Rattle.unitsteps.proofs.units.unit_at.Statement.{statement}
 use Rattle.unitsteps.proofs.units.unit_at.Tie as tie
-use Rattle.unitsteps.proofs.units.unit_at.Reads as reads
-use Rattle.unitsteps.proofs.units.unit_at.Lts as lts
-use Rattle.state.proofs.ops.unit_end.Reads as unit-end-reads
-use Rattle.unitsteps.proofs.units.is_at.Reads as is-at-reads
-use Rattle.unitsteps.proofs.units.is_known.Reads as is-known-reads
-use Rattle.unitsteps.proofs.units.refuse.Reads as refuse-reads
-use Rattle.unitsteps.proofs.units.unit_start.Reads as unit-start-reads
 
--- src/units.rt:76:9
 is-known-requires : tie.Need-is-known-requires
 is-known-requires c κs = search needs
 
--- src/units.rt:77:9
 refuse-requires : tie.Need-refuse-requires
 refuse-requires c κs = search needs
 
--- src/units.rt:77:9
 returns : tie.Need-returns
 returns c = rw (sym (c .before .before .is-known .ensures) ∙ not-true _ (c .before .if1 .taken)) (sym (ap spotted (c .refuse .ensures)))
 
--- src/units.rt:79:9
 unit-start-requires : tie.Need-unit-start-requires
 unit-start-requires c κs = search needs
 
--- src/units.rt:80:9
 is-at-requires : tie.Need-is-at-requires
 is-at-requires c κs = search needs
 
--- src/units.rt:81:9
 refuse-requires-2 : tie.Need-refuse-requires-2
 refuse-requires-2 c κs = search needs
 
--- src/units.rt:81:9
 returns-2 : tie.Need-returns-2
-returns-2 c = 
+returns-2 c =
     let a = c .before .before .before .before .before .before .before .args in
     let p = c .before .before .before .unit-start in
     let t : isAt (a .k) (p .result) (held (a .image .now) .queue) ≡ false = sym (c .before .before .is-at .ensures) ∙ not-true _ (c .before .if2 .taken) in
     rw (sym (c .before .before .before .before .before .is-known .ensures) ∙ not-false _ (c .before .before .before .before .if1 .left))
     (ap (λ (n : ℕ). spanAt (a .k) n (held (a .image .now) .queue)) (sym (p .ensures .is)) ∙ rw t (sym (ap spotted (c .refuse2 .ensures))))
 
--- src/units.rt:86:14
 unit-end-requires : tie.Need-unit-end-requires
-unit-end-requires c κs = 
+unit-end-requires c κs =
     let s = c .before .before .before .before .before .before in
     (s .pre, at-within (s .args .k) (held (s .args .image .now) .queue) (c .before .before .unit-start .result) (sym (c .before .is-at .ensures) ∙ not-false _ (c .if2 .left)))
 
--- src/units.rt:72:1
 returns-3 : tie.Need-returns-3
-returns-3 c = 
+returns-3 c =
     let a = c .before .before .before .before .before .before .before .args in
     let p = c .before .before .before .unit-start in
     let t : isAt (a .k) (p .result) (held (a .image .now) .queue) ≡ true = sym (c .before .before .is-at .ensures) ∙ not-false _ (c .before .if2 .left) in

@@ -14,49 +14,37 @@ use borrow.Author.Needs.{needs}
 use native.Mathlib.Omega.{arith}
 use Rattle.unitsteps.proofs.units.unit_start.Statement.{statement}
 use Rattle.unitsteps.proofs.units.unit_start.Tie as tie
-use Rattle.unitsteps.proofs.units.unit_start.Reads as reads
-use Rattle.unitsteps.proofs.units.unit_start.Lts as lts
-use Rattle.state.proofs.ops.first_at.Reads as first-at-reads
-use Rattle.state.proofs.ops.total.Reads as total-reads
-use Rattle.state.proofs.ops.unit_end.Reads as unit-end-reads
-use Rattle.unitsteps.proofs.units.is_at.Reads as is-at-reads
 
 abbrev Inv-loop : tie.InvT-loop
 Inv-loop image k unit n p₀ i₀ p i = (1 ≤ i) × (p ≤ length (held image .queue)) × (unitStart k i p (held image .queue) ≡ unitStart k unit (find (atPlace k) (held image .queue)) (held image .queue))
 
 abbrev μ-loop : tie.MeasureT-loop
-μ-loop image k unit n p₀ i₀ p i = i
+μ-loop image k unit n p₀ i₀ p i = length (held image .queue) - p
 
--- src/units.rt:45:9
 total-requires : tie.Need-total-requires Inv-loop μ-loop
 total-requires c κs = search needs
 
--- src/units.rt:47:9
 returns : tie.Need-returns Inv-loop μ-loop
-returns c = 
+returns c =
     let a = c .before .before .before .args in
     let q = held (a .image .now) .queue in
     let n = c .before .total .ensures in
     record { is = n .is ∙ ap (λ (u : ℕ). unitStart (a .k) u (find (atPlace (a .k)) q) q) (sym (c .if1 .taken)); within = omega (arith, n .is) }
 
--- src/units.rt:49:9
 first-at-requires : tie.Need-first-at-requires Inv-loop μ-loop
 first-at-requires c κs = search needs
 
--- src/units.rt:51:5
 loop-holds : tie.Need-loop-holds Inv-loop μ-loop
-loop-holds c = 
+loop-holds c =
     let a = c .before .before .before .before .args in
     let q = held (a .image .now) .queue in
     (omega arith, omega (arith, c .first-at .ensures, find-within (atPlace (a .k)) q), ap (λ (p : ℕ). unitStart (a .k) (a .unit) p q) (c .first-at .ensures))
 
--- src/units.rt:52:13
 is-at-requires : tie.Need-is-at-requires Inv-loop μ-loop
 is-at-requires c κs = search needs
 
--- src/units.rt:53:13
 returns-2 : tie.Need-returns-2 Inv-loop μ-loop
-returns-2 c = 
+returns-2 c =
     let l = c .before .before .before in
     let a = l .before .before .before .before .before .args in
     let q = held (a .image .now) .queue in
@@ -65,24 +53,24 @@ returns-2 c =
     let h : 1 < l .loop .i = omega arith in
     record { is = n .is ∙ sym (unit-none (a .k) q (l .loop .i) (l .loop .p) h t) ∙ l .loop .inv .2; within = omega (arith, n .is) }
 
--- src/units.rt:55:9
 unit-end-requires : tie.Need-unit-end-requires Inv-loop μ-loop
-unit-end-requires c κs = 
+unit-end-requires c κs =
     let l = c .before .before .before in
     let s = l .before .before .before .before .before in
     (s .pre, at-within (s .args .k) (held (s .args .image .now) .queue) (l .loop .p) (sym (c .before .is-at .ensures) ∙ not-false _ (c .if2 .left)))
 
--- src/units.rt:56:9
 sub-i : tie.Need-sub-i Inv-loop μ-loop
 sub-i c = search needs
 
--- src/units.rt:51:5
 loop-less : tie.Need-loop-less Inv-loop μ-loop
-loop-less c = search needs
+loop-less c =
+    let l = c .before .before .before .before in
+    let a = l .before .before .before .before .before .args in
+    let t : isAt (a .k) (l .loop .p) (held (a .image .now) .queue) ≡ true = sym (c .before .before .is-at .ensures) ∙ not-false _ (c .before .if2 .left) in
+    omega (arith, c .unit-end .ensures .is, at-within (a .k) (held (a .image .now) .queue) (l .loop .p) t)
 
--- src/units.rt:51:5
 loop-again : tie.Need-loop-again Inv-loop μ-loop
-loop-again c = 
+loop-again c =
     let l = c .before .before .before .before in
     let a = l .before .before .before .before .before .args in
     let q = held (a .image .now) .queue in
@@ -92,9 +80,8 @@ loop-again c =
     let m : 1 ≤ l .loop .i - 1 = omega arith in
     (m, c .unit-end .ensures .within, ap (λ (p : ℕ). unitStart (a .k) (l .loop .i - 1) p q) (c .unit-end .ensures .is) ∙ sym (unit-next (a .k) q (l .loop .i - 1) (l .loop .i) (l .loop .p) one m t) ∙ l .loop .inv .2)
 
--- src/units.rt:41:1
 returns-3 : tie.Need-returns-3 Inv-loop μ-loop
-returns-3 c = 
+returns-3 c =
     let l = c .before in
     let a = l .before .before .before .before .before .args in
     let q = held (a .image .now) .queue in
