@@ -1,0 +1,374 @@
+// The facts of refusal 2, each broken alone in an image that passes, and sessions with no history that must pass. Each line that is
+// written has a case's number and what the image is answered with.
+use valid::session::image_valid;
+use valid::session::open;
+ghost use mathlib.Core.Path.{_≡_};
+ghost use lib.ListN.{length};
+
+// Up to three bytes of the session below, each with its place and its new value. Cases 1 to 56 are refused, the others pass.
+const CASES: [[u16; 6]; 65] = [
+    // 1 version 2
+    [0, 2, 0, 2, 0, 2],
+    // 2 a byte of the head that is not used
+    [15, 1, 15, 1, 15, 1],
+    // 3 65 nodes
+    [1, 65, 1, 65, 1, 65],
+    // 4 65 operations
+    [2, 65, 2, 65, 2, 65],
+    // 5 65 results
+    [3, 65, 3, 65, 3, 65],
+    // 6 node keys out of order
+    [20, 2, 36, 1, 36, 1],
+    // 7 a node key twice
+    [36, 1, 36, 1, 36, 1],
+    // 8 a link to 65
+    [22, 65, 22, 65, 22, 65],
+    // 9 a link to 0
+    [22, 0, 22, 0, 22, 0],
+    // 10 nine links
+    [21, 9, 21, 9, 21, 9],
+    // 11 a link place that is not used
+    [24, 1, 24, 1, 24, 1],
+    // 12 a node's last byte
+    [31, 1, 31, 1, 31, 1],
+    // 13 a node record that is not used
+    [48, 1, 48, 1, 48, 1],
+    // 14 a station above the node count
+    [1104, 3, 1104, 3, 1104, 3],
+    // 15 station 0
+    [1040, 0, 1040, 0, 1040, 0],
+    // 16 station 66
+    [1136, 66, 1136, 66, 1136, 66],
+    // 17 stations that fall
+    [1040, 2, 1040, 2, 1040, 2],
+    // 18 a first operation that opens no unit
+    [1041, 0, 1041, 0, 1041, 0],
+    // 19 a station's first operation that opens no unit
+    [1105, 0, 1105, 0, 1105, 0],
+    // 20 a waiting call that opens no unit
+    [1137, 0, 1137, 0, 1137, 0],
+    // 21 opens 2
+    [1073, 2, 1073, 2, 1073, 2],
+    // 22 an add at a station
+    [1074, 0, 1084, 0, 1085, 0],
+    // 23 kind 8
+    [1074, 8, 1074, 8, 1074, 8],
+    // 24 operand key 65
+    [1107, 65, 1107, 65, 1107, 65],
+    // 25 near with no key
+    [1107, 0, 1107, 0, 1107, 0],
+    // 26 a sum with an operand key
+    [1075, 1, 1075, 1, 1075, 1],
+    // 27 a sum with an a
+    [1076, 1, 1076, 1, 1076, 1],
+    // 28 an add with an a
+    [1140, 1, 1140, 1, 1140, 1],
+    // 29 an unlink that holds 1
+    [1106, 3, 1106, 3, 1106, 3],
+    // 30 targets that do not rise
+    [1053, 2, 1053, 2, 1053, 2],
+    // 31 targets that fall
+    [1053, 3, 1053, 3, 1053, 3],
+    // 32 target 65
+    [1054, 65, 1054, 65, 1054, 65],
+    // 33 target 0
+    [1053, 0, 1053, 0, 1053, 0],
+    // 34 nine targets
+    [1052, 9, 1052, 9, 1052, 9],
+    // 35 a target place that is not used
+    [1055, 3, 1055, 3, 1055, 3],
+    // 36 an add with a target
+    [1148, 1, 1149, 1, 1149, 1],
+    // 37 an operation's last byte
+    [1071, 1, 1071, 1, 1071, 1],
+    // 38 an operation record that is not used
+    [1168, 1, 1168, 1, 1168, 1],
+    // 39 no label
+    [1093, 0, 1094, 0, 1094, 0],
+    // 40 a sum with two labels
+    [1093, 2, 1096, 9, 1096, 9],
+    // 41 an add with two labels
+    [1157, 2, 1160, 9, 1160, 9],
+    // 42 five labels
+    [1061, 5, 1061, 5, 1061, 5],
+    // 43 a label place that is not used
+    [1066, 4, 1066, 4, 1066, 4],
+    // 44 label 0
+    [1094, 0, 1094, 0, 1094, 0],
+    // 45 a label above the last given
+    [4, 7, 4, 7, 4, 7],
+    // 46 a label in two operations
+    [1094, 3, 1094, 3, 1094, 3],
+    // 47 a label twice in one operation
+    [1064, 3, 1064, 3, 1064, 3],
+    // 48 a label in an operation and a result
+    [3088, 2, 3088, 2, 3088, 2],
+    // 49 results out of label order
+    [3088, 7, 3104, 1, 3104, 1],
+    // 50 two results of one label
+    [3104, 1, 3104, 1, 3104, 1],
+    // 51 a result of label 0
+    [3088, 0, 3088, 0, 3088, 0],
+    // 52 a left key 65
+    [3111, 65, 3111, 65, 3111, 65],
+    // 53 left keys that do not rise
+    [3110, 2, 3112, 9, 3112, 9],
+    // 54 a left place that is not used
+    [3112, 1, 3112, 1, 3112, 1],
+    // 55 a result's last byte
+    [3103, 1, 3103, 1, 3103, 1],
+    // 56 a result record that is not used
+    [3120, 1, 3120, 1, 3120, 1],
+    // 57 the session
+    [16, 7, 16, 7, 16, 7],
+    // 58 a target that was passed already
+    [1085, 1, 1085, 1, 1085, 1],
+    // 59 a top stream in any label order
+    [1136, 65, 1158, 4, 1158, 4],
+    // 60 a map that waits with two labels
+    [1158, 9, 1158, 9, 1158, 9],
+    // 61 a value held at a start
+    [1080, 255, 1080, 255, 1080, 255],
+    // 62 a linked key that no node has
+    [22, 64, 23, 64, 23, 64],
+    // 63 a last label far above
+    [5, 255, 5, 255, 5, 255],
+    // 64 two units at one station
+    [1073, 1, 1073, 1, 1073, 1],
+    // 65 a map with b alone
+    [1044, 0, 1048, 255, 1048, 255],
+];
+
+fn blank() -> [u8; 4112]
+    ensures { λ r. ⌜ 4112 ≡ length r ⌝ }
+{
+    [0; 4112]
+}
+
+fn put(image: &mut [u8], at: usize, value: u8) {
+    if at < image.len() {
+        image[at] = value;
+    }
+}
+
+// Nodes 1 and 2; at station 1 a unit of a map with two labels and a sum, at station 2 a near; an add waits; two results.
+fn session(image: &mut [u8]) {
+    open(image);
+    head(image);
+    nodes(image);
+    queue(image);
+    results(image);
+}
+
+fn head(image: &mut [u8]) {
+    put(image, 1, 2);
+    put(image, 2, 4);
+    put(image, 3, 2);
+    put(image, 4, 9);
+}
+
+fn queue(image: &mut [u8]) {
+    map(image);
+    map_lists(image);
+    sum(image);
+    near(image);
+    add(image);
+}
+
+// Node 1: value 7, links 2, 2. Node 2: value 5.
+fn nodes(image: &mut [u8]) {
+    put(image, 16, 7);
+    put(image, 20, 1);
+    put(image, 21, 2);
+    put(image, 22, 2);
+    put(image, 23, 2);
+    put(image, 32, 5);
+    put(image, 36, 2);
+}
+
+// Map 3, 4 to 1, 2, labels 3 and 2.
+fn map(image: &mut [u8]) {
+    put(image, 1040, 1);
+    put(image, 1041, 1);
+    put(image, 1042, 1);
+    put(image, 1044, 3);
+    put(image, 1048, 4);
+}
+
+fn map_lists(image: &mut [u8]) {
+    put(image, 1052, 2);
+    put(image, 1053, 1);
+    put(image, 1054, 2);
+    put(image, 1061, 2);
+    put(image, 1062, 3);
+    put(image, 1064, 2);
+}
+
+// A sum that holds 10, to 9, label 5.
+fn sum(image: &mut [u8]) {
+    put(image, 1072, 1);
+    put(image, 1074, 4);
+    put(image, 1080, 10);
+    put(image, 1084, 1);
+    put(image, 1085, 9);
+    put(image, 1093, 1);
+    put(image, 1094, 5);
+}
+
+// Near key 2 that holds 1, label 6.
+fn near(image: &mut [u8]) {
+    put(image, 1104, 2);
+    put(image, 1105, 1);
+    put(image, 1106, 7);
+    put(image, 1107, 2);
+    put(image, 1112, 1);
+    put(image, 1125, 1);
+    put(image, 1126, 6);
+}
+
+// An add of 7 in the top stream, label 8.
+fn add(image: &mut [u8]) {
+    put(image, 1136, 65);
+    put(image, 1137, 1);
+    put(image, 1144, 7);
+    put(image, 1157, 1);
+    put(image, 1158, 8);
+}
+
+// Label 1 gave 1; label 7 gave 54 and left 9.
+fn results(image: &mut [u8]) {
+    put(image, 3088, 1);
+    put(image, 3090, 1);
+    put(image, 3104, 7);
+    put(image, 3106, 54);
+    put(image, 3110, 1);
+    put(image, 3111, 9);
+}
+
+// A map that waits, with four labels.
+fn wait(image: &mut [u8], at: usize) {
+    if at < 4000 {
+        put(image, at, 65);
+        put(image, at + 1, 1);
+        put(image, at + 2, 1);
+        put(image, at + 21, 4);
+    }
+}
+
+fn labels(image: &mut [u8], at: usize, label: u8) {
+    if at < 4000 {
+        if label < 250 {
+            put(image, at + 22, label);
+            put(image, at + 24, label + 1);
+            put(image, at + 26, label + 2);
+            put(image, at + 28, label + 3);
+        }
+    }
+}
+
+// Maps with four labels each: 16 hold 64 labels.
+fn maps(image: &mut [u8], n: usize) {
+    let mut i: usize = 0;
+    while i < n {
+        let k = i % 60;
+        wait(image, 1040 + 32 * k);
+        labels(image, 1040 + 32 * k, (4 * k + 1) as u8);
+        i += 1;
+    }
+}
+
+fn keys(image: &mut [u8], n: usize) {
+    let mut i: usize = 0;
+    while i < n {
+        let k = i % 64;
+        put(image, 20 + 16 * k, (k + 1) as u8);
+        i += 1;
+    }
+}
+
+fn lone_add(image: &mut [u8]) {
+    put(image, 1040, 65);
+    put(image, 1041, 1);
+    put(image, 1061, 1);
+    put(image, 1062, 1);
+}
+
+fn tell(n: usize, image: &[u8]) {
+    let digits = [48 + (n / 10 % 10) as u8, 48 + (n % 10) as u8];
+    io::write_all(1, &digits);
+    if image_valid(image) {
+        io::write_all(1, b" passes\n");
+    } else {
+        io::write_all(1, b" 2\n");
+    }
+}
+
+fn byte(v: u16) -> u8 {
+    (v % 256) as u8
+}
+
+fn place(v: u16) -> usize {
+    v as usize
+}
+
+fn case(n: usize, row: [u16; 6]) {
+    let mut image = blank();
+    session(&mut image);
+    put(&mut image, place(row[0]), byte(row[1]));
+    put(&mut image, place(row[2]), byte(row[3]));
+    put(&mut image, place(row[4]), byte(row[5]));
+    tell(n, &image);
+}
+
+fn cases() {
+    let mut i: usize = 0;
+    while i < 65 {
+        let row = CASES[i];
+        case(i + 1, row);
+        i += 1;
+    }
+}
+
+// Maps that wait, with four labels each.
+fn crowd(n: usize, four: u8) {
+    let mut image = blank();
+    open(&mut image);
+    put(&mut image, 2, four);
+    put(&mut image, 4, 255);
+    maps(&mut image, four as usize);
+    tell(n, &image);
+}
+
+// Nodes alone, no label given yet.
+fn crowd_of_nodes(n: usize, nodes: u8) {
+    let mut image = blank();
+    open(&mut image);
+    put(&mut image, 1, nodes);
+    keys(&mut image, nodes as usize);
+    tell(n, &image);
+}
+
+// Nodes, and an add that waits.
+fn nodes_and_add(n: usize, nodes: u8) {
+    let mut image = blank();
+    open(&mut image);
+    put(&mut image, 1, nodes);
+    put(&mut image, 2, 1);
+    put(&mut image, 4, 1);
+    keys(&mut image, nodes as usize);
+    lone_add(&mut image);
+    tell(n, &image);
+}
+
+fn main() {
+    cases();
+    // 68 and 64 live labels
+    crowd(66, 17);
+    crowd(67, 16);
+    // the opened image
+    crowd(68, 0);
+    // 65 and 64 nodes and waiting adds
+    nodes_and_add(69, 64);
+    nodes_and_add(70, 63);
+    crowd_of_nodes(71, 64);
+}
