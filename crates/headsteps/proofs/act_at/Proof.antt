@@ -40,8 +40,9 @@ acted-requires c κs = c .before .before .before .before .before .before .before
 
 put-operation-requires : tie.Need-put-operation-requires
 put-operation-requires c κs =
+    let a = c .before .before .before .before .before .before .before .before .before .before .before .before .before .before in
     let put = c .before .before .before .before .put-body .ensures in
-    (put .proper, still-queued (held (c .before .before .before .before .before .before .before .before .before .before .before .before .before .before .args .image .now)) _ _ (c .before .before .before .before .before .before .before .before .before .before .before .before .before .before .args .p) put (c .before .before .before .before .before .before .before .before .before .before .before .before .before .before .pre .2), c .before .acted .ensures .normal)
+    (put .proper, still-queued (held (a .args .image .now)) _ _ (a .args .p) put (a .pre .2), c .before .acted .ensures .normal)
 
 same-length : tie.Need-same-length
 same-length c = c .before .before .put-operation .ensures .proper .sound .size ∙ sym (c .before .before .before .before .before .before .before .before .before .before .before .before .before .before .before .before .before .pre .0 .sound .size)

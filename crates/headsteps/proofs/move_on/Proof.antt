@@ -22,7 +22,11 @@ same-length-2 : tie.Need-same-length-2
 same-length-2 c = search needs
 
 returns-2 : tie.Need-returns-2
-returns-2 c = works-refused 22 (move-last (c .before .before .before .before .before .before .args .image .now) (c .before .before .before .before .before .before .args .k) (c .before .before .before .head-unit .result .start) (c .before .before .before .head-unit .result .end) (c .before .before .before .head-unit .ensures .some (c .before .if1 .left)) (c .if2 .taken)) refl
+returns-2 c =
+    let a = c .before .before .before .before .before .before in
+    let u = c .before .before .before .head-unit in
+    let at = u .ensures .some (c .before .if1 .left) in
+    works-refused 22 (move-last (a .args .image .now) (a .args .k) (u .result .start) (u .result .end) at (c .if2 .taken)) refl
 
 first-hit-requires : tie.Need-first-hit-requires
 first-hit-requires c κs =
@@ -33,18 +37,28 @@ same-length-3 : tie.Need-same-length-3
 same-length-3 c = search needs
 
 returns-3 : tie.Need-returns-3
-returns-3 c = works-refused 22 (move-hit (c .before .before .before .before .before .before .before .before .before .before .args .image .now) (c .before .before .before .before .before .before .before .before .before .before .args .k) (c .before .before .before .before .before .before .before .head-unit .result .start) (c .before .before .before .before .before .before .before .head-unit .result .end) (c .before .before .before .before .before .before .before .head-unit .ensures .some (c .before .before .before .before .before .if1 .left)) (c .before .before .before .before .if2 .left) (omega (arith, c .if3 .taken, c .before .before .first-hit .ensures .is))) refl
+returns-3 c =
+    let a = c .before .before .before .before .before .before .before .before .before .before in
+    let u = c .before .before .before .before .before .before .before .head-unit in
+    let at = u .ensures .some (c .before .before .before .before .before .if1 .left) in
+    works-refused 22 (move-hit (a .args .image .now) (a .args .k) (u .result .start) (u .result .end) at (c .before .before .before .before .if2 .left) (omega (arith, c .if3 .taken, c .before .before .first-hit .ensures .is))) refl
 
 move-unit-requires : tie.Need-move-unit-requires
 move-unit-requires c κs =
-    let at = c .before .before .before .before .before .before .before .before .head-unit .ensures .some (c .before .before .before .before .before .before .if1 .left) in
-    (c .before .before .before .before .before .before .before .before .before .before .before .pre .proper, in-nodes (c .before .before .before .before .before .before .before .before .before .before .before .args .k) (held (c .before .before .before .before .before .before .before .before .before .before .before .args .image .now)) (at .node) .low, omega (arith, at .ends), at .fits)
+    let a = c .before .before .before .before .before .before .before .before .before .before .before in
+    let u = c .before .before .before .before .before .before .before .before .head-unit in
+    let at = u .ensures .some (c .before .before .before .before .before .before .if1 .left) in
+    (a .pre .proper, in-nodes (a .args .k) (held (a .args .image .now)) (at .node) .low, omega (arith, at .ends), at .fits)
 
 same-length-4 : tie.Need-same-length-4
 same-length-4 c = c .before .before .move-unit .ensures .proper .sound .size ∙ sym (c .before .before .before .before .before .before .before .before .before .before .before .before .before .before .pre .proper .sound .size)
 
 returns-4 : tie.Need-returns-4
-returns-4 c = works-done _ (move-free (c .before .before .before .before .before .before .before .before .before .before .before .before .before .before .args .image .now) (c .before .before .before .before .before .before .before .before .before .before .before .before .before .before .args .k) (c .before .before .before .before .before .before .before .before .before .before .before .head-unit .result .start) (c .before .before .before .before .before .before .before .before .before .before .before .head-unit .result .end) (c .before .before .before .before .before .before .before .before .before .before .before .head-unit .ensures .some (c .before .before .before .before .before .before .before .before .before .if1 .left)) (c .before .before .before .before .before .before .before .before .if2 .left) (omega (arith, c .before .before .before .before .if3 .left, c .before .before .before .before .before .before .first-hit .ensures .is))) (c .before .before .move-unit .ensures)
+returns-4 c =
+    let a = c .before .before .before .before .before .before .before .before .before .before .before .before .before .before in
+    let u = c .before .before .before .before .before .before .before .before .before .before .before .head-unit in
+    let at = u .ensures .some (c .before .before .before .before .before .before .before .before .before .if1 .left) in
+    works-done _ (move-free (a .args .image .now) (a .args .k) (u .result .start) (u .result .end) at (c .before .before .before .before .before .before .before .before .if2 .left) (omega (arith, c .before .before .before .before .if3 .left, c .before .before .before .before .before .before .first-hit .ensures .is))) (c .before .before .move-unit .ensures)
 
 pub move-on-spec : {M : Type 1} → statement M
 move-on-spec =

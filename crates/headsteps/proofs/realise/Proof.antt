@@ -29,21 +29,33 @@ same-length-2 : tie.Need-same-length-2
 same-length-2 c = search needs
 
 returns-2 : tie.Need-returns-2
-returns-2 c = works-refused 22 (realise-none (c .before .before .before .before .before .before .before .before .before .args .image .now) (c .before .before .before .before .before .before .before .before .before .args .k) (c .before .before .before .before .before .before .head-unit .result .start) (c .before .before .before .before .before .before .head-unit .result .end) (c .before .before .before .before .before .before .head-unit .ensures .some (c .before .before .before .before .if1 .left)) (omega (arith, c .if2 .taken, c .before .before .first-hit .ensures .is))) refl
+returns-2 c =
+    let a = c .before .before .before .before .before .before .before .before .before in
+    let u = c .before .before .before .before .before .before .head-unit in
+    let at = u .ensures .some (c .before .before .before .before .if1 .left) in
+    works-refused 22 (realise-none (a .args .image .now) (a .args .k) (u .result .start) (u .result .end) at (omega (arith, c .if2 .taken, c .before .before .first-hit .ensures .is))) refl
 
 act-at-requires : tie.Need-act-at-requires
 act-at-requires c κs =
-    let at = c .before .before .before .before .before .before .before .head-unit .ensures .some (c .before .before .before .before .before .if1 .left) in
-    let high : c .before .before .before .first-hit .result < c .before .before .before .before .before .before .before .head-unit .result .end = omega (arith, c .before .if2 .left, c .before .before .before .first-hit .ensures .within) in
-    let within : c .before .before .before .first-hit .result < length (held (c .before .before .before .before .before .before .before .before .before .before .args .image .now) .queue) = omega (arith, at .fits) in
-    let op = head-op (c .before .before .before .before .before .before .before .before .before .before .args .image .now) (c .before .before .before .before .before .before .before .before .before .before .args .k) (c .before .before .before .before .before .before .before .head-unit .result .start) (c .before .before .before .before .before .before .before .head-unit .result .end) (c .before .before .before .first-hit .result) (c .before .before .before .before .before .before .before .before .before .before .pre) at (omega (arith, c .before .before .before .first-hit .ensures .is)) high within in
-    (c .before .before .before .before .before .before .before .before .before .before .pre .proper, at .node, within, op)
+    let a = c .before .before .before .before .before .before .before .before .before .before in
+    let u = c .before .before .before .before .before .before .before .head-unit in
+    let at = u .ensures .some (c .before .before .before .before .before .if1 .left) in
+    let p = c .before .before .before .first-hit in
+    let high : p .result < u .result .end = omega (arith, c .before .if2 .left, p .ensures .within) in
+    let within : p .result < length (held (a .args .image .now) .queue) = omega (arith, at .fits) in
+    let op = head-op (a .args .image .now) (a .args .k) (u .result .start) (u .result .end) (p .result) (a .pre) at (omega (arith, p .ensures .is)) high within in
+    (a .pre .proper, at .node, within, op)
 
 same-length-3 : tie.Need-same-length-3
 same-length-3 c = c .before .before .act-at .ensures .proper .sound .size ∙ sym (c .before .before .before .before .before .before .before .before .before .before .before .before .before .pre .proper .sound .size)
 
 returns-3 : tie.Need-returns-3
-returns-3 c = works-done _ (realise-one (c .before .before .before .before .before .before .before .before .before .before .before .before .before .args .image .now) (c .before .before .before .before .before .before .before .before .before .before .before .before .before .args .k) (c .before .before .before .before .before .before .before .before .before .before .head-unit .result .start) (c .before .before .before .before .before .before .before .before .before .before .head-unit .result .end) (c .before .before .before .before .before .before .before .before .before .before .head-unit .ensures .some (c .before .before .before .before .before .before .before .before .if1 .left)) (c .before .before .before .before .before .before .first-hit .result) (c .before .before .before .before .before .before .first-hit .ensures .is) (omega (arith, c .before .before .before .before .if2 .left, c .before .before .before .before .before .before .first-hit .ensures .within))) (c .before .before .act-at .ensures)
+returns-3 c =
+    let a = c .before .before .before .before .before .before .before .before .before .before .before .before .before in
+    let u = c .before .before .before .before .before .before .before .before .before .before .head-unit in
+    let at = u .ensures .some (c .before .before .before .before .before .before .before .before .if1 .left) in
+    let p = c .before .before .before .before .before .before .first-hit in
+    works-done _ (realise-one (a .args .image .now) (a .args .k) (u .result .start) (u .result .end) at (p .result) (p .ensures .is) (omega (arith, c .before .before .before .before .if2 .left, p .ensures .within))) (c .before .before .act-at .ensures)
 
 pub realise-spec : {M : Type 1} → statement M
 realise-spec =

@@ -18,13 +18,15 @@ remove-requires : tie.Need-remove-requires
 remove-requires c κs =
     let a = c .before .before .before .before .before .before in
     let hand = c .before .before .before .hand-on .ensures in
-    (hand .proper, rw (ap (λ (f : Flat). length (f .queue)) (hand .shows) ∙ hand-length (a .args .p) (a .args .e) (getD (held (c .before .before .before .before .before .before .args .image .now) .queue) (c .before .before .before .before .before .before .args .p) noOp) (held (c .before .before .before .before .before .before .args .image .now) .queue)) (omega (arith, a .pre .1, a .pre .2)))
+    (hand .proper, rw (ap (λ (f : Flat). length (f .queue)) (hand .shows) ∙ hand-length (a .args .p) (a .args .e) (getD (held (a .args .image .now) .queue) (a .args .p) noOp) (held (a .args .image .now) .queue)) (omega (arith, a .pre .1, a .pre .2)))
 
 same-length : tie.Need-same-length
 same-length c = c .before .before .remove .ensures .proper .sound .size ∙ sym (c .before .before .before .before .before .before .before .before .before .pre .0 .sound .size)
 
 returns : tie.Need-returns
-returns c = taken-shown (held (c .before .before .before .before .before .before .before .before .before .args .image .now)) (c .before .before .before .before .before .before .before .before .before .args .p) (c .before .before .before .before .before .before .before .before .before .args .e) _ _ (c .before .before .before .before .before .before .hand-on .ensures) (c .before .before .remove .ensures)
+returns c =
+    let a = c .before .before .before .before .before .before .before .before .before .args in
+    taken-shown (held (a .image .now)) (a .p) (a .e) _ _ (c .before .before .before .before .before .before .hand-on .ensures) (c .before .before .remove .ensures)
 
 pub take-out-spec : {M : Type 1} → statement M
 take-out-spec = tie.close (tie.spec hand-on-requires remove-requires same-length returns)
