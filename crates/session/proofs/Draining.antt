@@ -20,7 +20,7 @@ use Rattle.worksteps.specs.FlatSteps.{any, mapFrom, firstIn, noOp, noNode, move
 use Rattle.worksteps.specs.FlatEvents.{firstPlace, FlatTaken, flatTaking, flatDrainStepAt, flatDrainStep}
 use Rattle.worksteps.proofs.Turns.{any-first, first-stop}
 
-abbrev taken : Step → Flat → FlatTaken
+abbrev pub taken : Step → Flat → FlatTaken
 taken t f = record { what = t; to = f }
 
 -- nothing waits
@@ -31,10 +31,10 @@ drain-empty f e = rw e
 pub drain-admits : (f : Flat) (x : Tagged) (xs : List Tagged) → f .queue ≡ x ∷ xs → x .place ≡ 65 → flatDrainStep f ≡ done (taken admit (admitCall 0 (x .call) f))
 drain-admits f x xs e p = rw (e, p)
 
-module _ (f : Flat) (x : Tagged) (xs : List Tagged) (stands : f .queue ≡ x ∷ xs) (station : eqb (x .place) 65 ≡ false) (node : known (x .place) f ≡ true) where
-  abbrev k : ℕ
-  k = x .place
+pub admits-first : (f : Flat) (x : Tagged) (xs : List Tagged) → f .queue ≡ x ∷ xs → x .place ≡ 65 → flatStep admit f ≡ done (admitCall 0 (x .call) f)
+admits-first f x xs e p = rw (e, p)
 
+module _ (f : Flat) (k : ℕ) (x : Tagged) (xs : List Tagged) (stands : f .queue ≡ x ∷ xs) (place : x .place ≡ k) (station : eqb k 65 ≡ false) (node : known k f ≡ true) where
   abbrev e : ℕ
   e = endOf k 0 (f .queue)
 
@@ -47,12 +47,12 @@ module _ (f : Flat) (x : Tagged) (xs : List Tagged) (stands : f .queue ≡ x ∷
   -- the head unit of that station begins the queue
   head : (g : ℕ → ℕ → Flat → Answer Flat) → headUnit k g f ≡ g 0 e f
   head g =
-      let first : find (atPlace k) (f .queue) ≡ 0 = rw (stands, eqb-same k) in
-      let at : isAt k 0 (f .queue) ≡ true = rw stands (eqb-same k) in
+      let first : find (atPlace k) (f .queue) ≡ 0 = rw (stands, place, eqb-same k) in
+      let at : isAt k 0 (f .queue) ≡ true = rw (stands, place) (eqb-same k) in
       rw (first, at)
 
   drain-is : flatDrainStep f ≡ orElse (flatTaking (realise k) f) (orElse (flatTaking (finish k) f) (flatTaking (move k) f))
-  drain-is = let q : firstPlace (f .queue) ≡ some k = rw (stands, station) in ap (λ (b : Option ℕ). flatDrainStepAt b f) q
+  drain-is = let q : firstPlace (f .queue) ≡ some k = rw (stands, place, station) in ap (λ (b : Option ℕ). flatDrainStepAt b f) q
 
   realise-is : flatStep (realise k) f ≡ realiseFrom k e p f
   realise-is = rw node (head (realiseFlat k))

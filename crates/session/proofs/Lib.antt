@@ -1,2 +1,4 @@
 pub mod Draining
 pub mod DrainTurns
+pub mod DrainSteps
+pub mod DrainLoop

@@ -1,1 +1,3 @@
-// Drain on a live image: so far the laws of its loop (proofs/).
+// Work steps of every kind on a live image, and drain.
+pub mod work;
+pub mod drain;

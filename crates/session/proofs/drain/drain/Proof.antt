@@ -1,0 +1,65 @@
+-- What is counted, with what is still to be taken, is what drain takes.
+-- Assumes nothing.
+use mathlib.Core.Path.{sym, subst}
+use Rattle.graph.specs.Drain.{weightOf}
+use Rattle.valid.specs.Values.{sessionOf}
+use Rattle.session.proofs.DrainLoop.{Loop, Goes, loop-first, loop-next, loop-done, counts-fit}
+use borrow.Author.Needs.{needs}
+use native.Mathlib.Omega.{arith}
+use Rattle.session.proofs.drain.drain.Statement.{statement}
+use Rattle.session.proofs.drain.drain.Tie as tie
+
+abbrev Inv-loop : tie.InvT-loop
+Inv-loop image₀ c₀ image c = Loop image₀ image c
+
+abbrev μ-loop : tie.MeasureT-loop
+μ-loop image₀ c₀ image c = weightOf (sessionOf image)
+
+loop-holds : tie.Need-loop-holds Inv-loop μ-loop
+loop-holds c = loop-first _ (c .before .pre)
+
+drain-one-requires : tie.Need-drain-one-requires Inv-loop μ-loop
+drain-one-requires c κs = c .before .loop .inv .live
+
+same-length : tie.Need-same-length Inv-loop μ-loop
+same-length c = search needs
+
+returns : tie.Need-returns Inv-loop μ-loop
+returns c =
+    let d = c .before .before .before in
+    let l = d .before .before in
+    loop-done (l .before .before .args .image .now) (l .loop .image) _ (l .loop .c) _ (l .loop .inv) (d .drain-one .ensures) (c .if1 .taken) (λ i. c .before .slice-known2 .given i .fits)
+
+raised-requires : tie.Need-raised-requires Inv-loop μ-loop
+raised-requires c κs =
+    let l = c .before .before .before .before .before in
+    let a = l .before .before in
+    counts-fit (a .args .image .now) (l .loop .image) (l .loop .c) (a .pre) (l .loop .inv)
+
+loop-less : tie.Need-loop-less Inv-loop μ-loop
+loop-less c =
+    let d = c .before .before .before .before in
+    let l = d .before .before in
+    let next = loop-next (l .before .before .args .image .now) (l .loop .image) (d .drain-one .last .0) (l .loop .c) (d .drain-one .result) (l .loop .inv) (d .drain-one .ensures) (c .before .if1 .left) (search needs) in
+    next .lighter
+
+loop-again : tie.Need-loop-again Inv-loop μ-loop
+loop-again c =
+    let d = c .before .before .before .before in
+    let l = d .before .before in
+    let next = loop-next (l .before .before .args .image .now) (l .loop .image) (d .drain-one .last .0) (l .loop .c) (d .drain-one .result) (l .loop .inv) (d .drain-one .ensures) (c .before .if1 .left) (search needs) in
+    subst (Loop (l .before .before .args .image .now) (d .drain-one .last .0)) (sym (c .raised .ensures)) (next .loop)
+
+pub drain-spec : {M : Type 1} → statement M
+drain-spec =
+    tie.close
+    (tie.spec
+    Inv-loop
+    μ-loop
+    loop-holds
+    drain-one-requires
+    same-length
+    returns
+    raised-requires
+    loop-less
+    loop-again)
