@@ -2,3 +2,4 @@ pub mod Draining
 pub mod DrainTurns
 pub mod DrainSteps
 pub mod DrainLoop
+pub mod Taking

@@ -1,2 +1,2 @@
 pub mod Drained
-pub mod Work
+pub mod WorkSteps

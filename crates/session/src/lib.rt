@@ -1,3 +1,3 @@
 // Work steps of every kind on a live image, and drain.
-pub mod work;
+pub mod steps;
 pub mod drain;

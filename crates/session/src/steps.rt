@@ -10,10 +10,10 @@ use unitsteps::swap;
 ghost use Rattle.graph.specs.Steps.{step};
 ghost use Rattle.valid.specs.Values.{sessionOf};
 ghost use Rattle.live.specs.Live.{Live, Serves};
-ghost use Rattle.session.specs.Work.{stepOf};
+ghost use Rattle.session.specs.WorkSteps.{stepOf};
 
 // A step's kind, and the station, unit and place in the unit that it names.
-pub enum Work {
+pub enum WorkStep {
     Admit,
     Realise(u8),
     Move(u8),
@@ -25,18 +25,18 @@ pub enum Work {
 }
 
 // Takes the step where it is allowed, and gives 0; or refuses it by number.
-pub fn work(image: &mut [u8], w: Work) -> u32
+pub fn take(image: &mut [u8], w: WorkStep) -> u32
     requires { ⌜ Live (now image) ⌝ }
     ensures { λ r. ⌜ (Serves (step (stepOf w) (sessionOf (now (image .entry)))) (now (image .entry)) (now (image .exit)) r) × (Live (now (image .exit))) ⌝ }
 {
     match w {
-        Work::Admit => admit(image),
-        Work::Realise(k) => realise(image, k),
-        Work::Move(k) => move_on(image, k),
-        Work::Finish(k) => finish(image, k),
-        Work::Join(k, unit) => join(image, k, unit),
-        Work::Split(k, unit, after) => split(image, k, unit, after),
-        Work::Swap(k, unit) => swap(image, k, unit),
-        Work::Fuse(k, unit) => fuse(image, k, unit),
+        WorkStep::Admit => admit(image),
+        WorkStep::Realise(k) => realise(image, k),
+        WorkStep::Move(k) => move_on(image, k),
+        WorkStep::Finish(k) => finish(image, k),
+        WorkStep::Join(k, unit) => join(image, k, unit),
+        WorkStep::Split(k, unit, after) => split(image, k, unit, after),
+        WorkStep::Swap(k, unit) => swap(image, k, unit),
+        WorkStep::Fuse(k, unit) => fuse(image, k, unit),
     }
 }

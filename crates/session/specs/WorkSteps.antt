@@ -1,9 +1,10 @@
 -- The step that a value of the enum names.
 -- Assumes nothing.
 use Rattle.graph.specs.Steps.{Step, admit, realise, move, finish, join, split, swap, fuse}
-use Rattle.session.specs.declared.work.Work.{Work, Admit, Realise, Move, Finish, Join, Split, Swap, Fuse}
+use Rattle.session.specs.declared.steps.WorkStep.{WorkStep}
+use Rattle.session.specs.declared.steps.WorkStep.the-variants.{Admit, Realise, Move, Finish, Join, Split, Swap, Fuse}
 
-abbrev pub stepOf : Work → Step
+abbrev pub stepOf : WorkStep → Step
 stepOf Admit = admit
 stepOf (Realise k) = realise k
 stepOf (Move k) = move k
