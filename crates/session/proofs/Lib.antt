@@ -3,3 +3,4 @@ pub mod DrainTurns
 pub mod DrainSteps
 pub mod DrainLoop
 pub mod Taking
+pub mod Claiming

@@ -1,3 +1,4 @@
-// Work steps of every kind on a live image, and drain.
+// Work steps of every kind, drain and claims on a live image.
 pub mod steps;
 pub mod drain;
+pub mod claims;
