@@ -122,7 +122,7 @@ takes-admit image h e = drain-admits (held image) (getD (held image .queue) 0 no
 pub admit-shows : (image : List ℕ) → 0 < length (held image .queue) → (getD (held image .queue) 0 noOp) .place ≡ 65 → {after : List ℕ} {r : ℕ} → Works (flatStep admit (held image)) image after r → Shows (admitCall 0 ((getD (held image .queue) 0 noOp) .call) (held image)) after
 admit-shows image h e {after} {r} w =
     let did : flatStep admit (held image) ≡ done (admitCall 0 ((getD (held image .queue) 0 noOp) .call) (held image)) =
-        admits-first (held image) (getD (held image .queue) 0 noOp) (drop 1 (held image .queue)) (drop-cons (held image .queue) 0 noOp h) e in
+    admits-first (held image) (getD (held image .queue) 0 noOp) (drop 1 (held image .queue)) (drop-cons (held image .queue) 0 noOp h) e in
     subst (λ (y : Answer Flat). Leaves y image after) did (w .leaves)
 
 pub none-waits : (image : List ℕ) → length (held image .queue) ≡ 0 → flatDrainStep (held image) ≡ refused 21

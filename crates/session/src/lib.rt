@@ -1,4 +1,4 @@
 // Work steps of every kind, drain and claims on a live image.
-pub mod steps;
-pub mod drain;
 pub mod claims;
+pub mod drain;
+pub mod steps;
