@@ -1,5 +1,7 @@
 // The facts of refusal 2, each broken alone in an image that passes, and sessions with no history that must pass. Each line that is
 // written has a case's number and what the image is answered with.
+use text::number::decimal_len;
+use text::number::put_decimal;
 use valid::session::image_valid;
 use valid::session::open;
 ghost use mathlib.Core.Path.{_≡_};
@@ -293,9 +295,17 @@ fn lone_add(image: &mut [u8]) {
     put(image, 1062, 1);
 }
 
-fn tell(n: usize, image: &[u8]) {
-    let digits = [48 + (n / 10 % 10) as u8, 48 + (n % 10) as u8];
-    io::write_all(1, &digits);
+fn send(out: &[u8], n: usize) {
+    if n <= out.len() {
+        io::write_all(1, &out[..n]);
+    }
+}
+
+fn tell(n: u32, image: &[u8]) {
+    let digits = decimal_len(n);
+    let mut out = [0u8; 10];
+    put_decimal(&mut out, 0, n);
+    send(&out, digits);
     if image_valid(image) {
         io::write_all(1, b" passes\n");
     } else {
@@ -311,7 +321,7 @@ fn place(v: u16) -> usize {
     v as usize
 }
 
-fn case(n: usize, row: [u16; 6]) {
+fn case(n: u32, row: [u16; 6]) {
     let mut image = blank();
     session(&mut image);
     put(&mut image, place(row[0]), byte(row[1]));
@@ -324,13 +334,13 @@ fn cases() {
     let mut i: usize = 0;
     while i < 65 {
         let row = CASES[i];
-        case(i + 1, row);
+        case(i as u32 + 1, row);
         i += 1;
     }
 }
 
 // Maps that wait, with four labels each.
-fn crowd(n: usize, four: u8) {
+fn crowd(n: u32, four: u8) {
     let mut image = blank();
     open(&mut image);
     put(&mut image, 2, four);
@@ -340,7 +350,7 @@ fn crowd(n: usize, four: u8) {
 }
 
 // Nodes alone, no label given yet.
-fn crowd_of_nodes(n: usize, nodes: u8) {
+fn crowd_of_nodes(n: u32, nodes: u8) {
     let mut image = blank();
     open(&mut image);
     put(&mut image, 1, nodes);
@@ -349,7 +359,7 @@ fn crowd_of_nodes(n: usize, nodes: u8) {
 }
 
 // Nodes, and an add that waits.
-fn nodes_and_add(n: usize, nodes: u8) {
+fn nodes_and_add(n: u32, nodes: u8) {
     let mut image = blank();
     open(&mut image);
     put(&mut image, 1, nodes);

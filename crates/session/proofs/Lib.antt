@@ -4,3 +4,4 @@ pub mod DrainSteps
 pub mod DrainLoop
 pub mod Taking
 pub mod Claiming
+pub mod Accepting

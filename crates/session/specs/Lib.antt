@@ -1,3 +1,4 @@
 pub mod Drained
 pub mod WorkSteps
 pub mod Claims
+pub mod Accepts

@@ -12,12 +12,11 @@ use Rattle.graph.specs.Refusals.{Answer, refused, done, mapDone}
 use Rattle.graph.proofs.Answers.{Holds, refuses, holds, holds-cond, holds-at}
 use Rattle.queue.specs.Flat.{Tagged, Flat, find, breaks, atPlace, isAt, endOf}
 use Rattle.queue.proofs.Places.{by-bool}
-use Rattle.worksteps.specs.FlatSteps.{noOp, unitFrom, withNext, neighbours, onQueue, atKey, withQueue, known}
-use Rattle.worksteps.proofs.Facts.{here-past, onUnit, unit-start}
-use Rattle.worksteps.proofs.Facts.{unitStart as unitStartOf}
+use Rattle.worksteps.specs.FlatSteps.{noOp, unitStart, unitFrom, withNext, neighbours, onQueue, atKey, withQueue, known}
+use Rattle.worksteps.proofs.Facts.{here-past}
 use Rattle.state.proofs.ResultLaws.{find-within}
 use Rattle.unitsteps.specs.declared.units.Spot.{Spot}
-use Rattle.unitsteps.specs.Numbered.{unitStart, andThen, Span, locate, alone, locateTwo, spotted}
+use Rattle.unitsteps.specs.Numbered.{andThen, Span, locate, alone, locateTwo, spotted}
 
 -- WHERE A UNIT STARTS: one turn of the loop
 module _ (k : ℕ) (q : List Tagged) where
@@ -40,11 +39,6 @@ module _ (k : ℕ) (q : List Tagged) where
   pub end-within : (p : ℕ) → p < length q → endOf k p q ≤ length q
   end-within p h = omega (arith, find-within (breaks k) (drop (suc p) q), length-drop (suc p) q)
 
-  same-start : (i p : ℕ) → unitStartOf k i p q ≡ unitStart k i p q
-  same-start zero p = refl
-  same-start (suc zero) p = refl
-  same-start (suc (suc i)) p = ap (λ (n : ℕ). cond (isAt k p q) n (length q)) (same-start (suc i) (endOf k p q))
-
   -- two neighbours, each alone in its unit: one test after the other
   module _ (s : Span) where
     pub alone-past : isAt k (s .end) q ≡ false → alone k q s ≡ refused 21
@@ -66,9 +60,7 @@ module _ (k i : ℕ) (f : Flat) where
   pub step-located : (g : ℕ → ℕ → List Tagged → Answer (List Tagged))
       → atKey k (onQueue (unitFrom k g i) k) f ≡ andThen (locate k i f) (λ s. mapDone (withQueue f) (g (s .start) (s .end) (f .queue)))
   step-located g =
-      ap (λ (x : Answer (List Tagged)). cond (known k f) (mapDone (withQueue f) x) (refused 20))
-      (unit-start k g i (find (atPlace k) (f .queue)) (f .queue) ∙ ap (λ (n : ℕ). onUnit k g n (f .queue)) (same-start k (f .queue) i (find (atPlace k) (f .queue))))
-      ∙ go (known k f) (unitStart k i (find (atPlace k) (f .queue)) (f .queue)) (isAt k (unitStart k i (find (atPlace k) (f .queue)) (f .queue)) (f .queue))
+      go (known k f) (unitStart k i (find (atPlace k) (f .queue)) (f .queue)) (isAt k (unitStart k i (find (atPlace k) (f .queue)) (f .queue)) (f .queue))
     where
       go : (b : Bool) (n : ℕ) (d : Bool)
           → cond b (mapDone (withQueue f) (cond d (g n (endOf k n (f .queue)) (f .queue)) (refused 21))) (refused 20)

@@ -7,14 +7,8 @@ use lib.Dec.{eqb}
 use lib.ListN.{length}
 use Rattle.graph.specs.Refusals.{Answer, refused, done}
 use Rattle.queue.specs.Flat.{Tagged, Flat, find, atPlace, isAt, endOf}
-use Rattle.worksteps.specs.FlatSteps.{known}
+use Rattle.worksteps.specs.FlatSteps.{unitStart, known}
 use Rattle.unitsteps.specs.declared.units.Spot.{Spot}
-
--- where unit i starts, counted from 1 at p; the length where there are not so many units before it
-abbrev pub unitStart : ℕ → ℕ → ℕ → List Tagged → ℕ
-unitStart k zero p q = length q
-unitStart k (suc zero) p q = p
-unitStart k (suc (suc i)) p q = cond (isAt k p q) (unitStart k (suc i) (endOf k p q) q) (length q)
 
 module _ {A B : Type 0} where
   abbrev pub andThen : Answer A → (A → Answer B) → Answer B

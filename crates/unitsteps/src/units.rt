@@ -4,10 +4,10 @@ use state::ops;
 ghost use mathlib.Core.Path.{_≡_};
 ghost use lib.ListN.{length};
 ghost use Rattle.queue.specs.Flat.{find, atPlace, isAt};
-ghost use Rattle.worksteps.specs.FlatSteps.{known};
+ghost use Rattle.worksteps.specs.FlatSteps.{known, unitStart};
 ghost use Rattle.state.specs.Operations.{Bounded};
 ghost use Rattle.state.specs.State.{held, Proper};
-ghost use Rattle.unitsteps.specs.Numbered.{unitStart, locate, locateTwo, spotted};
+ghost use Rattle.unitsteps.specs.Numbered.{locate, locateTwo, spotted};
 
 // Where a unit starts and ends, in the queue; or the number of a refusal, and zeros.
 pub struct Spot {

@@ -8,15 +8,14 @@ use mathlib.Core.List.{List, [], _∷_, _++_}
 use lib.Dec.{eqb, ltb, leb·suc-suc, leb·suc-zero}
 use lib.ListN.{length, getD, drop}
 use borrow.Author.Tests.{lt-ltb}
-use Rattle.graph.specs.Refusals.{Answer, refused}
 use Rattle.graph.specs.Nodes.{Op, Result}
 use Rattle.graph.specs.OneAtATime.{Labelled}
 use Rattle.graph.specs.Sessions.{Station, Session, labelsOfResults, pending, live}
 use Rattle.graph.specs.Valid.{Each, ValidOp, ValidUnit, ValidStation, ValidCall, count, Valid}
 use Rattle.graph.proofs.Labels.{total, is, one, total-append, total-is, total-one}
 use Rattle.graph.proofs.Limits.{each-append}
-use Rattle.queue.specs.Flat.{Tagged, tagUnit, tagUnits, queueOf, waiting, flat, isOp, find, here, isAt, endOf}
-use Rattle.worksteps.specs.FlatSteps.{noOp, unitFrom}
+use Rattle.queue.specs.Flat.{Tagged, tagUnit, tagUnits, queueOf, waiting, flat, isOp, find, here}
+use Rattle.worksteps.specs.FlatSteps.{noOp}
 use Rattle.worksteps.specs.FlatEvents.{labelsIn, queued}
 use Rattle.worksteps.proofs.Events.{pending-total}
 
@@ -96,23 +95,3 @@ module _ {A : Type 0} where
   here-past p [] (suc i) h = refl
   here-past p (x ∷ xs) zero h = absurd (omega arith)
   here-past p (x ∷ xs) (suc i) h = here-past p xs i (omega arith)
-
--- UNITS BY NUMBER: where unit i starts, counted from 1 at p; the length where there are not so many units before it
-abbrev pub unitStart : ℕ → ℕ → ℕ → List Tagged → ℕ
-unitStart k zero p q = length q
-unitStart k (suc zero) p q = p
-unitStart k (suc (suc i)) p q = cond (isAt k p q) (unitStart k (suc i) (endOf k p q) q) (length q)
-
--- a step on the unit that starts at n
-abbrev pub onUnit : ℕ → (ℕ → ℕ → List Tagged → Answer (List Tagged)) → ℕ → List Tagged → Answer (List Tagged)
-onUnit k g n q = cond (isAt k n q) (g n (endOf k n q) q) (refused 21)
-
-pub unit-start : (k : ℕ) (g : ℕ → ℕ → List Tagged → Answer (List Tagged)) (i p : ℕ) (q : List Tagged) → unitFrom k g i p q ≡ onUnit k g (unitStart k i p q) q
-unit-start k g zero p q = rw (here-past (λ x. eqb (x .place) k) q (length q) (omega arith))
-unit-start k g (suc zero) p q = refl
-unit-start k g (suc (suc i)) p q = go (isAt k p q) (unit-start k g (suc i) (endOf k p q) q)
-  where
-    go : (b : Bool) → unitFrom k g (suc i) (endOf k p q) q ≡ onUnit k g (unitStart k (suc i) (endOf k p q) q) q →
-        cond b (unitFrom k g (suc i) (endOf k p q) q) (refused 21) ≡ onUnit k g (cond b (unitStart k (suc i) (endOf k p q) q) (length q)) q
-    go true e = e
-    go false e = rw (here-past (λ x. eqb (x .place) k) q (length q) (omega arith))

@@ -14,7 +14,7 @@ use Rattle.graph.specs.Nodes.{Node, Op, Result}
 use Rattle.graph.specs.Sessions.{Station, station, Session}
 use Rattle.graph.specs.Steps.{Step, admit, realise, move, finish, join, split, swap, fuse, only, unitAt, pairAt, joinUnits, splitUnit, onSingles, maySwap, swapOps, mayFuse, fused, fuseOps, onUnits, step}
 use Rattle.graph.proofs.Answers.{eqb-same}
-use Rattle.queue.specs.Flat.{Tagged, standing, tagUnit, tagUnits, queueOf, nodesOf, flat, find, atPlace, Full, Keyed}
+use Rattle.queue.specs.Flat.{Tagged, standing, tagUnit, tagUnits, queueOf, nodesOf, flat, find, atPlace, isAt, Full, Keyed}
 use Rattle.queue.proofs.Places.{No, no-append, find-none, find-at, no-queue, beyond-below, length-ops, ends-units, is-at, is-not-at, end-of}
 use Rattle.worksteps.specs.FlatSteps.{alter, removeAt, noOp, openAs, unitFrom, withNext, pairFrom, joinFlat, splitFlat, neighbours, swapFlat, fuseFlat, onQueue, flatStep}
 use Rattle.worksteps.proofs.Focus.{flatOf, back, Agrees, step-focus}
@@ -22,11 +22,14 @@ use Rattle.worksteps.proofs.Heads.{regroup-at, ops-split, remove-seam, 
 use Rattle.worksteps.proofs.Admits.{admit-bridge}
 use Rattle.worksteps.proofs.Turns.{alter-seam}
 
+past : (k : ℕ) (q : List Tagged) → isAt k (length q) q ≡ false
+past k q = ap (isAt k (length q)) (sym (append-nil q)) ∙ is-not-at k q [] tt
+
 module _ (k : ℕ) (g : ℕ → ℕ → List Tagged → Answer (List Tagged)) where
   pub unit-none : (i : ℕ) (B r : List Tagged) → No (atPlace k) r → unitFrom k g i (length B) (B ++ r) ≡ refused 21
-  unit-none zero B r h = refl
+  unit-none zero B r h = rw (past k (B ++ r))
   unit-none (suc zero) B r h = rw (is-not-at k B r h)
-  unit-none (suc (suc i)) B r h = rw (is-not-at k B r h)
+  unit-none (suc (suc i)) B r h = rw (is-not-at k B r h, past k (B ++ r))
 
   unit-here : (B : List Tagged) (o : Op) (os : List Op) (us : List (List Op)) (A : List Tagged) → Full us → No (atPlace k) A
       → unitFrom k g 1 (length B) (B ++ (tagUnit k true (o ∷ os) ++ (tagUnits k us ++ A))) ≡ g (length B) (length (B ++ tagUnit k true (o ∷ os))) (B ++ (tagUnit k true (o ∷ os) ++ (tagUnits k us ++ A)))
@@ -60,7 +63,7 @@ module _ (k : ℕ) (g : ℕ → ℕ → List Tagged → Answer (List Tagged)) (f
 
   module _ (h : HereAgrees) where
     pub run : (i : ℕ) (B A : List Tagged) (us : List (List Op)) → Full us → No (atPlace k) A → unitFrom k g i (length B) (B ++ (tagUnits k us ++ A)) ≡ mapDone (λ xs. B ++ (tagUnits k xs ++ A)) (f i us)
-    run zero B A us F a = rw (num .nought us)
+    run zero B A us F a = rw (past k (B ++ (tagUnits k us ++ A)), num .nought us)
     run (suc i) B A [] F a = rw (num .empty i) (unit-none k g (suc i) B A a)
     run (suc i) B A ([] ∷ us) F a = absurd (true≢false (F .0))
     run (suc zero) B A ((o ∷ os) ∷ us) F a =

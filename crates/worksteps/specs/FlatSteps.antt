@@ -102,11 +102,18 @@ abbrev pub finishFlat : ℕ → ℕ → ℕ → Flat → Answer Flat
 finishFlat k h e f = finishFrom e (firstIn (finishesAt k) h e (f .queue)) f
 
 -- UNITS BY NUMBER
--- unit number i, counted from 1 at p: g gets where it starts and ends
+-- where unit number i starts, counted from 1 at p; the queue's length where there are not so many units before it
+abbrev pub unitStart : ℕ → ℕ → ℕ → List Tagged → ℕ
+unitStart k zero p q = length q
+unitStart k (suc zero) p q = p
+unitStart k (suc (suc i)) p q = cond (isAt k p q) (unitStart k (suc i) (endOf k p q) q) (length q)
+
+-- a step on the unit that starts at n: g gets where it starts and ends
+abbrev pub onUnit : ℕ → (ℕ → ℕ → List Tagged → Answer (List Tagged)) → ℕ → List Tagged → Answer (List Tagged)
+onUnit k g n q = cond (isAt k n q) (g n (endOf k n q) q) (refused 21)
+
 abbrev pub unitFrom : ℕ → (ℕ → ℕ → List Tagged → Answer (List Tagged)) → ℕ → ℕ → List Tagged → Answer (List Tagged)
-unitFrom k g zero p q = refused 21
-unitFrom k g (suc zero) p q = cond (isAt k p q) (g p (endOf k p q) q) (refused 21)
-unitFrom k g (suc (suc i)) p q = cond (isAt k p q) (unitFrom k g (suc i) (endOf k p q) q) (refused 21)
+unitFrom k g i p q = onUnit k g (unitStart k i p q) q
 
 -- that unit and the next: g gets where the one starts, where the next does, and where that ends
 abbrev pub withNext : ℕ → (ℕ → ℕ → ℕ → List Tagged → Answer (List Tagged)) → ℕ → ℕ → List Tagged → Answer (List Tagged)

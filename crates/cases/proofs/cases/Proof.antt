@@ -20,6 +20,9 @@ mul-row c = search needs
 array-copy-out-row : tie.Need-array-copy-out-row Inv-loop μ-loop
 array-copy-out-row c = search needs
 
+cast-case : tie.Need-cast-case Inv-loop μ-loop
+cast-case c = search needs
+
 add-case : tie.Need-add-case Inv-loop μ-loop
 add-case c = search needs
 
@@ -47,6 +50,7 @@ cases-spec =
     loop-holds
     mul-row
     array-copy-out-row
+    cast-case
     add-case
     case-requires
     add-i

@@ -8,7 +8,7 @@ use Rattle.queue.specs.Flat.{find, atPlace, isAt}
 use borrow.Author.Tests.{not-true, not-false}
 use Rattle.state.specs.State.{held}
 use Rattle.state.proofs.ResultLaws.{find-within}
-use Rattle.unitsteps.specs.Numbered.{unitStart}
+use Rattle.worksteps.specs.FlatSteps.{unitStart}
 use Rattle.unitsteps.proofs.Located.{unit-next, unit-none, at-within}
 use borrow.Author.Needs.{needs}
 use native.Mathlib.Omega.{arith}
