@@ -15,3 +15,4 @@ pub mod Verdicts
 pub mod Drains
 pub mod Demand3
 pub mod Cases
+pub mod CasesOfSteps

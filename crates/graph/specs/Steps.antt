@@ -41,6 +41,11 @@ abbrev pub at : ℕ → (Station → List Station → Answer Change) → List St
 at k f [] = refused 20
 at k f (s ∷ ss) = cond (eqb (s .node .key) k) (f s ss) (mapDone (behind s) (at k f ss))
 
+-- does any operation of the unit target this node?
+abbrev pub anyHits : List Op → Node → Bool
+anyHits [] n = false
+anyHits (o ∷ os) n = hits o n || anyHits os n
+
 -- REALISE (document 000: MAP, FOLD): "in the head unit, the first operation that targets this node acts and strikes the
 -- key. Allowed where there is one."
 pub record Realised : Type 0 where
@@ -59,10 +64,6 @@ realiseAt n ss (u ∷ us) = mapDone (λ r. only (station (r .node) (r .unit ∷ 
 
 -- MOVE (PROP): "the head unit goes to the next station's tail. Allowed where no operation in it targets this node and the
 -- station isn't last."
-abbrev pub anyHits : List Op → Node → Bool
-anyHits [] n = false
-anyHits (o ∷ os) n = hits o n || anyHits os n
-
 abbrev pub atTail : List Op → Station → Station
 atTail u s = station (s .node) (s .units ++ (u ∷ []))
 
