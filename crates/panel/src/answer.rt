@@ -5,7 +5,7 @@ ghost use Rattle.panel.specs.Answer.{numberOf};
 // Served, with a label, a length or 0; or refused, with the refusal's number.
 pub enum Answer {
     Done(u32),
-    Refused(u8),
+    Refused(u32),
 }
 
 pub fn number(a: Answer) -> i64

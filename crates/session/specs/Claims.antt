@@ -1,26 +1,27 @@
--- What a claim states: its number, the result, and the image after it.
+-- What a claim finds: its number, and where that is 0 the result that is claimed.
 -- Assumes nothing.
-use Prim.Native.Nat.{ℕ}
+use Prim.Native.Nat.{ℕ, _<_}
 use mathlib.Core.Path.{_≡_}
 use mathlib.Core.List.{List}
-use Rattle.graph.specs.Refusals.{Answer, refused, done, numberOf}
-use Rattle.graph.specs.Acceptance.{Claimed, keeping}
-use Rattle.valid.specs.Values.{encode, sessionOf}
-use Rattle.state.specs.Results.{IsOutcome}
-use Rattle.live.specs.Live.{Live}
-use Rattle.session.specs.declared.claims.Answered.{Answered}
+use lib.ListN.{length, getD}
+use Rattle.graph.specs.Refusals.{done, numberOf}
+use Rattle.graph.specs.Acceptance.{claim}
+use Rattle.valid.specs.Values.{sessionOf}
+use Rattle.state.specs.State.{held}
+use Rattle.state.specs.Results.{IsOutcome, noResult, takenAt}
+use Rattle.session.specs.declared.claims.Found.{Found}
 
--- the image of the session that keeps the other results, or as it was
-abbrev pub imageKept : Answer Claimed → List ℕ → List ℕ
-imageKept (refused n) before = before
-imageKept (done c) before = encode (keeping (sessionOf before) (c .others))
+-- the claim of this label takes the result at this place
+pub record Takes (label : ℕ) (image : List ℕ) (at : ℕ) : Type 0 where
+  pub within : at < length (held image .results)
+  pub taken : claim label (sessionOf image) ≡ done (takenAt at (held image .results))
 
-abbrev pub Gives : Answer Claimed → Answered → Type 0
-Gives (refused n) r = Unit {0}
-Gives (done c) r = IsOutcome (c .result) (r .outcome)
+-- the claim of some label does
+pub record Claimable (image : List ℕ) (at : ℕ) : Type 0 where
+  pub label : ℕ
+  pub takes : Takes label image at
 
-pub record Claims (x : Answer Claimed) (before after : List ℕ) (r : Answered) : Type 0 where
-  pub number : r .refusal ≡ numberOf x
-  pub gives : Gives x r
-  pub image : after ≡ imageKept x before
-  pub live : Live after
+pub record Finds (label : ℕ) (image : List ℕ) (r : Found) : Type 0 where
+  pub number : r .refusal ≡ numberOf (claim label (sessionOf image))
+  pub takes : r .refusal ≡ 0 → Takes label image (r .at)
+  pub outcome : r .refusal ≡ 0 → IsOutcome (getD (held image .results) (r .at) noResult) (r .outcome)

@@ -1,22 +1,26 @@
-// Claims on a live image.
+// Claims on a live image: the result is found, and removed. Between the two a host writes it, where there is room.
 use calls::claim::claim_place;
 use graph::keys::Keys;
 use state::results;
 use state::results::Outcome;
-ghost use Rattle.graph.specs.Acceptance.{claim};
-ghost use Rattle.valid.specs.Values.{sessionOf};
+ghost use mathlib.Core.Path.{_≡_};
+ghost use Rattle.graph.specs.Acceptance.{keeping};
+ghost use Rattle.worksteps.specs.FlatSteps.{removeAt};
+ghost use Rattle.valid.specs.Values.{encode, sessionOf};
+ghost use Rattle.state.specs.State.{held};
 ghost use Rattle.live.specs.Live.{Live};
-ghost use Rattle.session.specs.Claims.{Claims};
+ghost use Rattle.session.specs.Claims.{Finds, Claimable};
 
-// A refusal's number and no result; or 0 and the result, which the session holds no more.
-pub struct Answered {
+// A refusal's number and no result; or 0, the result, and its place among the results.
+pub struct Found {
     pub refusal: u8,
+    pub at: usize,
     pub outcome: Outcome,
 }
 
-pub fn claim(image: &mut [u8], label: u32) -> Answered
+pub fn find(image: &[u8], label: u32) -> Found
     requires { ⌜ Live (now image) ⌝ }
-    ensures { λ r. ⌜ Claims (claim label (sessionOf (now (image .entry)))) (now (image .entry)) (now (image .exit)) r ⌝ }
+    ensures { λ r. ⌜ Finds label (now (image .entry)) r ⌝ }
 {
     let c = claim_place(image, label);
     if c.refusal != 0 {
@@ -26,16 +30,25 @@ pub fn claim(image: &mut [u8], label: u32) -> Answered
             value: 0,
             left: none,
         };
-        return Answered {
+        return Found {
             refusal: c.refusal,
+            at: 0,
             outcome: outcome,
         };
     }
     let at = c.at;
     let found = results::outcome_at(image, at);
-    results::take(image, at);
-    Answered {
+    Found {
         refusal: 0,
+        at: at,
         outcome: found,
     }
+}
+
+// The session holds the result at this place no more.
+pub fn remove(image: &mut [u8], at: usize)
+    requires { ⌜ (Live (now image)) × (Claimable (now image) at) ⌝ }
+    ensures { λ _. ⌜ now (image .exit) ≡ encode (keeping (sessionOf (now (image .entry))) (removeAt at (held (now (image .entry)) .results))) ⌝ }
+{
+    results::take(image, at);
 }

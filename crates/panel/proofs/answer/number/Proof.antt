@@ -35,7 +35,7 @@ enum-known-a-2 c = search needs
 cast-result-2 : tie.Need-cast-result-2
 cast-result-2 c = search needs
 
--- the number that the refusal holds, which is a u8
+-- the number that the refusal holds, which is a u32
 small : (c : tie.After-known-told2) → c .before .a2 .given .0 .0 < 2 ^ 63
 small c = omega (arith, c .known-told2 .given .0 .1)
 

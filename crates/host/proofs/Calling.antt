@@ -1,0 +1,134 @@
+-- A call line: refused in reading, or the call that the session is asked to accept.
+-- Assumes nothing.
+use mathlib.Core.Path.{_≡_, refl, sym, ap, subst, _∙_}
+use Prim.Native.Nat.{ℕ, _+_}
+use native.Mathlib.Omega.{arith}
+use mathlib.Core.Bool.{_&&_}
+use mathlib.Core.List.{List, [], _∷_}
+use lib.Dec.{leb}
+use lib.ListN.{length}
+use lib.IntN.{ℤ}
+use Rattle.graph.specs.Calls.{Call, add, map, link, unlink, sum, top, pick, near, isAdd, formTests}
+use Rattle.graph.specs.Refusals.{Answer, refused, done, numberOf as codeOf, Test, on, firstOf, unless}
+use Rattle.graph.specs.Sessions.{Session, live, addsIn}
+use Rattle.graph.specs.Packed.{listed, packed}
+use Rattle.graph.specs.Acceptance.{accept, callTests, accepted}
+use Rattle.graph.proofs.Answers.{Holds, holds}
+use Rattle.graph.proofs.Validity.{Accepts, accept-valid}
+use Rattle.queue.specs.Flat.{Flat}
+use Rattle.graph.proofs.KeyLaws.{listed-packed}
+use Rattle.lines.specs.declared.call.CallLine.{CallLine}
+use Rattle.lines.specs.Answers.{form, other, settled, callRead, refusedCall, callOf, IsCall, CallRead}
+use Rattle.panel.specs.declared.answer.Answer.the-variants.{Done, Refused}
+use Rattle.panel.specs.Answer.{numberOf}
+use Rattle.valid.specs.Values.{sessionOf}
+use Rattle.state.specs.State.{held}
+use Rattle.live.specs.Live.{imageAfter, Serves}
+use Rattle.live.proofs.Serving.{encode-shows}
+use Rattle.session.specs.Accepts.{Good}
+use Rattle.host.specs.Entries.{ImageOf, otherLine, served, callRefused, callServed, Calls}
+use Rattle.host.proofs.Entering.{unless-refused, unless-done, unless-number}
+
+-- what was read is the call
+read-of : (f : Call) → callOf (callRead f) ≡ f
+read-of (add v) = refl
+read-of (map a b to) = ap (map a b) (listed-packed to)
+read-of (link k to) = ap (link k) (listed-packed to)
+read-of (unlink k to) = ap (unlink k) (listed-packed to)
+read-of (sum s to) = ap (sum s) (listed-packed to)
+read-of (top s to) = ap (top s) (listed-packed to)
+read-of (pick s to) = ap (pick s) (listed-packed to)
+read-of (near k s to) = ap (near k s) (listed-packed to)
+
+read-none : (f : Call) → callRead f .refusal ≡ 0
+read-none (add v) = refl
+read-none (map a b to) = refl
+read-none (link k to) = refl
+read-none (unlink k to) = refl
+read-none (sum s to) = refl
+read-none (top s to) = refl
+read-none (pick s to) = refl
+read-none (near k s to) = refl
+
+packed-again : (to : List ℕ) → packed to ≡ packed (listed (packed to))
+packed-again to = ap packed (sym (listed-packed to))
+
+read-packed : (f : Call) → callRead f .to ≡ packed (listed (callRead f .to))
+read-packed (add v) = packed-again _
+read-packed (map a b to) = packed-again to
+read-packed (link k to) = packed-again to
+read-packed (unlink k to) = packed-again to
+read-packed (sum s to) = packed-again to
+read-packed (top s to) = packed-again to
+read-packed (pick s to) = packed-again to
+read-packed (near k s to) = packed-again to
+
+-- what the form's own tests refuse is not accepted
+abbrev sessionTests : Call → Session → List Test
+sessionTests c s = on (isAdd c && leb 64 (length (s .stations) + addsIn (s .topStream))) 13 ∷ on (leb 64 (length (live s))) 14 ∷ on (leb 65535 (s .last)) 15 ∷ []
+
+form-refused : (f : Call) (s : Session) {n : ℕ} → unless (formTests f) f ≡ refused n → accept f s ≡ refused n
+form-refused f s q = unless-refused (formTests f) (sessionTests f s) f (accepted f s) q
+
+module _ (image line : List ℕ) (c : CallLine) (h : ImageOf image (sessionOf image)) where
+  pub line-refused : CallRead line c → (c .refusal ≡ 0 → ⊥) → Calls image line (callRefused image (c .refusal))
+  line-refused (other n e) ne = otherLine (sessionOf image) h n (ap (λ (x : CallLine). callRefused image (x .refusal)) e)
+  line-refused (form f i e) ne = served (sessionOf image) h f i (go (unless (formTests f) f) refl e)
+    where
+      go : (x : Answer Call) → unless (formTests f) f ≡ x → c ≡ settled refusedCall callRead x → callRefused image (c .refusal) ≡ callServed image (accept f (sessionOf image))
+      go (refused n) q d =
+          ap (λ (x : CallLine). callRefused image (x .refusal)) d
+          ∙ sym (ap (callServed image) (form-refused f (sessionOf image) q))
+      go (done g) q d = absurd (ne (ap (λ (x : CallLine). x .refusal) d ∙ read-none g))
+
+-- a line that is not refused in reading is the text of the call that was read, whose form is good
+pub record Read (line : List ℕ) (c : CallLine) : Type 0 where
+  pub text : IsCall line (callOf c)
+  pub good : Good c
+
+pub line-read : (line : List ℕ) (c : CallLine) → CallRead line c → c .refusal ≡ 0 → Read line c
+line-read line c (other n e) z =
+    let ten : c .refusal ≡ 10 = ap (λ (x : CallLine). x .refusal) e in
+    absurd (omega arith)
+line-read line c (form f i e) z = go (unless (formTests f) f) refl e
+  where
+    go : (x : Answer Call) → unless (formTests f) f ≡ x → c ≡ settled refusedCall callRead x → Read line c
+    go (refused n) q d =
+        let same : c .refusal ≡ n = ap (λ (x : CallLine). x .refusal) d in
+        absurd (omega (arith, unless-number (formTests f) f (omega arith, (omega arith, (omega arith, tt))) q))
+    go (done g) q d =
+        let p = unless-done (formTests f) f q in
+        let e : c ≡ callRead f = d ∙ ap callRead (sym (p .0)) in
+        let is : callOf c ≡ f = ap callOf e ∙ read-of f in
+        record {
+          text = subst (IsCall line) (sym is) i;
+          good = record {
+            form = ap (λ (x : Call). firstOf (formTests x)) is ∙ p .1;
+            targets = ap (λ (x : CallLine). x .to) e ∙ read-packed f ∙ sym (ap (λ (x : CallLine). packed (listed (x .to))) e);
+          };
+        }
+
+-- what the session does with it
+module _ (image after line : List ℕ) (c : CallLine) (n : ℕ) (h : ImageOf image (sessionOf image)) (r : Read line c) (s : Serves (accept (callOf c) (sessionOf image)) image after n) where
+  pub not-accepted : (n ≡ 0 → ⊥) → Calls image line (record { answer = numberOf (Refused n); image = after })
+  not-accepted ne = served (sessionOf image) h (callOf c) (r .text) (go (accept (callOf c) (sessionOf image)) (s .number) (s .image))
+    where
+      go : (x : Answer Session) → n ≡ codeOf x → after ≡ imageAfter x image → record { answer = numberOf (Refused n); image = after } ≡ callServed image x
+      go (refused m) e q = λ i. record { answer = numberOf (Refused (e i)); image = q i }
+      go (done u) e q = absurd (ne e)
+
+  -- the label is the last that the session has given
+  pub is-accepted : (last : ℕ) → n ≡ 0 → last ≡ held after .last → Calls image line (record { answer = numberOf (Done last); image = after })
+  is-accepted last z l =
+      served (sessionOf image) h (callOf c) (r .text)
+      (go (accept (callOf c) (sessionOf image)) refl (accept-valid (callOf c) (sessionOf image) (h .valid)) (s .number) (s .image))
+    where
+      go : (x : Answer Session) → accept (callOf c) (sessionOf image) ≡ x → Holds (Accepts (callOf c) (sessionOf image)) x → n ≡ codeOf x → after ≡ imageAfter x image
+          → record { answer = numberOf (Done last); image = after } ≡ callServed image x
+      go (refused m) d v e q = absurd (omega (arith, unless-number (callTests (callOf c) (sessionOf image)) _ (omega arith, (omega arith, (omega arith, (omega arith, (omega arith, (omega arith, tt)))))) d))
+      go (done u) d (holds v) e q =
+          let same : last ≡ u .last = l ∙ ap (λ (x : List ℕ). held x .last) q ∙ ap (λ (f : Flat). f .last) (encode-shows u (v .valid) .shows) in
+          λ i. record { answer = numberOf (Done (same i)); image = q i }
+
+pub call-answer : {image line after : List ℕ} {z w : ℤ} → z ≡ w → Calls image line (record { answer = w; image = after }) → Calls image line (record { answer = z; image = after })
+call-answer {image} {line} {after} e h = subst (λ (x : ℤ). Calls image line (record { answer = x; image = after })) (sym e) h

@@ -1,0 +1,26 @@
+-- The answer as a number.
+-- Assumes nothing.
+use mathlib.Core.Path.{_≡_, _∙_}
+use mir.Syntax.{w64}
+use mir.Val.{toZ, ofZ}
+use Rattle.host.proofs.Calling.{call-answer}
+use borrow.Author.Needs.{needs}
+use Rattle.host.proofs.call.cg_call.Statement.{statement}
+use Rattle.host.proofs.call.cg_call.Tie as tie
+
+accept-line-requires : tie.Need-accept-line-requires
+accept-line-requires c κs = search needs
+
+number-requires : tie.Need-number-requires
+number-requires c κs = search needs
+
+same-length : tie.Need-same-length
+same-length c = search needs
+
+returns : tie.Need-returns
+returns c =
+    let same : toZ w64 (ofZ w64 (c .number .result)) ≡ c .number .result = search needs in
+    call-answer (same ∙ c .number .ensures) (c .before .before .before .accept-line .ensures)
+
+pub cg-call-spec : {M : Type 1} → statement M
+cg-call-spec = tie.close (tie.spec accept-line-requires number-requires same-length returns)
