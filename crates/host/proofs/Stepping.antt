@@ -1,0 +1,216 @@
+-- A step line: refused in reading, or the step that the session is asked to take; and what the tally counts.
+-- Assumes nothing.
+use mathlib.Core.Path.{_≡_, refl, sym, ap, subst, _∙_}
+use Prim.Native.Nat.{ℕ, suc, _≤_, _<_}
+use native.Mathlib.Omega.{arith}
+use mathlib.Core.Bool.{Bool, true, false, not, cond, true≢false, _&&_}
+use mathlib.Core.List.{List, [], _∷_}
+use lib.Dec.{leb}
+use lib.IntN.{ℤ}
+use lib.ListN.{length}
+use borrow.Author.Tests.{leb-true}
+use Rattle.graph.specs.KeyLists.{isNil, isKey, areKeys}
+use Rattle.graph.specs.Refusals.{Answer, refused, done, numberOf as codeOf, firstOf, unless}
+use Rattle.graph.specs.Sessions.{Session}
+use Rattle.graph.specs.Steps.{Step, admit, realise, move, finish, join, split, swap, fuse, step}
+use Rattle.graph.specs.Drain.{drain, weightOf}
+use Rattle.graph.specs.Runs.{tallyPlace, andThen}
+use Rattle.graph.proofs.Answers.{isDone, and-left, and-right}
+use Rattle.graph.specs.Allowed.{fromKey, unitsOf, fromUnit, allowed, tests, stepTests}
+use Rattle.graph.proofs.Verdicts.{step-number, step-done}
+use Rattle.graph.proofs.Drains.{drain-works}
+use Rattle.lines.specs.Forms.{StepForm, work, drain as drains, stepKeys}
+use Rattle.lines.specs.declared.step.StepKind.{StepKind}
+use Rattle.lines.specs.declared.step.StepKind.the-variants.{Admit, Realise, Move, Finish, Join, Split, Swap, Fuse, Drain}
+use Rattle.lines.specs.declared.step.StepLine.{StepLine}
+use Rattle.lines.specs.Answers.{form, other, settled, stepRead, refusedStep, stepFormTests, stepForm, stepOf, IsStep, StepRead}
+use Rattle.panel.specs.declared.answer.Answer.the-variants.{Done, Refused}
+use Rattle.panel.specs.declared.tally.Tally.{Tally}
+use Rattle.panel.specs.Answer.{numberOf}
+use Rattle.panel.specs.Tally.{raised, counted}
+use Rattle.panel.proofs.TallyLaws.{counted-at-once}
+use Rattle.valid.specs.Values.{encode, sessionOf}
+use Rattle.live.specs.Live.{imageAfter, Serves}
+use Rattle.session.specs.declared.drain.Counts.{Counts}
+use Rattle.session.specs.Drained.{Drains}
+use Rattle.host.specs.Entries.{ImageOf, otherLine, served, stepRefused, stepServed, stepMade, Steps}
+use Rattle.host.specs.Tests.{placeOf}
+use Rattle.host.proofs.Entering.{unless-refused, unless-done, unless-number}
+
+read-none : (f : StepForm) → stepRead f .refusal ≡ 0
+read-none (work admit) = refl
+read-none (work (realise at)) = refl
+read-none (work (move at)) = refl
+read-none (work (finish at)) = refl
+read-none (work (join at unit)) = refl
+read-none (work (split at unit after)) = refl
+read-none (work (swap at unit)) = refl
+read-none (work (fuse at unit)) = refl
+read-none drains = refl
+
+read-of : (f : StepForm) → stepOf (stepRead f) ≡ f
+read-of (work admit) = refl
+read-of (work (realise at)) = refl
+read-of (work (move at)) = refl
+read-of (work (finish at)) = refl
+read-of (work (join at unit)) = refl
+read-of (work (split at unit after)) = refl
+read-of (work (swap at unit)) = refl
+read-of (work (fuse at unit)) = refl
+read-of drains = refl
+
+-- a key fits in a byte
+key-small : (k : ℕ) → areKeys (k ∷ []) ≡ true → k < 256
+key-small k e =
+    let high : k ≤ 64 = leb-true k 64 (and-right (leb 1 k) (leb k 64) (and-left (isKey k) true e)) in
+    omega arith
+
+read-small : (f : StepForm) → areKeys (stepKeys f) ≡ true → stepRead f .at < 256
+read-small (work admit) e = omega arith
+read-small (work (realise at)) e = key-small at e
+read-small (work (move at)) e = key-small at e
+read-small (work (finish at)) e = key-small at e
+read-small (work (join at unit)) e = key-small at e
+read-small (work (split at unit after)) e = key-small at e
+read-small (work (swap at unit)) e = key-small at e
+read-small (work (fuse at unit)) e = key-small at e
+read-small drains e = omega arith
+
+module _ (image line : List ℕ) (t : Tally) (c : StepLine) (h : ImageOf image (sessionOf image)) where
+  pub line-refused : StepRead line c → (c .refusal ≡ 0 → ⊥) → Steps image line t (stepRefused image t (c .refusal))
+  line-refused (other n e) ne = otherLine (sessionOf image) h n (ap (λ (x : StepLine). stepRefused image t (x .refusal)) e)
+  line-refused (form f i e) ne = served (sessionOf image) h f i (go f (unless (stepFormTests f) f) refl e)
+    where
+      go : (f : StepForm) (x : Answer StepForm) → unless (stepFormTests f) f ≡ x → c ≡ settled refusedStep stepRead x → stepRefused image t (c .refusal) ≡ stepMade image t (sessionOf image) f
+      go f (done g) q d = absurd (ne (ap (λ (x : StepLine). x .refusal) d ∙ read-none g))
+      go drains (refused n) q d = absurd (true≢false (ap isDone q))
+      go (work w) (refused n) q d =
+          ap (λ (x : StepLine). stepRefused image t (x .refusal)) d
+          ∙ sym (ap (λ (x : Answer Session). stepServed image t (w ∷ []) (andThen x (step w))) (unless-refused (stepFormTests (work w)) [] (work w) (sessionOf image) q))
+
+-- a line that is not refused in reading is the text of the step that was read, whose key is good
+pub record Read (line : List ℕ) (c : StepLine) : Type 0 where
+  pub text : IsStep line (stepOf c)
+  pub fine : areKeys (stepKeys (stepOf c)) ≡ true
+  pub small : c .at < 256
+
+pub line-read : (line : List ℕ) (c : StepLine) → StepRead line c → c .refusal ≡ 0 → Read line c
+line-read line c (other n e) z =
+    let ten : c .refusal ≡ 10 = ap (λ (x : StepLine). x .refusal) e in
+    absurd (omega arith)
+line-read line c (form f i e) z = go (areKeys (stepKeys f)) refl (unless (stepFormTests f) f) refl e
+  where
+    go : (b : Bool) → areKeys (stepKeys f) ≡ b → (x : Answer StepForm) → unless (stepFormTests f) f ≡ x → c ≡ settled refusedStep stepRead x → Read line c
+    go b k (refused n) q d =
+        let same : c .refusal ≡ n = ap (λ (x : StepLine). x .refusal) d in
+        absurd (omega (arith, unless-number (stepFormTests f) f (omega arith, tt) q))
+    go true k (done g) q d =
+        let r : c ≡ stepRead f = d ∙ ap stepRead (sym (unless-done (stepFormTests f) f q .0)) in
+        let is : stepOf c ≡ f = ap stepOf r ∙ read-of f in
+        record {
+          text = subst (IsStep line) (sym is) i;
+          fine = ap (λ (x : StepForm). areKeys (stepKeys x)) is ∙ k;
+          small = subst (λ (x : StepLine). x .at < 256) (sym r) (read-small f k);
+        }
+    go false k (done g) q d = absurd (true≢false (sym (ap isDone (sym (ap (λ (b : Bool). cond (not b) (refused 11) (done f)) k) ∙ q))))
+
+three : (a b c : Bool) → c ≡ false → 1 ≤ cond a 20 (cond b 21 (cond (not c) 22 0))
+three true b c e = omega arith
+three false true c e = omega arith
+three false false true e = absurd (true≢false e)
+three false false false e = omega arith
+
+-- a refused step has the number of a test that applies, so never 0
+some-of : (k i needed : ℕ) (t : Step) (s : Session) → allowed t s ≡ false → 1 ≤ firstOf (tests k i needed t s)
+some-of k i needed t s e = three (isNil (fromKey k (s .stations))) (not (leb needed (length (fromUnit i (unitsOf (fromKey k (s .stations))))))) (allowed t s) e
+
+some-test : (w : Step) (s : Session) → allowed w s ≡ false → 1 ≤ firstOf (stepTests w s)
+some-test admit s e = one (isNil (s .topStream)) e
+  where
+    one : (b : Bool) → not b ≡ false → 1 ≤ cond b 21 0
+    one true e = omega arith
+    one false e = absurd (true≢false e)
+some-test (realise k) s e = some-of k 1 1 (realise k) s e
+some-test (move k) s e = some-of k 1 1 (move k) s e
+some-test (finish k) s e = some-of k 1 1 (finish k) s e
+some-test (join k i) s e = some-of k i 2 (join k i) s e
+some-test (split k i j) s e = some-of k i 1 (split k i j) s e
+some-test (swap k i) s e = some-of k i 2 (swap k i) s e
+some-test (fuse k i) s e = some-of k i 2 (fuse k i) s e
+
+step-refused : (w : Step) (s : Session) {n : ℕ} → step w s ≡ refused n → 1 ≤ n
+step-refused w s {n} e =
+    let same : n ≡ firstOf (stepTests w s) = sym (ap codeOf e) ∙ step-number w s in
+    omega (arith, some-test w s (sym (step-done w s) ∙ ap isDone e))
+
+-- the step by the line's kind, and its place in the tally
+pub kind-is : (c : StepLine) (kind : StepKind) → c .kind ≡ kind → stepOf c ≡ stepForm kind (c .at) (c .unit) (c .after)
+kind-is c kind e = ap (λ (k : StepKind). stepForm k (c .at) (c .unit) (c .after)) e
+
+abbrev placeOfForm : StepForm → ℕ
+placeOfForm (work w) = tallyPlace w
+placeOfForm drains = 8
+
+place-form : (kind : StepKind) (x y z : ℕ) → placeOf kind ≡ placeOfForm (stepForm kind x y z)
+place-form Admit x y z = refl
+place-form Realise x y z = refl
+place-form Move x y z = refl
+place-form Finish x y z = refl
+place-form Join x y z = refl
+place-form Split x y z = refl
+place-form Swap x y z = refl
+place-form Fuse x y z = refl
+place-form Drain x y z = refl
+
+drain-form : (kind : StepKind) (x y z : ℕ) → placeOf kind ≡ 8 → stepForm kind x y z ≡ drains
+drain-form Admit x y z e = absurd (omega arith)
+drain-form Realise x y z e = absurd (omega arith)
+drain-form Move x y z e = absurd (omega arith)
+drain-form Finish x y z e = absurd (omega arith)
+drain-form Join x y z e = absurd (omega arith)
+drain-form Split x y z e = absurd (omega arith)
+drain-form Swap x y z e = absurd (omega arith)
+drain-form Fuse x y z e = absurd (omega arith)
+drain-form Drain x y z e = refl
+
+module _ (image after line : List ℕ) (t : Tally) (c : StepLine) (h : ImageOf image (sessionOf image)) (r : Read line c) where
+  pub line-drained : (n : Counts) (z : ℤ) (u : Tally) → placeOf (c .kind) ≡ 8 → Drains image after n → z ≡ numberOf (Done 0)
+      → u ≡ raised (raised (raised (raised t 0 (n .admit)) 1 (n .realise)) 2 (n .moved)) 3 (n .finish) → Steps image line t (record { answer = z; image = after; tally = u })
+  line-drained n z u p d a q =
+      let s : Session = sessionOf image in
+      let is : stepOf c ≡ drains = drain-form (c .kind) (c .at) (c .unit) (c .after) p in
+      let all : u ≡ counted t ((drain s) .took) =
+          q ∙ (λ i. raised (raised (raised (raised t 0 (d .counts .admits i)) 1 (d .counts .realises i)) 2 (d .counts .moves i)) 3 (d .counts .finishes i))
+          ∙ counted-at-once t ((drain s) .took) (drain-works (suc (weightOf s)) s) in
+      served s h drains (subst (IsStep line) is (r .text)) (λ i. record { answer = a i; image = d .image i; tally = all i })
+
+  module _ (w : Step) (n : ℕ) (is : work w ≡ stepOf c) (s : Serves (step w (sessionOf image)) image after n) where
+    text : IsStep line (work w)
+    text = subst (IsStep line) (sym is) (r .text)
+
+    formed : unless (stepFormTests (work w)) (sessionOf image) ≡ done (sessionOf image)
+    formed = ap (λ (b : Bool). cond (not b) (refused 11) (done (sessionOf image))) (ap (λ (f : StepForm). areKeys (stepKeys f)) is ∙ r .fine)
+
+    serve : {z : ℤ} {u : Tally} → record { answer = z; image = after; tally = u } ≡ stepServed image t (w ∷ []) (step w (sessionOf image)) → Steps image line t (record { answer = z; image = after; tally = u })
+    serve e = served (sessionOf image) h (work w) text (e ∙ sym (ap (λ (x : Answer Session). stepServed image t (w ∷ []) (andThen x (step w))) formed))
+
+    pub line-not-taken : {z : ℤ} {u : Tally} → (n ≡ 0 → ⊥) → z ≡ numberOf (Refused n) → u ≡ t → Steps image line t (record { answer = z; image = after; tally = u })
+    line-not-taken {z} {u} ne a q = serve (go (step w (sessionOf image)) (s .number) (s .image))
+      where
+        go : (x : Answer Session) → n ≡ codeOf x → after ≡ imageAfter x image → record { answer = z; image = after; tally = u } ≡ stepServed image t (w ∷ []) x
+        go (refused m) e y = λ i. record { answer = (a ∙ ap (λ (k : ℕ). numberOf (Refused k)) e) i; image = y i; tally = q i }
+        go (done v) e y = absurd (ne e)
+
+    pub line-taken : {z : ℤ} {u : Tally} → n ≡ 0 → z ≡ numberOf (Done 0) → u ≡ raised t (placeOf (c .kind)) 1 → Steps image line t (record { answer = z; image = after; tally = u })
+    line-taken {z} {u} o a q = serve (go (step w (sessionOf image)) refl (s .number) (s .image))
+      where
+        place : placeOf (c .kind) ≡ tallyPlace w
+        place = place-form (c .kind) (c .at) (c .unit) (c .after) ∙ ap placeOfForm (sym is)
+
+        go : (x : Answer Session) → step w (sessionOf image) ≡ x → n ≡ codeOf x → after ≡ imageAfter x image → record { answer = z; image = after; tally = u } ≡ stepServed image t (w ∷ []) x
+        go (refused m) d e y = absurd (omega (arith, step-refused w (sessionOf image) d))
+        go (done v) d e y = λ i. record { answer = a i; image = y i; tally = (q ∙ ap (λ (k : ℕ). raised t k 1) place) i }
+
+-- what a refusal gives, by its parts
+pub step-answer : (n : ℕ) {image line : List ℕ} {t u : Tally} {z : ℤ} → Steps image line t (stepRefused image t n) → z ≡ numberOf (Refused n) → u ≡ t → Steps image line t (record { answer = z; image = image; tally = u })
+step-answer n {image} {line} {t} {u} {z} h a q = subst (Steps image line t) (λ i. record { answer = sym a i; image = image; tally = sym q i }) h

@@ -1,0 +1,31 @@
+-- Each count is raised by its own number.
+-- Assumes nothing.
+use mathlib.Core.Path.{sym, ap, _∙_}
+use Rattle.panel.specs.declared.tally.Tally.{Tally}
+use Rattle.panel.specs.Tally.{raised}
+use borrow.Author.Needs.{needs}
+use Rattle.host.proofs.step.drained.Statement.{statement}
+use Rattle.host.proofs.step.drained.Tie as tie
+
+raised-requires : tie.Need-raised-requires
+raised-requires c κs = search needs
+
+raised-requires-2 : tie.Need-raised-requires-2
+raised-requires-2 c κs = search needs
+
+raised-requires-3 : tie.Need-raised-requires-3
+raised-requires-3 c κs = search needs
+
+raised-requires-4 : tie.Need-raised-requires-4
+raised-requires-4 c κs = search needs
+
+returns : tie.Need-returns
+returns c =
+    let n = c .before .before .before .before .args .c in
+    c .raised4 .ensures
+    ∙ ap (λ (t : Tally). raised t 3 (n .finish)) (c .before .raised3 .ensures ∙ ap (λ (t : Tally). raised t 2 (n .moved)) (c .before .before .raised2 .ensures ∙ ap (λ (t : Tally). raised t 1 (n .realise)) (c .before .before .before .raised .ensures)))
+
+pub drained-spec : {M : Type 1} → statement M
+drained-spec =
+    tie.close
+    (tie.spec raised-requires raised-requires-2 raised-requires-3 raised-requires-4 returns)

@@ -1,0 +1,130 @@
+-- Each answer is a case of `Steps`.
+-- Assumes nothing.
+use mathlib.Core.Path.{_≡_, sym, ap, _∙_}
+use Prim.Native.Nat.{ℕ}
+use mir.Syntax.{w64}
+use mir.Val.{toZ, ofZ}
+use Rattle.panel.specs.Tally.{raised}
+use Rattle.host.specs.Tests.{placeOf}
+use Rattle.host.proofs.Entering.{tested-refused, tested-session, session-live}
+use Rattle.host.proofs.Stepping.{line-refused, line-read, line-drained, line-not-taken, line-taken, step-answer}
+use borrow.Author.Needs.{needs}
+use Rattle.host.proofs.step.step_by.Statement.{statement}
+use Rattle.host.proofs.step.step_by.Tie as tie
+
+image-refusal-requires : tie.Need-image-refusal-requires
+image-refusal-requires c κs = search needs
+
+refused-requires : tie.Need-refused-requires
+refused-requires c κs = search needs
+
+same-length : tie.Need-same-length
+same-length c = search needs
+
+returns : tie.Need-returns
+returns c = step-answer (c .before .before .image-refusal .result) (tested-refused (c .before .before .image-refusal .ensures) (c .before .if1 .taken)) (c .refused .ensures .0) (c .refused .ensures .1)
+
+read-step-requires : tie.Need-read-step-requires
+read-step-requires c κs = search needs
+
+cast-refused : tie.Need-cast-refused
+cast-refused c = search needs
+
+refused-requires-2 : tie.Need-refused-requires-2
+refused-requires-2 c κs = search needs
+
+same-length-2 : tie.Need-same-length-2
+same-length-2 c = search needs
+
+returns-2 : tie.Need-returns-2
+returns-2 c =
+    let h = tested-session (c .before .before .before .before .before .before .image-refusal .ensures) (c .before .before .before .before .before .if1 .left) in
+    step-answer (c .before .before .before .before .read-step .result .refusal) (line-refused _ _ _ _ h (c .before .before .before .before .read-step .ensures) (c .before .before .if2 .taken)) (c .refused2 .ensures .0) (c .refused2 .ensures .1)
+
+place-of-requires : tie.Need-place-of-requires
+place-of-requires c κs = search needs
+
+drain-requires : tie.Need-drain-requires
+drain-requires c κs = session-live (tested-session (c .before .before .before .before .before .before .before .image-refusal .ensures) (c .before .before .before .before .before .before .if1 .left))
+
+number-requires : tie.Need-number-requires
+number-requires c κs = search needs
+
+drained-requires : tie.Need-drained-requires
+drained-requires c κs = search needs
+
+same-length-3 : tie.Need-same-length-3
+same-length-3 c = search needs
+
+returns-3 : tie.Need-returns-3
+returns-3 c =
+    let h = tested-session (c .before .before .before .before .before .before .before .before .before .before .before .before .image-refusal .ensures) (c .before .before .before .before .before .before .before .before .before .before .before .if1 .left) in
+    let r = line-read _ _ (c .before .before .before .before .before .before .before .before .before .before .read-step .ensures) (c .before .before .before .before .before .before .before .before .if2 .left) in
+    let same : toZ w64 (ofZ w64 (c .before .number .result)) ≡ c .before .number .result = search needs in
+    line-drained _ _ _ _ _ h r _ _ _ (sym (c .before .before .before .before .before .before .before .place-of .ensures) ∙ c .before .before .before .before .before .before .if3 .taken) (c .before .before .before .before .drain .ensures) (same ∙ c .before .number .ensures) (c .drained .ensures)
+
+work-of-requires : tie.Need-work-of-requires
+work-of-requires c κs =
+    let r = line-read _ _ (c .before .before .before .before .before .read-step .ensures) (c .before .before .before .if2 .left) in
+    (r .small, λ e. c .before .if3 .left (c .before .before .place-of .ensures ∙ ap placeOf e))
+
+take-requires : tie.Need-take-requires
+take-requires c κs = session-live (tested-session (c .before .before .before .before .before .before .before .before .image-refusal .ensures) (c .before .before .before .before .before .before .before .if1 .left))
+
+refused-requires-3 : tie.Need-refused-requires-3
+refused-requires-3 c κs = search needs
+
+same-length-4 : tie.Need-same-length-4
+same-length-4 c = search needs
+
+returns-4 : tie.Need-returns-4
+returns-4 c =
+    let h = tested-session (c .before .before .before .before .before .before .before .before .before .before .before .before .before .image-refusal .ensures) (c .before .before .before .before .before .before .before .before .before .before .before .before .if1 .left) in
+    let r = line-read _ _ (c .before .before .before .before .before .before .before .before .before .before .before .read-step .ensures) (c .before .before .before .before .before .before .before .before .before .if2 .left) in
+    line-not-taken _ _ _ _ _ h r _ _ (c .before .before .before .before .before .work-of .ensures) (c .before .before .before .before .take .ensures .0) (c .before .if4 .taken) (c .refused3 .ensures .0) (c .refused3 .ensures .1)
+
+number-requires-2 : tie.Need-number-requires-2
+number-requires-2 c κs = search needs
+
+raised-requires : tie.Need-raised-requires
+raised-requires c κs = search needs
+
+same-length-5 : tie.Need-same-length-5
+same-length-5 c = search needs
+
+returns-5 : tie.Need-returns-5
+returns-5 c =
+    let h = tested-session (c .before .before .before .before .before .before .before .before .before .before .before .before .before .before .image-refusal .ensures) (c .before .before .before .before .before .before .before .before .before .before .before .before .before .if1 .left) in
+    let r = line-read _ _ (c .before .before .before .before .before .before .before .before .before .before .before .before .read-step .ensures) (c .before .before .before .before .before .before .before .before .before .before .if2 .left) in
+    let same : toZ w64 (ofZ w64 (c .before .number2 .result)) ≡ c .before .number2 .result = search needs in
+    line-taken _ _ _ _ _ h r _ _ (c .before .before .before .before .before .before .work-of .ensures) (c .before .before .before .before .before .take .ensures .0) (c .before .before .if4 .left) (same ∙ c .before .number2 .ensures)
+    (c .raised .ensures ∙ ap (λ (k : ℕ). raised (c .before .before .before .before .before .before .before .before .before .before .before .before .before .before .before .before .before .before .args .t) k 1) (c .before .before .before .before .before .before .before .before .before .place-of .ensures))
+
+pub step-by-spec : {M : Type 1} → statement M
+step-by-spec =
+    tie.close
+    (tie.spec
+    image-refusal-requires
+    refused-requires
+    same-length
+    returns
+    read-step-requires
+    cast-refused
+    refused-requires-2
+    same-length-2
+    returns-2
+    place-of-requires
+    drain-requires
+    number-requires
+    drained-requires
+    same-length-3
+    returns-3
+    work-of-requires
+    take-requires
+    refused-requires-3
+    same-length-4
+    returns-4
+    number-requires-2
+    raised-requires
+    same-length-5
+    returns-5)
