@@ -1,3 +1,4 @@
 pub mod Entering
 pub mod Calling
 pub mod Stepping
+pub mod Claiming

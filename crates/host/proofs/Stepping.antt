@@ -180,8 +180,8 @@ module _ (image after line : List ℕ) (t : Tally) (c : StepLine) (h : ImageOf i
       let s : Session = sessionOf image in
       let is : stepOf c ≡ drains = drain-form (c .kind) (c .at) (c .unit) (c .after) p in
       let all : u ≡ counted t ((drain s) .took) =
-          q ∙ (λ i. raised (raised (raised (raised t 0 (d .counts .admits i)) 1 (d .counts .realises i)) 2 (d .counts .moves i)) 3 (d .counts .finishes i))
-          ∙ counted-at-once t ((drain s) .took) (drain-works (suc (weightOf s)) s) in
+      q ∙ (λ i. raised (raised (raised (raised t 0 (d .counts .admits i)) 1 (d .counts .realises i)) 2 (d .counts .moves i)) 3 (d .counts .finishes i))
+      ∙ counted-at-once t ((drain s) .took) (drain-works (suc (weightOf s)) s) in
       served s h drains (subst (IsStep line) is (r .text)) (λ i. record { answer = a i; image = d .image i; tally = all i })
 
   module _ (w : Step) (n : ℕ) (is : work w ≡ stepOf c) (s : Serves (step w (sessionOf image)) image after n) where

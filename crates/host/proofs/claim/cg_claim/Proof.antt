@@ -1,0 +1,30 @@
+-- The answer as a number.
+-- Assumes nothing.
+use mathlib.Core.Path.{_≡_, _∙_}
+use mir.Syntax.{w64}
+use mir.Val.{toZ, ofZ}
+use Rattle.host.proofs.Claiming.{claim-answer}
+use borrow.Author.Needs.{needs}
+use Rattle.host.proofs.claim.cg_claim.Statement.{statement}
+use Rattle.host.proofs.claim.cg_claim.Tie as tie
+
+claim-line-requires : tie.Need-claim-line-requires
+claim-line-requires c κs = search needs
+
+number-requires : tie.Need-number-requires
+number-requires c κs = search needs
+
+same-length : tie.Need-same-length
+same-length c = search needs
+
+same-length-2 : tie.Need-same-length-2
+same-length-2 c = search needs
+
+returns : tie.Need-returns
+returns c =
+    let same : toZ w64 (ofZ w64 (c .number .result)) ≡ c .number .result = search needs in
+    claim-answer (same ∙ c .number .ensures) (c .before .before .before .before .before .claim-line .ensures)
+
+pub cg-claim-spec : {M : Type 1} → statement M
+cg-claim-spec =
+    tie.close (tie.spec claim-line-requires number-requires same-length same-length-2 returns)
