@@ -3,6 +3,7 @@ pub mod Striking
 pub mod AffineLaws
 pub mod KeyLaws
 pub mod SwapTable
+pub mod Tasks
 pub mod Effects
 pub mod Outcome
 pub mod Meeting
