@@ -33,7 +33,8 @@ returns c =
     let q = held (a .args .image .now) .queue in
     let t = c .before .before .task-at in
     let s = c .before .same in
-    found (ruleHolds (a .args .task) (a .args .k)) q (a .args .h) (a .args .e) (a .pre .2) (l .loop .i) (l .loop .inv .1) (omega arith) (rule-told (a .args .task) (a .args .k) (getD q (l .loop .i) noOp) (t .result) (s .result) (t .ensures) (s .ensures) ∙ c .if1 .taken)
+    let told = rule-told (a .args .task) (a .args .k) (getD q (l .loop .i) noOp) (t .result) (s .result) (t .ensures) (s .ensures) in
+    found (ruleHolds (a .args .task) (a .args .k)) q (a .args .h) (a .args .e) (a .pre .2) (l .loop .i) (l .loop .inv .1) (omega arith) (told ∙ c .if1 .taken)
 
 add-i : tie.Need-add-i Inv-loop μ-loop
 add-i c = search needs
@@ -48,7 +49,8 @@ loop-again c =
     let q = held (a .args .image .now) .queue in
     let t = c .before .before .task-at in
     let s = c .before .same in
-    (omega arith, passed (ruleHolds (a .args .task) (a .args .k)) q (a .args .h) (a .args .e) (a .pre .2) (l .loop .i) (l .loop .inv .1) (omega arith) (rule-told (a .args .task) (a .args .k) (getD q (l .loop .i) noOp) (t .result) (s .result) (t .ensures) (s .ensures) ∙ c .if1 .left))
+    let told = rule-told (a .args .task) (a .args .k) (getD q (l .loop .i) noOp) (t .result) (s .result) (t .ensures) (s .ensures) in
+    (omega arith, passed (ruleHolds (a .args .task) (a .args .k)) q (a .args .h) (a .args .e) (a .pre .2) (l .loop .i) (l .loop .inv .1) (omega arith) (told ∙ c .if1 .left))
 
 returns-2 : tie.Need-returns-2 Inv-loop μ-loop
 returns-2 c =
