@@ -45,7 +45,7 @@ loop-again c =
     let x = c .result-len-at .ensures in
     let xs = held (l .before .before .before .args .image .now) .results in
     let h : l .loop .i < length xs = omega (arith, l .before .total .ensures .is) in
-    (omega arith, omega (arith, l .loop .inv .1, x .few), omega (arith, length-next xs (l .loop .i) noResult h resultText, x .text, l .loop .inv .2))
+    (omega arith, omega (arith, l .loop .inv .1, x .few), omega (arith, length-next resultText xs (l .loop .i) noResult h, x .text, l .loop .inv .2))
 
 returns : tie.Need-returns Inv-loop μ-loop
 returns c =

@@ -1,13 +1,11 @@
 -- The three counts are the flat session's.
 -- Assumes nothing.
-use Prim.Native.Nat.{ℕ, _≤_}
-use mathlib.Core.Path.{_≡_, ap, subst}
-use mathlib.Core.List.{List}
+use mathlib.Core.Path.{ap}
 use native.Mathlib.Omega.{arith}
 use lib.ListN.{length}
-use Rattle.text.specs.Text.{Written}
 use Rattle.state.specs.State.{held}
 use Rattle.listing.proofs.Counted.{head-counted}
+use Rattle.listing.proofs.Rows.{written-as}
 use borrow.Author.Needs.{needs}
 use Rattle.listing.proofs.write.put_counts.Statement.{statement}
 use Rattle.listing.proofs.write.put_counts.Tie as tie
@@ -44,7 +42,7 @@ returns c =
     let l = c .before .before .before .before in
     let a = l .before .before .before .before .before .args in
     let w = c .before .before .put-head in
-    subst (λ (t : List ℕ). Written (a .out .now) 0 t _ (w .result)) (head-counted (held (a .image .now)) (l .before .before .total .ensures .is) (l .before .total2 .ensures .is) (l .labels-waiting .ensures .is)) (w .ensures)
+    written-as (head-counted (held (a .image .now)) (l .before .before .total .ensures .is) (l .before .total2 .ensures .is) (l .labels-waiting .ensures .is)) (w .ensures)
 
 pub put-counts-spec : {M : Type 1} → statement M
 put-counts-spec =

@@ -1,13 +1,11 @@
 -- Three texts, one after another.
 -- Assumes nothing.
-use Prim.Native.Nat.{ℕ}
-use mathlib.Core.Path.{subst}
-use mathlib.Core.List.{List, reverse}
-use Rattle.text.specs.Text.{Written}
+use mathlib.Core.List.{reverse}
 use Rattle.text.proofs.Pasting.{written-room, written-then}
 use Rattle.print.specs.Printed.{texts, nodeText, resultText}
 use Rattle.state.specs.State.{held}
 use Rattle.listing.proofs.Counted.{listing-held, fitting}
+use Rattle.listing.proofs.Rows.{written-as}
 use borrow.Author.Needs.{needs}
 use Rattle.listing.proofs.write.put_listing.Statement.{statement}
 use Rattle.listing.proofs.write.put_listing.Tie as tie
@@ -42,7 +40,7 @@ returns c =
     let w = v .before .before .before .before in
     let s = w .before .before .before .before in
     let fits = fitting (s .args .image .now) (s .pre .0) (s .pre .1) in
-    subst (λ (t : List ℕ). Written (s .args .out .now) 0 t _ (u .put-results .result)) (listing-held (s .args .image .now) (s .pre .0))
+    written-as (listing-held (s .args .image .now) (s .pre .0))
     (written-then (written-then (w .put-counts .ensures) (v .put-nodes .ensures) (fits .nodes)) (u .put-results .ensures) (fits .all))
 
 pub put-listing-spec : {M : Type 1} → statement M

@@ -1,14 +1,14 @@
 -- A struct's line is its node's.
 -- Assumes nothing.
 use Prim.Native.Nat.{_+_, _≤_}
-use mathlib.Core.Path.{sym, subst}
+use mathlib.Core.Path.{sym, ap, subst}
 use lib.ListN.{length, getD}
 use Rattle.graph.specs.Nodes.{Node}
-use Rattle.text.specs.Text.{Written}
 use Rattle.worksteps.specs.FlatSteps.{noNode}
 use Rattle.print.specs.Printed.{nodeText}
 use Rattle.state.specs.State.{held}
 use Rattle.listing.proofs.Counted.{body-node}
+use Rattle.listing.proofs.Rows.{written-as}
 use borrow.Author.Needs.{needs}
 use Rattle.listing.proofs.write.put_node_at.Statement.{statement}
 use Rattle.listing.proofs.write.put_node_at.Tie as tie
@@ -34,7 +34,7 @@ returns c =
     let w = c .before .before .put-node in
     let x = c .before .before .before .before .before .before .body-at in
     let a = c .before .before .before .before .before .before .before .before .before .args in
-    subst (λ (y : Node). Written (a .out .now) (a .at) (nodeText y) _ (w .result)) (body-node (getD (held (a .image .now) .nodes) (a .i) noNode) (x .result) (x .ensures)) (w .ensures)
+    written-as (ap nodeText (body-node (getD (held (a .image .now) .nodes) (a .i) noNode) (x .result) (x .ensures))) (w .ensures)
 
 pub put-node-at-spec : {M : Type 1} → statement M
 put-node-at-spec = tie.close (tie.spec body-at-requires cast-put-node put-node-requires same-length returns)

@@ -1,7 +1,7 @@
 -- The loop's invariant: the lines from place i on are written, the last of them first.
 -- Assumes nothing.
 use Prim.Native.Nat.{ℕ, suc, _-_, _≤_, _<_}
-use mathlib.Core.Path.{_≡_, refl, sym, ap, subst, _∙_}
+use mathlib.Core.Path.{_≡_, refl, sym, ap, _∙_}
 use mathlib.Core.List.{List, reverse}
 use native.Mathlib.Omega.{arith}
 use lib.ListN.{length, drop, drop-of-length-le}
@@ -11,7 +11,7 @@ use Rattle.text.proofs.Pasting.{written-none}
 use Rattle.worksteps.specs.FlatSteps.{noNode}
 use Rattle.print.specs.Printed.{texts, nodeText}
 use Rattle.state.specs.State.{held}
-use Rattle.listing.proofs.Rows.{row-room, row-more, back-whole, back-next}
+use Rattle.listing.proofs.Rows.{written-as, back-room, back-more}
 use borrow.Author.Needs.{needs}
 use Rattle.listing.proofs.write.put_nodes.Statement.{statement}
 use Rattle.listing.proofs.write.put_nodes.Tie as tie
@@ -31,7 +31,7 @@ loop-holds c =
     let n = c .total .ensures in
     let xs = held (a .image .now) .nodes in
     let h : length xs ≤ c .total .result = omega (arith, n .is) in
-    (refl, omega (arith, n .is), subst (λ (ys : List Node). Written (a .out .now) (a .at) (texts nodeText (reverse ys)) (a .out .now) (a .at)) (sym (drop-of-length-le xs h)) (written-none (a .out .now) (a .at)))
+    (refl, omega (arith, n .is), written-as (ap (λ (ys : List Node). texts nodeText (reverse ys)) (sym (drop-of-length-le xs h))) (written-none (a .out .now) (a .at)))
 
 sub-i : tie.Need-sub-i Inv-loop μ-loop
 sub-i c = search needs
@@ -44,7 +44,7 @@ put-node-at-requires c κs =
     let j : ℕ = l .loop .i in
     let e : suc (j - 1) ≡ j = omega (arith, c .before .loop-test .taken) in
     let h : j - 1 < length xs = omega (arith, l .loop .inv .1) in
-    (st .pre .0, h, row-room nodeText (back-whole xs (j - 1) j noNode h e) (st .pre .1) (l .loop .inv .2))
+    (st .pre .0, h, back-room nodeText xs (j - 1) j noNode h e (st .pre .1) (l .loop .inv .2))
 
 loop-less : tie.Need-loop-less Inv-loop μ-loop
 loop-less c = search needs
@@ -58,8 +58,7 @@ loop-again c =
     let j : ℕ = l .loop .i in
     let e : suc (j - 1) ≡ j = omega (arith, w .before .before .loop-test .taken) in
     let h : j - 1 < length xs = omega (arith, l .loop .inv .1) in
-    let more = row-more nodeText (back-whole xs (j - 1) j noNode h e) (st .pre .1) (l .loop .inv .2) (w .put-node-at .ensures) in
-    (w .put-node-at .kept .0 ∙ l .loop .inv .0, omega arith, subst (λ (ys : List Node). Written (st .args .out .now) (st .args .at) (texts nodeText ys) _ (w .put-node-at .result)) (sym (back-next xs (j - 1) j noNode h e)) more)
+    (w .put-node-at .kept .0 ∙ l .loop .inv .0, omega arith, back-more nodeText xs (j - 1) j noNode h e (st .pre .1) (l .loop .inv .2) (w .put-node-at .ensures))
 
 same-length : tie.Need-same-length Inv-loop μ-loop
 same-length c = search needs
@@ -69,7 +68,7 @@ returns c =
     let l = c .before in
     let a = l .before .before .before .before .args in
     let z : l .loop .i ≡ 0 = omega (arith, c .loop-test .left) in
-    subst (λ (j : ℕ). Written (a .out .now) (a .at) (texts nodeText (reverse (drop j (held (a .image .now) .nodes)))) (l .loop .out) (l .loop .p)) z (l .loop .inv .2)
+    written-as (ap (λ (j : ℕ). texts nodeText (reverse (drop j (held (a .image .now) .nodes)))) z) (l .loop .inv .2)
 
 pub put-nodes-spec : {M : Type 1} → statement M
 put-nodes-spec = tie.close (tie.spec Inv-loop μ-loop total-requires loop-holds sub-i put-node-at-requires loop-less loop-again same-length returns)

@@ -1,14 +1,14 @@
 -- A struct's line is its result's.
 -- Assumes nothing.
 use Prim.Native.Nat.{_+_, _≤_}
-use mathlib.Core.Path.{sym, subst}
+use mathlib.Core.Path.{sym, ap, subst}
 use lib.ListN.{length, getD}
 use Rattle.graph.specs.Nodes.{Result}
-use Rattle.text.specs.Text.{Written}
 use Rattle.state.specs.Results.{noResult}
 use Rattle.print.specs.Printed.{resultText}
 use Rattle.state.specs.State.{held}
 use Rattle.listing.proofs.Counted.{outcome-result}
+use Rattle.listing.proofs.Rows.{written-as}
 use borrow.Author.Needs.{needs}
 use Rattle.listing.proofs.write.put_result_at.Statement.{statement}
 use Rattle.listing.proofs.write.put_result_at.Tie as tie
@@ -34,7 +34,7 @@ returns c =
     let w = c .before .before .put-result in
     let x = c .before .before .before .before .before .before .outcome-at in
     let a = c .before .before .before .before .before .before .before .before .before .args in
-    subst (λ (y : Result). Written (a .out .now) (a .at) (resultText y) _ (w .result)) (outcome-result (getD (held (a .image .now) .results) (a .i) noResult) (x .result) (x .ensures)) (w .ensures)
+    written-as (ap resultText (outcome-result (getD (held (a .image .now) .results) (a .i) noResult) (x .result) (x .ensures))) (w .ensures)
 
 pub put-result-at-spec : {M : Type 1} → statement M
 put-result-at-spec = tie.close (tie.spec outcome-at-requires cast-put-result put-result-requires same-length returns)

@@ -1,18 +1,16 @@
 -- The loop's invariant: the lines before place i are written.
 -- Assumes nothing.
 use Prim.Native.Nat.{_-_, _≤_, _<_}
-use mathlib.Core.Path.{_≡_, refl, sym, subst, _∙_}
-use mathlib.Core.List.{List}
+use mathlib.Core.Path.{_≡_, refl, ap, _∙_}
 use native.Mathlib.Omega.{arith}
 use lib.ListN.{length, take}
 use lib.Seq.{take-all}
-use Rattle.graph.specs.Nodes.{Result}
 use Rattle.text.specs.Text.{Written}
 use Rattle.text.proofs.Pasting.{written-none}
 use Rattle.print.specs.Printed.{texts, resultText}
 use Rattle.state.specs.State.{held}
 use Rattle.state.specs.Results.{noResult}
-use Rattle.listing.proofs.Rows.{row-room, row-more, front-whole, front-next}
+use Rattle.listing.proofs.Rows.{written-as, front-room, front-more}
 use borrow.Author.Needs.{needs}
 use Rattle.listing.proofs.write.put_results.Statement.{statement}
 use Rattle.listing.proofs.write.put_results.Tie as tie
@@ -38,7 +36,7 @@ put-result-at-requires c κs =
     let st = l .before .before .before .before in
     let xs = held (st .args .image .now) .results in
     let h = inside l (c .before .loop-test .taken) in
-    (st .pre .0, h, row-room resultText (front-whole xs (l .loop .i) noResult h) (st .pre .1) (l .loop .inv .1))
+    (st .pre .0, h, front-room resultText xs (l .loop .i) noResult h (st .pre .1) (l .loop .inv .1))
 
 add-i : tie.Need-add-i Inv-loop μ-loop
 add-i c = search needs
@@ -53,8 +51,7 @@ loop-again c =
     let st = l .before .before .before .before in
     let xs = held (st .args .image .now) .results in
     let h = inside l (w .before .before .loop-test .taken) in
-    let more = row-more resultText (front-whole xs (l .loop .i) noResult h) (st .pre .1) (l .loop .inv .1) (w .put-result-at .ensures) in
-    (w .put-result-at .kept .0 ∙ l .loop .inv .0, subst (λ (ys : List Result). Written (st .args .out .now) (st .args .at) (texts resultText ys) _ (w .put-result-at .result)) (sym (front-next xs (l .loop .i) noResult h)) more)
+    (w .put-result-at .kept .0 ∙ l .loop .inv .0, front-more resultText xs (l .loop .i) noResult h (st .pre .1) (l .loop .inv .1) (w .put-result-at .ensures))
 
 same-length : tie.Need-same-length Inv-loop μ-loop
 same-length c = search needs
@@ -65,7 +62,7 @@ returns c =
     let a = l .before .before .before .before .args in
     let xs = held (a .image .now) .results in
     let h : length xs ≤ l .loop .i = omega (arith, l .before .total .ensures .is) in
-    subst (λ (ys : List Result). Written (a .out .now) (a .at) (texts resultText ys) (l .loop .out) (l .loop .p)) (take-all (l .loop .i) xs h) (l .loop .inv .1)
+    written-as (ap (texts resultText) (take-all (l .loop .i) xs h)) (l .loop .inv .1)
 
 pub put-results-spec : {M : Type 1} → statement M
 put-results-spec = tie.close (tie.spec Inv-loop μ-loop total-requires loop-holds put-result-at-requires add-i loop-less loop-again same-length returns)
