@@ -31,11 +31,12 @@ fn put_nodes(out: &mut [u8], at: usize, image: &[u8]) -> usize
     requires { ⌜ (Proper (now image)) × (at + length (texts nodeText (reverse (held (now image) .nodes))) ≤ length (now out)) ⌝ }
     ensures { λ r. ⌜ Written (now (out .entry)) at (texts nodeText (reverse (held (now (image .entry)) .nodes))) (now (out .exit)) r ⌝ }
 {
-    let mut i = nodes::total(image);
+    let n = nodes::total(image);
     let mut p = at;
-    while i > 0 {
-        i -= 1;
-        p = put_node_at(out, p, image, i);
+    let mut i: usize = 0;
+    while i < n {
+        i += 1;
+        p = put_node_at(out, p, image, n - i);
     }
     p
 }

@@ -3,7 +3,6 @@
 use mathlib.Core.Path.{subst}
 use mathlib.Core.List.{List}
 use Prim.Native.Nat.{ℕ}
-use native.Mathlib.Omega.{arith}
 use Rattle.print.specs.Lengths.{LineLength}
 use Rattle.state.specs.State.{held}
 use Rattle.listing.proofs.Counted.{head-counted}
@@ -21,13 +20,13 @@ labels-waiting-requires : tie.Need-labels-waiting-requires
 labels-waiting-requires c κs = search needs
 
 cast-head-len : tie.Need-cast-head-len
-cast-head-len c = omega (arith, c .before .before .total .ensures .within)
+cast-head-len c = search needs
 
 cast-head-len-2 : tie.Need-cast-head-len-2
-cast-head-len-2 c = omega (arith, c .before .total2 .ensures .within)
+cast-head-len-2 c = search needs
 
 cast-head-len-3 : tie.Need-cast-head-len-3
-cast-head-len-3 c = omega (arith, c .labels-waiting .ensures .within)
+cast-head-len-3 c = search needs
 
 head-len-requires : tie.Need-head-len-requires
 head-len-requires c κs = search needs

@@ -20,13 +20,13 @@ labels-waiting-requires : tie.Need-labels-waiting-requires
 labels-waiting-requires c κs = search needs
 
 cast-put-head : tie.Need-cast-put-head
-cast-put-head c = omega (arith, c .before .before .before .total .ensures .within)
+cast-put-head c = search needs
 
 cast-put-head-2 : tie.Need-cast-put-head-2
-cast-put-head-2 c = omega (arith, c .before .before .total2 .ensures .within)
+cast-put-head-2 c = search needs
 
 cast-put-head-3 : tie.Need-cast-put-head-3
-cast-put-head-3 c = omega (arith, c .before .labels-waiting .ensures .within)
+cast-put-head-3 c = search needs
 
 put-head-requires : tie.Need-put-head-requires
 put-head-requires c κs =
