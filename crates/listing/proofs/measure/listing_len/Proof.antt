@@ -5,7 +5,6 @@ use mathlib.Core.Path.{ap}
 use lib.ListN.{length}
 use Rattle.state.specs.State.{held}
 use Rattle.listing.proofs.Counted.{flat-length, listing-held}
-use borrow.Author.Needs.{needs}
 use Rattle.listing.proofs.measure.listing_len.Statement.{statement}
 use Rattle.listing.proofs.measure.listing_len.Tie as tie
 
