@@ -5,6 +5,7 @@ pub mod Acts
 pub mod Kinds
 pub mod Packed
 pub mod Calls
+pub mod Tasks
 pub mod Nodes
 pub mod OneAtATime
 pub mod Sessions

@@ -4,8 +4,8 @@ use mathlib.Core.Path.{_≡_, refl, sym, _∙_, ap, subst}
 use Prim.Native.Nat.{ℕ, suc, _+_, _-_, _≤_, _<_}
 use native.Mathlib.Numerals.{add-one}
 use native.Mathlib.Omega.{arith}
-use mathlib.Core.Bool.{Bool, true, false, cond, not, _&&_, _||_, true≢false}
-use mathlib.Core.List.{List, [], _∷_, _++_, map}
+use mathlib.Core.Bool.{Bool, true, false, cond, true≢false}
+use mathlib.Core.List.{List, [], _++_, map}
 use lib.Dec.{eqb, ltb}
 use lib.ListN.{length, take, drop, getD, set, length-append, length-map, length-drop}
 use lib.Seq.{slice, length-slice, length-take-le}
@@ -13,15 +13,18 @@ use borrow.Author.Tests.{lt-ltb, le-ltb}
 use Rattle.graph.specs.declared.act.Act.{Act}
 use Rattle.graph.specs.declared.act.Act.the-variants.{Map, Link, Unlink, Sum, Top, Pick, Near}
 use Rattle.graph.specs.declared.keys.Keys.{Keys}
+use Rattle.graph.specs.declared.task.Task.{Task}
+use Rattle.graph.specs.declared.task.Task.the-variants.{Acts, Finishes, Passes}
 use Rattle.graph.specs.Acts.{isMap, newValue, newLinks, newHeld, answer}
-use Rattle.graph.specs.KeyLists.{isNil, contains}
 use Rattle.graph.specs.Nodes.{Node, Op, Result, actOn, actBy, resultsFor, stored}
+use Rattle.graph.specs.Tasks.{sameTask}
 use Rattle.graph.specs.OneAtATime.{opOf}
 use Rattle.graph.specs.Packed.{listed, packed}
 use Rattle.graph.specs.Sessions.{Session, store}
 use Rattle.graph.proofs.KeyLaws.{listed-packed}
+use Rattle.graph.proofs.Tasks.{acts-exactly, finishes-exactly, passes-exactly}
 use Rattle.queue.specs.Flat.{Tagged, Flat, flat, nest, carried}
-use Rattle.worksteps.specs.FlatSteps.{alter, removeAt, mapFrom, firstIn, noOp, noNode, openAs, withOp, withQueue, opIn, hitsKey, finishesAt, actAt, takeOut, finishPlace}
+use Rattle.worksteps.specs.FlatSteps.{alter, removeAt, mapFrom, firstIn, noOp, noNode, openAs, withOp, withQueue, opIn, taskAt, ruleHolds, actAt, takeOut, finishPlace}
 use Rattle.worksteps.specs.FlatEvents.{labelsIn}
 use Rattle.worksteps.proofs.Turns.{first-stop, first-next, first-end, alter-length, mapFrom-none, mapFrom-next}
 use Rattle.worksteps.proofs.Facts.{labels-room}
@@ -34,21 +37,14 @@ use Rattle.state.specs.State.{held, Proper, Shows, withNodes, withResults}
 use Rattle.live.specs.Live.{Live}
 use Rattle.headsteps.specs.Heads.{bodyValue, handOn}
 
--- WHICH MAY FINISH
-module _ (k : ℕ) (x : Tagged) where
-  pub finishes-bare : length (opIn x .targets) ≡ 0 → finishesAt k x ≡ true
-  finishes-bare e = go (opIn x .targets) e
-    where
-      go : (l : List ℕ) → length l ≡ 0 → (isNil l || (eqb k 1 && not (contains k l))) ≡ true
-      go [] e = refl
-      go (t ∷ l) e = absurd (omega arith)
+-- WHICH TASK RULE HOLDS
+rule-holds : (t : Task) (k : ℕ) (x : Tagged) → sameTask t (taskAt k x) ≡ ruleHolds t k x
+rule-holds Acts k x = acts-exactly (opIn x) (record { key = k; value = 0; links = [] }) (eqb k 1)
+rule-holds Finishes k x = finishes-exactly (opIn x) (record { key = k; value = 0; links = [] }) (eqb k 1)
+rule-holds Passes k x = passes-exactly (opIn x) (record { key = k; value = 0; links = [] }) (eqb k 1)
 
-  pub finishes-other : (length (opIn x .targets) ≡ 0 → ⊥) → finishesAt k x ≡ (eqb k 1 && not (hitsKey k x))
-  finishes-other n = go (opIn x .targets) n
-    where
-      go : (l : List ℕ) → (length l ≡ 0 → ⊥) → (isNil l || (eqb k 1 && not (contains k l))) ≡ (eqb k 1 && not (contains k l))
-      go [] n = absurd (n refl)
-      go (t ∷ l) n = refl
+pub rule-told : (t : Task) (k : ℕ) (x : Tagged) (found : Task) (b : Bool) → found ≡ taskAt k x → b ≡ sameTask t found → ruleHolds t k x ≡ b
+rule-told t k x found b at same = sym (same ∙ ap (sameTask t) at ∙ rule-holds t k x)
 
 -- A SEARCH from h, which is at i
 abbrev pub Searched : (Tagged → Bool) → List Tagged → ℕ → ℕ → ℕ → Type 0

@@ -1,5 +1,7 @@
 // Steps on a station's head unit: realise, move, finish.
 use graph::act;
+use graph::task::Task;
+use graph::task::task_of;
 use state::nodes;
 use state::nodes::Body;
 use state::operation::Operation;
@@ -13,7 +15,7 @@ ghost use Rattle.graph.specs.Nodes.{actBy};
 ghost use Rattle.graph.specs.OneAtATime.{opOf};
 ghost use Rattle.graph.specs.Steps.{realise, move, finish};
 ghost use Rattle.queue.specs.Flat.{isOp};
-ghost use Rattle.worksteps.specs.FlatSteps.{noOp, noNode, moveTo, mapFrom, firstIn, withQueue, hitsKey, finishesAt, actAt, takeOut, finishPlace, known, flatStep};
+ghost use Rattle.worksteps.specs.FlatSteps.{noOp, noNode, moveTo, mapFrom, firstIn, withQueue, taskAt, ruleHolds, actAt, takeOut, finishPlace, known, flatStep};
 ghost use Rattle.state.specs.Operations.{opValue, Normal, Carries, Bounded};
 ghost use Rattle.state.specs.State.{held, Proper, Shows};
 ghost use Rattle.live.specs.Live.{Live, Works};
@@ -31,51 +33,24 @@ pub fn is_known(image: &[u8], k: u8) -> bool
     k as usize <= n
 }
 
-fn hits_at(image: &[u8], k: u8, i: usize) -> bool
+// The task rule that holds for the operation at i, at the station with key k.
+fn task_at(image: &[u8], k: u8, i: usize) -> Task
     requires { ⌜ (Proper (now image)) × (i < length (held (now image) .queue)) ⌝ }
-    ensures { λ r. ⌜ r ≡ hitsKey k (getD (held (now (image .entry)) .queue) i noOp) ⌝ }
+    ensures { λ r. ⌜ r ≡ taskAt k (getD (held (now (image .entry)) .queue) i noOp) ⌝ }
 {
     let targets = ops::targets_at(image, i);
-    targets.contains(k)
+    task_of(targets, k, k == 1)
 }
 
-fn finishes_at(image: &[u8], k: u8, i: usize) -> bool
-    requires { ⌜ (Proper (now image)) × (i < length (held (now image) .queue)) ⌝ }
-    ensures { λ r. ⌜ r ≡ finishesAt k (getD (held (now (image .entry)) .queue) i noOp) ⌝ }
-{
-    let targets = ops::targets_at(image, i);
-    if targets.len() == 0 {
-        return true;
-    }
-    if k != 1 {
-        return false;
-    }
-    !targets.contains(k)
-}
-
-// The first operation from h up to e that targets the node with key k; e where there is none.
-pub fn first_hit(image: &[u8], k: u8, h: usize, e: usize) -> usize
+// The first operation from h up to e that this task rule holds for, at the station with key k; e where there is none.
+pub fn first_for(image: &[u8], task: Task, k: u8, h: usize, e: usize) -> usize
     requires { ⌜ (Proper (now image)) × (h ≤ e) × (e ≤ length (held (now image) .queue)) ⌝ }
-    ensures { λ r. ⌜ Bounded (firstIn (hitsKey k) h e (held (now (image .entry)) .queue)) e r ⌝ }
+    ensures { λ r. ⌜ Bounded (firstIn (ruleHolds task k) h e (held (now (image .entry)) .queue)) e r ⌝ }
 {
     let mut i = h;
     while i < e {
-        if hits_at(image, k, i) {
-            return i;
-        }
-        i += 1;
-    }
-    e
-}
-
-// The first operation from h up to e that may finish at the station with key k; e where there is none.
-pub fn first_finish(image: &[u8], k: u8, h: usize, e: usize) -> usize
-    requires { ⌜ (Proper (now image)) × (h ≤ e) × (e ≤ length (held (now image) .queue)) ⌝ }
-    ensures { λ r. ⌜ Bounded (firstIn (finishesAt k) h e (held (now (image .entry)) .queue)) e r ⌝ }
-{
-    let mut i = h;
-    while i < e {
-        if finishes_at(image, k, i) {
+        let found = task_at(image, k, i);
+        if task.same(found) {
             return i;
         }
         i += 1;
@@ -209,7 +184,7 @@ pub fn realise(image: &mut [u8], k: u8) -> u32
     if u.refusal != 0 {
         return u.refusal;
     }
-    let p = first_hit(image, k, u.start, u.end);
+    let p = first_for(image, Task::Acts, k, u.start, u.end);
     if p == u.end {
         return 22;
     }
@@ -226,7 +201,7 @@ pub fn finish(image: &mut [u8], k: u8) -> u32
     if u.refusal != 0 {
         return u.refusal;
     }
-    let p = first_finish(image, k, u.start, u.end);
+    let p = first_for(image, Task::Finishes, k, u.start, u.end);
     if p == u.end {
         return 22;
     }
@@ -246,7 +221,7 @@ pub fn move_on(image: &mut [u8], k: u8) -> u32
     if k == 1 {
         return 22;
     }
-    if first_hit(image, k, u.start, u.end) < u.end {
+    if first_for(image, Task::Acts, k, u.start, u.end) < u.end {
         return 22;
     }
     move_unit(image, k, u.start, u.end);

@@ -1,43 +1,16 @@
--- The listing: how it grows by a line, the length that it needs, and document 01's own listing, computed.
+-- The listing: how it grows by a line, and document 01's own listing, computed.
 -- Assumes nothing.
-use Prim.Native.Nat.{ℕ, _+_, _*_, _≤_}
-use native.Mathlib.Omega.{arith}
+use Prim.Native.Nat.{ℕ}
 use mathlib.Core.Path.{_≡_, refl, sym, ap, _∙_}
 use mathlib.Core.List.{List, [], _∷_, _++_, append-assoc}
-use lib.ListN.{length, length-append}
 use Rattle.graph.specs.Nodes.{Node, Result}
-use Rattle.graph.specs.Valid.{Each}
 use Rattle.text.specs.Text.{ascii, digits, decimal, further, commas}
-use Rattle.print.specs.Printed.{texts, newline, nodeText, resultText, headText, listingText, refusalText}
-use Rattle.print.specs.Lengths.{lengths}
+use Rattle.print.specs.Printed.{texts, newline, listingText, refusalText}
 
 pub texts-append : {A : Type 0} (text : A → List ℕ) (xs ys : List A) → texts text (xs ++ ys) ≡ texts text xs ++ texts text ys
 texts-append text [] ys = refl
 texts-append text (x ∷ xs) ys =
     ap (λ (r : List ℕ). text x ++ r) (texts-append text xs ys) ∙ sym (append-assoc (text x) (texts text xs) (texts text ys))
-
-texts-length : {A : Type 0} (text : A → List ℕ) (xs : List A) → length (texts text xs) ≡ lengths text xs
-texts-length text [] = refl
-texts-length text (x ∷ xs) = omega (arith, length-append (text x) (texts text xs), texts-length text xs)
-
--- the length that a listing needs: the head's and its lines', added up
-pub listing-length : (nodes : List Node) (results : List Result) (pending : ℕ)
-    → length (listingText nodes results pending) ≡ length (headText (length nodes) (length results) pending) + (lengths nodeText nodes + lengths resultText results)
-listing-length nodes results pending =
-    let head = headText (length nodes) (length results) pending in
-    let all : length (listingText nodes results pending) ≡ length (head ++ texts nodeText nodes) + length (texts resultText results) = length-append (head ++ texts nodeText nodes) (texts resultText results) in
-    omega (
-      arith,
-      all,
-      length-append head (texts nodeText nodes),
-      texts-length nodeText nodes,
-      texts-length resultText results,
-    )
-
--- lines that are short (`LineLength`) make a listing that is
-pub lengths-few : {A : Type 0} (text : A → List ℕ) (xs : List A) → Each (λ (x : A). length (text x) ≤ 128) xs → lengths text xs ≤ 128 * length xs
-lengths-few text [] f = omega arith
-lengths-few text (x ∷ xs) f = omega (arith, f .0, lengths-few text xs (f .1))
 
 node : ℕ → ℕ → Node
 node key value = record { key = key; value = value; links = [] }

@@ -1,7 +1,7 @@
 -- Lengths of what is written, with the bounds by which their sums fit.
 -- Assumes nothing.
-use Prim.Native.Nat.{ℕ, _+_, _≤_}
-use mathlib.Core.List.{List, [], _∷_}
+use Prim.Native.Nat.{ℕ, _≤_}
+use mathlib.Core.List.{List}
 use mathlib.Core.Path.{_≡_}
 use lib.ListN.{length}
 use Rattle.graph.specs.Packed.{listed}
@@ -21,8 +21,3 @@ pub record KeysLength (keys : Keys) (r : ℕ) : Type 0 where
 pub record LineLength (line : List ℕ) (r : ℕ) : Type 0 where
   pub text : r ≡ length line
   pub few : r ≤ 128
-
--- the length of texts one after another: their lengths, added up
-abbrev pub lengths : {A : Type 0} → (A → List ℕ) → List A → ℕ
-lengths text [] = 0
-lengths text (x ∷ xs) = length (text x) + lengths text xs

@@ -1,9 +1,9 @@
 // Drain: its steps one after another, by its rule, until none is pending.
 use calls::admit::admit;
+use graph::task::Task;
 use headsteps::act_at;
 use headsteps::finish_at;
-use headsteps::first_finish;
-use headsteps::first_hit;
+use headsteps::first_for;
 use headsteps::move_unit;
 use state::ops;
 ghost use Prim.Native.Nat.{_<_};
@@ -27,12 +27,12 @@ fn drain_at(image: &mut [u8], k: u8) -> u8
     ensures { λ r. ⌜ DrainsOne (flatDrainStep (held (now (image .entry)))) (now (image .entry)) (now (image .exit)) r ⌝ }
 {
     let e = ops::unit_end(image, k, 0);
-    let p = first_hit(image, k, 0, e);
+    let p = first_for(image, Task::Acts, k, 0, e);
     if p < e {
         act_at(image, k, p);
         return 1;
     }
-    let q = first_finish(image, k, 0, e);
+    let q = first_for(image, Task::Finishes, k, 0, e);
     if q < e {
         finish_at(image, q, e);
         return 3;

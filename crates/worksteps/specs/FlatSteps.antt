@@ -7,9 +7,12 @@ use mathlib.Core.List.{List, [], _∷_, _++_, map}
 use lib.Dec.{eqb, leb, ltb}
 use lib.ListN.{length, take, drop, getD, set}
 use lib.Seq.{slice}
+use Rattle.graph.specs.declared.task.Task.{Task}
+use Rattle.graph.specs.declared.task.Task.the-variants.{Acts, Finishes, Passes}
 use Rattle.graph.specs.Refusals.{Answer, refused, done, mapDone}
 use Rattle.graph.specs.KeyLists.{isNil, contains}
 use Rattle.graph.specs.Nodes.{Node, Op, actOn, actBy, stored, newNode, addResult}
+use Rattle.graph.specs.Tasks.{taskRule}
 use Rattle.graph.specs.OneAtATime.{Labelled, addOf, opOf}
 use Rattle.graph.specs.Sessions.{store}
 use Rattle.graph.specs.Steps.{Step, admit, realise, move, finish, join, split, swap, fuse, maySwap, mayFuse, fused}
@@ -63,6 +66,20 @@ opIn x = carried (x .call)
 abbrev pub hitsKey : ℕ → Tagged → Bool
 hitsKey k x = contains k (opIn x .targets)
 
+-- has it no targets left, or none here at the last station, whose key is 1?
+abbrev pub finishesAt : ℕ → Tagged → Bool
+finishesAt k x = isNil (opIn x .targets) || (eqb k 1 && not (hitsKey k x))
+
+-- the task rule that holds for it at station k
+abbrev pub taskAt : ℕ → Tagged → Task
+taskAt k x = taskRule (opIn x .targets) k (eqb k 1)
+
+-- is it this one?
+abbrev pub ruleHolds : Task → ℕ → Tagged → Bool
+ruleHolds Acts k x = hitsKey k x
+ruleHolds Finishes k x = finishesAt k x
+ruleHolds Passes k x = not (hitsKey k x || finishesAt k x)
+
 -- a step on the head unit of station k: from index h up to, not including, e
 abbrev pub onHead : ℕ → (ℕ → ℕ → Flat → Answer Flat) → ℕ → Flat → Answer Flat
 onHead k g h f = cond (isAt k h (f .queue)) (g h (endOf k h (f .queue)) f) (refused 21)
@@ -85,9 +102,6 @@ abbrev pub realiseFlat : ℕ → ℕ → ℕ → Flat → Answer Flat
 realiseFlat k h e f = realiseFrom k e (firstIn (hitsKey k) h e (f .queue)) f
 
 -- FINISH
-abbrev pub finishesAt : ℕ → Tagged → Bool
-finishesAt k x = isNil (opIn x .targets) || (eqb k 1 && not (hitsKey k x))
-
 -- the operation at p goes, and hands its mark on to the next of its unit
 abbrev pub takeOut : ℕ → ℕ → Tagged → List Tagged → List Tagged
 takeOut p e x q = removeAt p (cond (ltb (suc p) e) (alter (suc p) (openAs (x .opens)) q) q)

@@ -28,8 +28,8 @@ returns-2 c =
     let at = u .ensures .some (c .before .if1 .left) in
     works-refused 22 (move-last (a .args .image .now) (a .args .k) (u .result .start) (u .result .end) at (c .if2 .taken)) refl
 
-first-hit-requires : tie.Need-first-hit-requires
-first-hit-requires c κs =
+first-for-requires : tie.Need-first-for-requires
+first-for-requires c κs =
     let at = c .before .before .before .before .head-unit .ensures .some (c .before .before .if1 .left) in
     (c .before .before .before .before .before .before .before .pre .proper, omega (arith, at .ends), at .fits)
 
@@ -41,7 +41,7 @@ returns-3 c =
     let a = c .before .before .before .before .before .before .before .before .before .before in
     let u = c .before .before .before .before .before .before .before .head-unit in
     let at = u .ensures .some (c .before .before .before .before .before .if1 .left) in
-    works-refused 22 (move-hit (a .args .image .now) (a .args .k) (u .result .start) (u .result .end) at (c .before .before .before .before .if2 .left) (omega (arith, c .if3 .taken, c .before .before .first-hit .ensures .is))) refl
+    works-refused 22 (move-hit (a .args .image .now) (a .args .k) (u .result .start) (u .result .end) at (c .before .before .before .before .if2 .left) (omega (arith, c .if3 .taken, c .before .before .first-for .ensures .is))) refl
 
 move-unit-requires : tie.Need-move-unit-requires
 move-unit-requires c κs =
@@ -58,7 +58,7 @@ returns-4 c =
     let a = c .before .before .before .before .before .before .before .before .before .before .before .before .before .before in
     let u = c .before .before .before .before .before .before .before .before .before .before .before .head-unit in
     let at = u .ensures .some (c .before .before .before .before .before .before .before .before .before .if1 .left) in
-    works-done _ (move-free (a .args .image .now) (a .args .k) (u .result .start) (u .result .end) at (c .before .before .before .before .before .before .before .before .if2 .left) (omega (arith, c .before .before .before .before .if3 .left, c .before .before .before .before .before .before .first-hit .ensures .is))) (c .before .before .move-unit .ensures)
+    works-done _ (move-free (a .args .image .now) (a .args .k) (u .result .start) (u .result .end) at (c .before .before .before .before .before .before .before .before .if2 .left) (omega (arith, c .before .before .before .before .if3 .left, c .before .before .before .before .before .before .first-for .ensures .is))) (c .before .before .move-unit .ensures)
 
 pub move-on-spec : {M : Type 1} → statement M
 move-on-spec =
@@ -69,7 +69,7 @@ move-on-spec =
     returns
     same-length-2
     returns-2
-    first-hit-requires
+    first-for-requires
     same-length-3
     returns-3
     move-unit-requires

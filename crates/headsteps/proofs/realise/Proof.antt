@@ -20,8 +20,8 @@ same-length c = search needs
 returns : tie.Need-returns
 returns c = works-refused _ (c .before .before .head-unit .ensures .none (c .if1 .taken) (realiseFlat (c .before .before .before .before .before .args .k))) refl
 
-first-hit-requires : tie.Need-first-hit-requires
-first-hit-requires c κs =
+first-for-requires : tie.Need-first-for-requires
+first-for-requires c κs =
     let at = c .before .before .before .head-unit .ensures .some (c .before .if1 .left) in
     (c .before .before .before .before .before .before .pre .proper, omega (arith, at .ends), at .fits)
 
@@ -33,14 +33,14 @@ returns-2 c =
     let a = c .before .before .before .before .before .before .before .before .before in
     let u = c .before .before .before .before .before .before .head-unit in
     let at = u .ensures .some (c .before .before .before .before .if1 .left) in
-    works-refused 22 (realise-none (a .args .image .now) (a .args .k) (u .result .start) (u .result .end) at (omega (arith, c .if2 .taken, c .before .before .first-hit .ensures .is))) refl
+    works-refused 22 (realise-none (a .args .image .now) (a .args .k) (u .result .start) (u .result .end) at (omega (arith, c .if2 .taken, c .before .before .first-for .ensures .is))) refl
 
 act-at-requires : tie.Need-act-at-requires
 act-at-requires c κs =
     let a = c .before .before .before .before .before .before .before .before .before .before in
     let u = c .before .before .before .before .before .before .before .head-unit in
     let at = u .ensures .some (c .before .before .before .before .before .if1 .left) in
-    let p = c .before .before .before .first-hit in
+    let p = c .before .before .before .first-for in
     let high : p .result < u .result .end = omega (arith, c .before .if2 .left, p .ensures .within) in
     let within : p .result < length (held (a .args .image .now) .queue) = omega (arith, at .fits) in
     let op = head-op (a .args .image .now) (a .args .k) (u .result .start) (u .result .end) (p .result) (a .pre) at (omega (arith, p .ensures .is)) high within in
@@ -54,7 +54,7 @@ returns-3 c =
     let a = c .before .before .before .before .before .before .before .before .before .before .before .before .before in
     let u = c .before .before .before .before .before .before .before .before .before .before .head-unit in
     let at = u .ensures .some (c .before .before .before .before .before .before .before .before .if1 .left) in
-    let p = c .before .before .before .before .before .before .first-hit in
+    let p = c .before .before .before .before .before .before .first-for in
     works-done _ (realise-one (a .args .image .now) (a .args .k) (u .result .start) (u .result .end) at (p .result) (p .ensures .is) (omega (arith, c .before .before .before .before .if2 .left, p .ensures .within))) (c .before .before .act-at .ensures)
 
 pub realise-spec : {M : Type 1} → statement M
@@ -64,7 +64,7 @@ realise-spec =
     head-unit-requires
     same-length
     returns
-    first-hit-requires
+    first-for-requires
     same-length-2
     returns-2
     act-at-requires

@@ -14,8 +14,8 @@ use Rattle.session.proofs.drain.drain_at.Tie as tie
 unit-end-requires : tie.Need-unit-end-requires
 unit-end-requires c κs = search needs
 
-first-hit-requires : tie.Need-first-hit-requires
-first-hit-requires c κs = search needs
+first-for-requires : tie.Need-first-for-requires
+first-for-requires c κs = search needs
 
 act-at-requires : tie.Need-act-at-requires
 act-at-requires c κs =
@@ -24,7 +24,7 @@ act-at-requires c κs =
     let image = a .args .image .now in
     let k = a .args .k in
     let at = begins-head image (a .pre .0) k (a .pre .1) (e .result) (e .ensures .is) (e .ensures .within) in
-    let p = c .before .before .first-hit in
+    let p = c .before .before .first-for in
     let within : p .result < length (held image .queue) = omega (arith, c .before .if1 .taken, e .ensures .within) in
     (a .pre .0 .proper, at .node, within, head-op image k 0 (e .result) (p .result) (a .pre .0) at (omega arith) (c .before .if1 .taken) within)
 
@@ -38,11 +38,11 @@ returns c =
     let image = a .args .image .now in
     let k = a .args .k in
     let at = begins-head image (a .pre .0) k (a .pre .1) (e .result) (e .ensures .is) (e .ensures .within) in
-    let p = c .before .before .before .before .before .first-hit in
+    let p = c .before .before .before .before .before .first-for in
     drains-done (takes-realise image (a .pre .0) k (a .pre .1) (e .result) (e .ensures .is) (e .ensures .within) (p .result) (p .ensures .is) (c .before .before .before .before .if1 .taken)) refl (c .before .before .act-at .ensures)
 
-first-finish-requires : tie.Need-first-finish-requires
-first-finish-requires c κs = search needs
+first-for-requires-2 : tie.Need-first-for-requires-2
+first-for-requires-2 c κs = search needs
 
 finish-at-requires : tie.Need-finish-at-requires
 finish-at-requires c κs =
@@ -51,7 +51,7 @@ finish-at-requires c κs =
     let image = a .args .image .now in
     let k = a .args .k in
     let at = begins-head image (a .pre .0) k (a .pre .1) (e .result) (e .ensures .is) (e .ensures .within) in
-    let q = c .before .before .first-finish in
+    let q = c .before .before .first-for2 in
     let within : q .result < length (held image .queue) = omega (arith, c .before .if2 .taken, e .ensures .within) in
     (a .pre .0, c .before .if2 .taken, e .ensures .within, head-op image k 0 (e .result) (q .result) (a .pre .0) at (omega arith) (c .before .if2 .taken) within)
 
@@ -65,8 +65,8 @@ returns-2 c =
     let image = a .args .image .now in
     let k = a .args .k in
     let at = begins-head image (a .pre .0) k (a .pre .1) (e .result) (e .ensures .is) (e .ensures .within) in
-    let p = c .before .before .before .before .before .before .before .before .first-hit in
-    let q = c .before .before .before .before .before .first-finish in
+    let p = c .before .before .before .before .before .before .before .before .first-for in
+    let q = c .before .before .before .before .before .first-for2 in
     drains-done (takes-finish image (a .pre .0) k (a .pre .1) (e .result) (e .ensures .is) (e .ensures .within) (p .result) (q .result) (p .ensures .is) (omega (arith, c .before .before .before .before .before .before .before .if1 .left)) (q .ensures .is) (c .before .before .before .before .if2 .taken)) refl (c .before .before .finish-at .ensures)
 
 move-unit-requires : tie.Need-move-unit-requires
@@ -85,8 +85,8 @@ returns-3 c =
     let image = a .args .image .now in
     let k = a .args .k in
     let at = begins-head image (a .pre .0) k (a .pre .1) (e .result) (e .ensures .is) (e .ensures .within) in
-    let p = c .before .before .before .before .before .before .before .before .first-hit in
-    let q = c .before .before .before .before .before .first-finish in
+    let p = c .before .before .before .before .before .before .before .before .first-for in
+    let q = c .before .before .before .before .before .first-for2 in
     drains-done (takes-move image (a .pre .0) k (a .pre .1) (e .result) (e .ensures .is) (e .ensures .within) (p .result) (q .result) (p .ensures .is) (omega (arith, c .before .before .before .before .before .before .before .if1 .left)) (q .ensures .is) (omega (arith, c .before .before .before .before .if2 .left))) refl (c .before .before .move-unit .ensures)
 
 pub drain-at-spec : {M : Type 1} → statement M
@@ -94,11 +94,11 @@ drain-at-spec =
     tie.close
     (tie.spec
     unit-end-requires
-    first-hit-requires
+    first-for-requires
     act-at-requires
     same-length
     returns
-    first-finish-requires
+    first-for-requires-2
     finish-at-requires
     same-length-2
     returns-2

@@ -1,0 +1,74 @@
+-- The loop's invariant: from h up to i the rule holds for none.
+-- Assumes nothing.
+use mathlib.Core.Path.{refl, _∙_}
+use Prim.Native.Nat.{_-_, _≤_}
+use lib.ListN.{getD}
+use Rattle.worksteps.specs.FlatSteps.{noOp, ruleHolds}
+use Rattle.state.specs.State.{held}
+use Rattle.headsteps.proofs.Parts.{rule-told, Searched, found, passed, ended}
+use borrow.Author.Needs.{needs}
+use native.Mathlib.Omega.{arith}
+use Rattle.headsteps.proofs.first_for.Statement.{statement}
+use Rattle.headsteps.proofs.first_for.Tie as tie
+
+abbrev Inv-loop : tie.InvT-loop
+Inv-loop image task k h e i₀ i = (i ≤ e) × Searched (ruleHolds task k) (held image .queue) h e i
+
+abbrev μ-loop : tie.MeasureT-loop
+μ-loop image task k h e i₀ i = e - i
+
+loop-holds : tie.Need-loop-holds Inv-loop μ-loop
+loop-holds c = (c .before .pre .1, refl)
+
+task-at-requires : tie.Need-task-at-requires Inv-loop μ-loop
+task-at-requires c κs = (c .before .before .before .pre .0, omega (arith, c .before .before .before .pre .2))
+
+same-requires : tie.Need-same-requires Inv-loop μ-loop
+same-requires c κs = search needs
+
+returns : tie.Need-returns Inv-loop μ-loop
+returns c =
+    let l = c .before .before .before .before in
+    let a = l .before .before in
+    let q = held (a .args .image .now) .queue in
+    let t = c .before .before .task-at in
+    let s = c .before .same in
+    let told = rule-told (a .args .task) (a .args .k) (getD q (l .loop .i) noOp) (t .result) (s .result) (t .ensures) (s .ensures) in
+    found (ruleHolds (a .args .task) (a .args .k)) q (a .args .h) (a .args .e) (a .pre .2) (l .loop .i) (l .loop .inv .1) (omega arith) (told ∙ c .if1 .taken)
+
+add-i : tie.Need-add-i Inv-loop μ-loop
+add-i c = search needs
+
+loop-less : tie.Need-loop-less Inv-loop μ-loop
+loop-less c = search needs
+
+loop-again : tie.Need-loop-again Inv-loop μ-loop
+loop-again c =
+    let l = c .before .before .before .before in
+    let a = l .before .before in
+    let q = held (a .args .image .now) .queue in
+    let t = c .before .before .task-at in
+    let s = c .before .same in
+    let told = rule-told (a .args .task) (a .args .k) (getD q (l .loop .i) noOp) (t .result) (s .result) (t .ensures) (s .ensures) in
+    (omega arith, passed (ruleHolds (a .args .task) (a .args .k)) q (a .args .h) (a .args .e) (a .pre .2) (l .loop .i) (l .loop .inv .1) (omega arith) (told ∙ c .if1 .left))
+
+returns-2 : tie.Need-returns-2 Inv-loop μ-loop
+returns-2 c =
+    let l = c .before in
+    let a = l .before .before in
+    ended (ruleHolds (a .args .task) (a .args .k)) (held (a .args .image .now) .queue) (a .args .h) (a .args .e) (a .pre .2) (l .loop .i) (l .loop .inv .1) (omega arith)
+
+pub first-for-spec : {M : Type 1} → statement M
+first-for-spec =
+    tie.close
+    (tie.spec
+    Inv-loop
+    μ-loop
+    loop-holds
+    task-at-requires
+    same-requires
+    returns
+    add-i
+    loop-less
+    loop-again
+    returns-2)

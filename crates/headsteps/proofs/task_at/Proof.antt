@@ -1,0 +1,24 @@
+-- The targets that the image lists are those of the operation.
+-- Assumes nothing.
+use mathlib.Core.Path.{ap, _∙_}
+use Prim.Native.Nat.{ℕ}
+use mathlib.Core.List.{List}
+use lib.Dec.{eqb}
+use Rattle.graph.specs.Tasks.{taskRule}
+use borrow.Author.Needs.{needs}
+use Rattle.headsteps.proofs.task_at.Statement.{statement}
+use Rattle.headsteps.proofs.task_at.Tie as tie
+
+targets-at-requires : tie.Need-targets-at-requires
+targets-at-requires c κs = search needs
+
+task-of-requires : tie.Need-task-of-requires
+task-of-requires c κs = search needs
+
+returns : tie.Need-returns
+returns c =
+    let k = c .before .before .before .args .k in
+    c .task-of .ensures ∙ ap (λ (ts : List ℕ). taskRule ts k (eqb k 1)) (c .before .targets-at .ensures .is)
+
+pub task-at-spec : {M : Type 1} → statement M
+task-at-spec = tie.close (tie.spec targets-at-requires task-of-requires returns)

@@ -1,0 +1,3 @@
+// The listing of the session that a live image holds, measured and written.
+pub mod measure;
+pub mod write;
