@@ -1,11 +1,11 @@
 //! Checks without a seed: each of the host's own refusals, and room.
 
-use product::{LISTING_BYTES, RESULT_BYTES};
+use hosts::{Entry, LISTING_BYTES, RESULT_BYTES};
 use second::random::{session, Random};
 use second::samples::{broken, crowd, rich};
 use second::{image, Outcome, Session, IMAGE_BYTES};
 
-use crate::lent::{Entry, Lent};
+use crate::lent::Lent;
 
 /// A line that is served, one that is refused, and none.
 const FRAMES: [&[u8]; 5] = [b"call=add value=1", b"step=drain", b"claim=1", b"x", b""];

@@ -1,38 +1,7 @@
 //! What an entry is lent, and one call of it compared.
 
-use second::{host, line_at, Tally};
-
-#[derive(Clone, Copy, Debug, PartialEq, Eq)]
-pub enum Entry {
-    Open,
-    Call,
-    Step,
-    Claim,
-    List,
-}
-
-impl Entry {
-    pub const ALL: [Entry; 5] = [
-        Entry::Open,
-        Entry::Call,
-        Entry::Step,
-        Entry::Claim,
-        Entry::List,
-    ];
-    /// Those that read a line.
-    pub const READERS: [Entry; 3] = [Entry::Call, Entry::Step, Entry::Claim];
-
-    /// The entry that cgrun would give a line to.
-    pub fn of(line: &[u8]) -> Entry {
-        if line.starts_with(b"step=") {
-            Entry::Step
-        } else if line.starts_with(b"claim=") {
-            Entry::Claim
-        } else {
-            Entry::Call
-        }
-    }
-}
+use hosts::{Entry, Host, Tally, PRODUCT, SECOND};
+use second::line_at;
 
 /// Bytes before, between and after what is lent: nobody may write them. Their number is odd, so that
 /// no image stands at a place that would suit a machine word.
@@ -70,8 +39,8 @@ impl Lent {
     pub fn serve(&mut self, entry: Entry, frame: &[u8], at: usize) -> Result<i64, String> {
         let before = self.clone();
         let mut expected = self.clone();
-        let answer = self.product(entry, frame, at);
-        let due = expected.second(entry, frame, at);
+        let answer = self.served_by(&PRODUCT, entry, frame, at);
+        let due = expected.served_by(&SECOND, entry, frame, at);
         let told = if answer != due {
             format!("answers {answer}, expected {due}")
         } else if let Some(part) = self.differs(&expected) {
@@ -117,31 +86,9 @@ impl Lent {
         }
     }
 
-    fn parts(&mut self) -> (&mut [u8], &mut [u8], &mut Tally) {
+    fn served_by(&mut self, host: &Host, entry: Entry, frame: &[u8], at: usize) -> i64 {
         let (image, rest) = self.bytes[MARGIN..].split_at_mut(self.image_len);
         let out = &mut rest[MARGIN..][..self.out_len];
-        (image, out, &mut self.tally)
-    }
-
-    fn product(&mut self, entry: Entry, frame: &[u8], at: usize) -> i64 {
-        let (image, out, tally) = self.parts();
-        match entry {
-            Entry::Open => product::open(image),
-            Entry::Call => product::call(image, frame, at),
-            Entry::Step => product::step(image, frame, at, tally),
-            Entry::Claim => product::claim(image, frame, at, out),
-            Entry::List => product::list(image, out),
-        }
-    }
-
-    fn second(&mut self, entry: Entry, frame: &[u8], at: usize) -> i64 {
-        let (image, out, tally) = self.parts();
-        match entry {
-            Entry::Open => host::open(image),
-            Entry::Call => host::call(image, frame, at),
-            Entry::Step => host::step(image, frame, at, tally),
-            Entry::Claim => host::claim(image, frame, at, out),
-            Entry::List => host::list(image, out),
-        }
+        host.serve(entry, image, (frame, at), &mut self.tally, out)
     }
 }

@@ -1,10 +1,10 @@
 //! Checks that take a seed: each does something else for every seed, and the same for one.
 
-use product::{LISTING_BYTES, RESULT_BYTES};
+use hosts::{Entry, LISTING_BYTES, RESULT_BYTES};
 use second::random::{session, Random, Scribe};
 use second::{image, line_at, Session, Tally, IMAGE_BYTES};
 
-use crate::lent::{Entry, Lent};
+use crate::lent::Lent;
 
 const SCRIPT_LINES: usize = 300;
 
