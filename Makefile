@@ -27,7 +27,7 @@ build/libcg.a: target/staticlib/libhost.a
 
 build/libcg.so: build/libcg.a
 	@echo '{ global: cg_*; local: *; };' >build/cg.map
-	@gcc -shared -o $@ -Wl,-soname,libcg.so,--version-script=build/cg.map -Wl,--whole-archive $< -Wl,--no-whole-archive
+	@$(CC) -shared -o $@ -Wl,-soname,libcg.so,--version-script=build/cg.map -Wl,--whole-archive $< -Wl,--no-whole-archive
 
 # Made each time, since PREFIX may be another one.
 build/cg.pc: include/cg.pc.in

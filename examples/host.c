@@ -1,7 +1,9 @@
 /* A game loop over two copies of one scene. Each copy has a scheduler of its own: one drains at the end
  * of every frame, the other takes one step per frame, from the front, and fuses maps where it can.
  * The same calls go to both, so both end with the same listing, and after the same claims with images
- * that are equal byte for byte. Exits with 1 if they don't. */
+ * that are equal byte for byte. Exits with 1 if they don't.
+ *
+ * make lib && cc -Iinclude examples/host.c build/libcg.a -o host && ./host */
 #include <stdio.h>
 #include <string.h>
 

@@ -62,7 +62,7 @@ fn entry_ns(host: &Host, row: &Row) -> f64 {
 
 /// The most that any row of an entry takes.
 fn stack_table(scenes: &[Scene]) {
-    println!("| entry | most stack, bytes |\n|---|---:|");
+    println!("\n| entry | most stack, bytes |\n|---|---:|");
     for entry in hosts::Entry::ALL {
         let rows = scenes.iter().flat_map(|scene| &scene.rows);
         let rows = rows.filter(|row| row.entry == entry);

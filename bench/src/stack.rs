@@ -11,7 +11,7 @@ struct Stack([u8; BYTES]);
 /// The bytes of stack between the caller and the deepest byte that the work wrote, less those that
 /// getting there takes.
 pub fn used(mut work: impl FnMut()) -> usize {
-    painted_over(&mut work) - painted_over(&mut || ())
+    painted_over(&mut work).saturating_sub(painted_over(&mut || ()))
 }
 
 /// Runs the work on a painted stack of its own, twice, so that nothing is bound for the first time.

@@ -5,7 +5,7 @@ use second::random::{session, Random};
 use second::samples::{broken, crowd, rich};
 use second::{image, Outcome, Session, IMAGE_BYTES};
 
-use crate::lent::Lent;
+use crate::lent::{Lent, MET};
 
 /// A line that is served, one that is refused, and none.
 const FRAMES: [&[u8]; 5] = [b"call=add value=1", b"step=drain", b"claim=1", b"x", b""];
@@ -93,6 +93,30 @@ fn listings(bytes: &[u8], length: usize) -> Result<(), String> {
         Lent::new(bytes, room, [0; 8]).expect(due, Entry::List, &[], 0)?;
     }
     Ok(())
+}
+
+/// To be asked last: every entry was met with each of its answers and no other, and every count rose.
+pub fn all_met() -> Result<(), String> {
+    let due: [(Entry, &[i64]); 5] = [
+        (Entry::Open, &[-1, 0]),
+        (Entry::Call, &[-15, -14, -13, -12, -11, -10, -2, -1, 1]),
+        (Entry::Step, &[-22, -21, -20, -11, -10, -2, -1, 0]),
+        (Entry::Claim, &[-33, -32, -31, -30, -10, -2, -1, 1]),
+        (Entry::List, &[-33, -2, -1, 1]),
+    ];
+    let due = due
+        .iter()
+        .flat_map(|(entry, answers)| answers.iter().map(|answer| (*entry, *answer)));
+    MET.with_borrow(|met| {
+        if met.answers.iter().copied().eq(due) && met.kinds.len() == 8 {
+            Ok(())
+        } else {
+            Err(format!(
+                "{:?}, and these counts rose: {:?}",
+                met.answers, met.kinds
+            ))
+        }
+    })
 }
 
 /// The session with the longest result lines and the longest listing.

@@ -8,7 +8,7 @@ pub use second::{Tally, IMAGE_BYTES};
 pub const RESULT_BYTES: usize = 58;
 pub const LISTING_BYTES: usize = 7189;
 
-#[derive(Clone, Copy, Debug, PartialEq, Eq)]
+#[derive(Clone, Copy, Debug, PartialEq, Eq, PartialOrd, Ord)]
 pub enum Entry {
     Open,
     Call,

@@ -1,11 +1,27 @@
 //! What an entry is lent, and one call of it compared.
 
+use std::cell::RefCell;
+use std::collections::BTreeSet;
+
 use hosts::{Entry, Host, Tally, PRODUCT, SECOND};
 use second::line_at;
 
 /// Bytes before, between and after what is lent: nobody may write them. Their number is odd, so that
 /// no image stands at a place that would suit a machine word.
 const MARGIN: usize = 33;
+
+/// What was met so far, so that a run can say that it left nothing out.
+#[derive(Default)]
+pub struct Met {
+    /// Entries with their answers; a label or a length stands as 1.
+    pub answers: BTreeSet<(Entry, i64)>,
+    /// The counts that rose.
+    pub kinds: BTreeSet<usize>,
+}
+
+thread_local! {
+    pub static MET: RefCell<Met> = RefCell::default();
+}
 
 /// An image, an output and a tally. They stand in one block, so that comparing blocks also compares the
 /// bytes around them.
@@ -14,7 +30,7 @@ pub struct Lent {
     bytes: Vec<u8>,
     image_len: usize,
     out_len: usize,
-    pub tally: Tally,
+    tally: Tally,
 }
 
 impl Lent {
@@ -48,6 +64,11 @@ impl Lent {
         } else if answer < 0 && *self != before {
             format!("is refused with {answer}, and changes something")
         } else {
+            MET.with_borrow_mut(|met| {
+                let rose = |kind: &usize| self.tally[*kind] != before.tally[*kind];
+                met.kinds.extend((0..8).filter(rose));
+                met.answers.insert((entry, answer.min(1)));
+            });
             return Ok(answer);
         };
         let line = line_at(frame, at).escape_ascii();

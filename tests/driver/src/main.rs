@@ -63,6 +63,7 @@ impl Count {
         self.check("single bytes", fixed::single_bytes());
         self.check("room", fixed::room());
         self.seeds(0, |count| count);
+        self.check("all answers and steps met", fixed::all_met());
     }
 
     fn soak(&mut self, time: Duration) {
