@@ -66,6 +66,26 @@ pub fn single_bytes() -> Result<(), String> {
     Ok(())
 }
 
+/// A line of 256 bytes is refused for its length alone, and one of 255 for what it says, wherever it ends.
+pub fn long_lines() -> Result<(), String> {
+    let lent = Lent::new(&rich(), 0, [0; 8]);
+    for (length, end) in
+        (240..270).flat_map(|length| [(length, ""), (length, "\n"), (length, "\n1")])
+    {
+        for (first, refusal) in [("1", -12), ("65", -11)] {
+            let mut line = format!("call=unlink key=1 to={first}");
+            while line.len() + 3 < length {
+                line.push_str(",1");
+            }
+            line.push_str(if line.len() + 2 < length { ",11" } else { ",1" });
+            let due = if length < 256 { refusal } else { -10 };
+            lent.clone()
+                .expect(due, Entry::Call, (line + end).as_bytes(), 0)?;
+        }
+    }
+    Ok(())
+}
+
 /// A claim and a listing need room for all that they write, and write no more.
 pub fn room() -> Result<(), String> {
     let bytes = image(&greatest());

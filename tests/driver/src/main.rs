@@ -61,6 +61,7 @@ impl Count {
             self.check(what, result);
         }
         self.check("single bytes", fixed::single_bytes());
+        self.check("long lines", fixed::long_lines());
         self.check("room", fixed::room());
         self.seeds(0, |count| count);
         self.check("all answers and steps met", fixed::all_met());
