@@ -11,7 +11,7 @@ const OPERATION: usize = 1040;
 const RESULT: usize = 3088;
 
 /// A session after lines that are all served.
-pub fn after(lines: &[&str]) -> Session {
+fn after(lines: &[&str]) -> Session {
     let mut session = Session::open();
     for line in lines {
         let answer = dispatch(&mut session, line.as_bytes(), &mut [0; 8], &mut [0; 64]);
