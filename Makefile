@@ -1,5 +1,8 @@
 # Geyserpan: the two commands are `make run` and `make test`.
-.PHONY: run test fmt
+.PHONY: run test fmt lib install bench soak build/cg.pc
+
+PREFIX ?= /usr/local
+SECONDS ?= 600
 
 run:
 	@echo "The program cgrun is not built yet. What is here: the definitions, and their proof (docs/PROMISES.md)."
@@ -10,3 +13,37 @@ test:
 
 fmt:
 	@rt fmt
+
+# For a host in C or C++: include/cg.h and one of these.
+lib: build/libcg.a build/libcg.so build/cg.pc
+
+# Proves the host crate and all below it, unless nothing of it changed.
+target/staticlib/libhost.a: crates.txt $(shell find crates -path '*/must-fail' -prune -o -type f -print)
+	@rt staticlib host
+
+build/libcg.a: target/staticlib/libhost.a
+	@mkdir -p build
+	@cp $< $@
+
+build/libcg.so: build/libcg.a
+	@echo '{ global: cg_*; local: *; };' >build/cg.map
+	@$(CC) -shared -o $@ -Wl,-soname,libcg.so,--version-script=build/cg.map -Wl,--whole-archive $< -Wl,--no-whole-archive
+
+# Made each time, since PREFIX may be another one.
+build/cg.pc: include/cg.pc.in
+	@mkdir -p build
+	@sed 's|@PREFIX@|$(PREFIX)|' $< >$@
+
+install: lib
+	install -d $(DESTDIR)$(PREFIX)/include $(DESTDIR)$(PREFIX)/lib/pkgconfig
+	install -m 644 include/cg.h $(DESTDIR)$(PREFIX)/include
+	install -m 644 build/libcg.a build/libcg.so $(DESTDIR)$(PREFIX)/lib
+	install -m 644 build/cg.pc $(DESTDIR)$(PREFIX)/lib/pkgconfig
+
+# Times every entry beside the second implementation and a plain copy (docs/PERFORMANCE.md).
+bench: lib
+	@cd bench && cargo run --release --offline --quiet
+
+# Compares the library with the second implementation, with fresh seeds, for so many seconds.
+soak: lib
+	@cd tests/driver && cargo run --release --offline --quiet -- soak $(SECONDS)

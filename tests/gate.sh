@@ -24,5 +24,7 @@ count() {
 
 count rt ci
 count sh tests/run.sh
+count sh tests/host.sh
+count cargo run --manifest-path tests/driver/Cargo.toml --release --offline --quiet
 echo "$passed passed, $failed failed"
 [ "$failed" -eq 0 ]

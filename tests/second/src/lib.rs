@@ -13,6 +13,7 @@ pub mod print;
 pub mod program;
 pub mod random;
 pub mod refusal;
+pub mod samples;
 pub mod session;
 mod steps;
 

@@ -6,37 +6,13 @@ use std::collections::VecDeque;
 
 use common::Desk;
 use second::random::{session, Scribe};
+use second::samples::{broken, crowd, rich, sum};
 use second::{host, image, session_of, valid, IMAGE_BYTES};
-use second::{Act, Operation, Outcome, Session, Station, Waiting};
+use second::{Act, Operation, Outcome, Session, Waiting};
 
 const NODE: usize = 16;
 const OPERATION: usize = 1040;
 const RESULT: usize = 3088;
-
-type Image = [u8; IMAGE_BYTES];
-
-/// Nodes 1 to 3, three with links; at station 2 a unit of two operations, a fused map
-/// at station 3, two calls waiting, results 1 to 3.
-fn rich() -> Image {
-    let mut desk = Desk::after(&["call=add value=5", "call=add value=7", "call=add value=258"]);
-    desk.all(&[
-        "step=drain",
-        "call=link key=2 to=1,2",
-        "call=link key=64 to=1,2",
-    ]);
-    desk.all(&["step=drain", "claim=4", "claim=5"]);
-    desk.all(&["call=sum start=10 to=1,2,9", "call=unlink key=2 to=1"]);
-    desk.all(&[
-        "step=admit",
-        "step=admit",
-        "step=join at=3 unit=1",
-        "step=move at=3",
-    ]);
-    desk.all(&["call=map a=3 b=4 to=1,3", "call=map a=2 b=1 to=1,3"]);
-    desk.all(&["step=admit", "step=admit", "step=fuse at=3 unit=1"]);
-    desk.all(&["call=near key=2 start=65536 to=2", "call=add value=9"]);
-    image(&desk.session)
-}
 
 #[test]
 fn records_stand_at_their_places() {
@@ -202,185 +178,20 @@ fn random_bytes() {
     }
 }
 
-/// Changes bytes of the rich image, which must then be refused.
-fn broken(what: &str, changes: &[(usize, u8)]) {
-    let mut bytes = rich();
-    for &(place, byte) in changes {
-        assert_ne!(bytes[place], byte, "{what}: nothing changes at {place}");
-        bytes[place] = byte;
-    }
-    assert_eq!(session_of(&bytes), None, "{what}");
-}
-
-fn operation(index: usize, place: usize) -> usize {
-    OPERATION + 32 * index + place
-}
-
 #[test]
-fn one_fact_broken_in_the_head() {
-    broken("version", &[(0, 0)]);
-    broken("version", &[(0, 2)]);
-    broken("a node fewer", &[(1, 2)]);
-    broken("a node more", &[(1, 4)]);
-    broken("65 nodes", &[(1, 65)]);
-    broken("255 nodes", &[(1, 255)]);
-    broken("an operation fewer", &[(2, 4)]);
-    broken("an operation more", &[(2, 6)]);
-    broken("65 operations", &[(2, 65)]);
-    broken("a result fewer", &[(3, 2)]);
-    broken("a result more", &[(3, 4)]);
-    broken("65 results", &[(3, 65)]);
-    broken("last label below a live one", &[(4, 10)]);
-    for place in 6..16 {
-        broken("zero in the head", &[(place, 1)]);
+fn one_fact_broken() {
+    for (what, bytes) in broken() {
+        assert_eq!(session_of(&bytes), None, "{what}");
     }
 }
 
 #[test]
-fn one_fact_broken_in_a_node() {
-    broken("key of another", &[(NODE + 4, 2)]);
-    broken("keys rise", &[(NODE + 4, 2), (NODE + 16 + 4, 1)]);
-    broken("key 0", &[(NODE + 4, 0)]);
-    broken("a gap", &[(NODE + 32 + 4, 4)]);
-    broken("nine links", &[(NODE + 5, 9)]);
-    broken("255 links", &[(NODE + 5, 255)]);
-    broken("link 0", &[(NODE + 6, 0)]);
-    broken("link 65", &[(NODE + 6, 65)]);
-    broken("a link past the count", &[(NODE + 5, 1)]);
-    broken("a link too few", &[(NODE + 5, 3)]);
-    broken("zero after the links", &[(NODE + 14, 1)]);
-    broken("zero after the links", &[(NODE + 15, 1)]);
-    broken("an unused node", &[(NODE + 16 * 3, 1)]);
-    broken("an unused node", &[(OPERATION - 1, 1)]);
-}
-
-#[test]
-fn one_fact_broken_in_an_operation() {
-    broken("station 0", &[(operation(0, 0), 0)]);
-    broken("station of no node", &[(operation(4, 0), 4)]);
-    broken("station 66", &[(operation(4, 0), 66)]);
-    broken("not from the back forwards", &[(operation(2, 0), 1)]);
-    broken("top stream before a station", &[(operation(0, 0), 65)]);
-    broken("opens nothing", &[(operation(0, 1), 0)]);
-    broken("opens nothing in the top stream", &[(operation(3, 1), 0)]);
-    broken("opens 2", &[(operation(0, 1), 2)]);
-    broken("kind 8", &[(operation(0, 2), 8)]);
-    broken("an add at a station", &[(operation(4, 0), 3)]);
-    broken("operand of a sum", &[(operation(0, 3), 1)]);
-    broken("operand of a map", &[(operation(2, 3), 1)]);
-    broken("operand of an add", &[(operation(4, 3), 1)]);
-    broken("operand 0", &[(operation(1, 3), 0)]);
-    broken("operand 65", &[(operation(3, 3), 65)]);
-    broken("a of a sum", &[(operation(0, 4), 1)]);
-    broken("a of an unlink", &[(operation(1, 7), 1)]);
-    broken("a of a near", &[(operation(3, 4), 1)]);
-    broken("a of an add", &[(operation(4, 4), 1)]);
-    broken("b of an unlink", &[(operation(1, 8), 1)]);
-    broken("nine targets", &[(operation(0, 12), 9)]);
-    broken("a target too few", &[(operation(0, 12), 4)]);
-    broken("a target past the count", &[(operation(0, 12), 2)]);
-    broken("target 0", &[(operation(0, 13), 0)]);
-    broken("target 65", &[(operation(0, 15), 65)]);
-    broken("targets equal", &[(operation(0, 14), 1)]);
-    broken("targets fall", &[(operation(0, 13), 3)]);
-    broken(
-        "an add with a target",
-        &[(operation(4, 12), 1), (operation(4, 13), 1)],
-    );
-    broken("no label", &[(operation(0, 21), 0), (operation(0, 22), 0)]);
-    broken(
-        "an add without a label",
-        &[(operation(4, 21), 0), (operation(4, 22), 0)],
-    );
-    broken(
-        "a sum of two labels",
-        &[(operation(0, 21), 2), (operation(0, 24), 4)],
-    );
-    broken(
-        "an add of two labels",
-        &[(operation(4, 21), 2), (operation(4, 24), 4)],
-    );
-    broken("five labels", &[(operation(2, 21), 5)]);
-    broken("label 0", &[(operation(0, 22), 0)]);
-    broken("a label above the last", &[(operation(0, 22), 12)]);
-    broken("a label far above the last", &[(operation(0, 23), 1)]);
-    broken("a label twice in a map", &[(operation(2, 24), 8)]);
-    broken("a label twice in operations", &[(operation(0, 22), 7)]);
-    broken(
-        "a label in an operation and a result",
-        &[(operation(0, 22), 3)],
-    );
-    broken("an add's label twice", &[(operation(4, 22), 10)]);
-    broken("a label past the count", &[(operation(0, 24), 4)]);
-    broken("zero after the labels", &[(operation(0, 30), 1)]);
-    broken("zero after the labels", &[(operation(4, 31), 1)]);
-    broken("an unused operation", &[(operation(5, 0), 1)]);
-    broken("an unused operation", &[(RESULT - 1, 1)]);
-}
-
-#[test]
-fn one_fact_broken_in_a_result() {
-    broken("label 0", &[(RESULT, 0)]);
-    broken("labels fall", &[(RESULT, 4)]);
-    broken("a label twice", &[(RESULT, 2)]);
-    broken("a label above the last", &[(RESULT + 32, 12)]);
-    broken("nine left", &[(RESULT + 6, 9)]);
-    broken("left 0", &[(RESULT + 6, 1)]);
-    broken("left 65", &[(RESULT + 6, 1), (RESULT + 7, 65)]);
-    broken(
-        "left equal",
-        &[(RESULT + 6, 2), (RESULT + 7, 4), (RESULT + 8, 4)],
-    );
-    broken(
-        "left fall",
-        &[(RESULT + 6, 2), (RESULT + 7, 4), (RESULT + 8, 3)],
-    );
-    broken("left past the count", &[(RESULT + 7, 1)]);
-    broken("zero after left", &[(RESULT + 15, 1)]);
-    broken("an unused result", &[(RESULT + 16 * 3, 1)]);
-    broken("an unused result", &[(IMAGE_BYTES - 1, 1)]);
-}
-
-fn sum(label: u16) -> Operation {
-    Operation {
-        act: Act::Sum { held: 0 },
-        targets: Vec::new(),
-        labels: vec![label],
-    }
-}
-
-/// A session that keeps every limit, with as many of these as are asked for.
-fn crowd(nodes: u8, adds: u16, sums: u16, results: u16) -> Session {
-    let mut session = Session::open();
-    let mut labels = 1..;
-    for key in 1..=nodes {
-        session.stations.insert(0, Station::new(key, 0));
-    }
-    for label in labels.by_ref().take(usize::from(adds)) {
-        session.top.push_back(Waiting::Add { label, value: 1 });
-    }
-    for label in labels.by_ref().take(usize::from(sums)) {
-        session.top.push_back(Waiting::Visit(sum(label)));
-    }
-    for label in labels.take(usize::from(results)) {
-        let left = Vec::new();
-        session.results.insert(label, Outcome { value: 1, left });
-    }
-    session.last = adds + sums + results;
-    session
-}
-
-#[test]
-fn counts_at_and_past_their_limits() {
+fn counts_at_their_limits() {
     let passes = |session: Session| session_of(&image(&session)) == Some(session);
     assert!(passes(crowd(64, 0, 64, 0)));
     assert!(passes(crowd(64, 0, 0, 64)));
     assert!(passes(crowd(0, 64, 0, 0)));
     assert!(passes(crowd(60, 4, 30, 30)));
-    assert!(!passes(crowd(61, 4, 0, 0)), "65 nodes and adds");
-    assert!(!passes(crowd(1, 64, 0, 0)), "65 nodes and adds");
-    assert!(!passes(crowd(0, 0, 64, 1)), "65 live");
-    assert!(!passes(crowd(0, 0, 1, 64)), "65 live");
 }
 
 #[test]

@@ -1,0 +1,68 @@
+/* Geyserpan: a deferred body graph in a lent image, for C and C++ hosts.
+ *
+ * A line is read from a frame buffer: from the place `at` to the next newline or the buffer's end.
+ * Every function answers a number that is at least 0, or a refusal's number negated. A refusal changes
+ * neither image, tally nor output. Nothing is kept between calls and nothing is allocated; lend an
+ * image to one call at a time, and let no two of the buffers that a call is lent overlap. */
+#ifndef CG_H
+#define CG_H
+
+#include <stddef.h>
+#include <stdint.h>
+
+#ifdef __cplusplus
+extern "C" {
+#endif
+
+#define CG_IMAGE_BYTES 4112   /* the length of every image */
+#define CG_RESULT_BYTES 58    /* room for any result line, with its newline */
+#define CG_LISTING_BYTES 7189 /* room for any listing, with its newlines */
+
+enum {
+    CG_IMAGE_LENGTH = 1,   /* an image of another length */
+    CG_NOT_A_SESSION = 2,  /* bytes that are not the image of a session */
+    CG_BAD_LINE = 10,      /* not one of the entry's forms, or 256 bytes or more */
+    CG_BAD_KEY = 11,       /* a key outside 1 to 64 */
+    CG_BAD_TARGETS = 12,   /* more than eight targets, or not strictly rising */
+    CG_ADDS_SPENT = 13,    /* an add after 64 were accepted */
+    CG_LIVE_FULL = 14,     /* a call while 64 are live: claim a result first */
+    CG_LABELS_SPENT = 15,  /* a call after 65,535 were accepted */
+    CG_NO_NODE = 20,       /* no node with that key */
+    CG_NO_UNIT = 21,       /* no waiting call, no such unit, or none after it where two are needed */
+    CG_NOT_ALLOWED = 22,   /* the step is not allowed there */
+    CG_NEVER_GIVEN = 30,   /* a label that was never given */
+    CG_STILL_PENDING = 31, /* no result yet */
+    CG_CLAIMED = 32,       /* the result was claimed before */
+    CG_NO_ROOM = 33        /* an output shorter than what is to be written */
+};
+
+/* Steps taken, by kind; a drain counts each step that it takes. A count rests at 4,294,967,295. */
+typedef struct cg_tally {
+    uint32_t admit, realise, move, finish, join, split, swap, fuse;
+} cg_tally;
+
+/* Writes a fresh session over whatever the image holds. Gives 0. */
+int64_t cg_open(uint8_t *image, size_t image_len);
+
+/* Accepts a line such as "call=add value=5"; the call waits in the image. Gives its label. */
+int64_t cg_call(uint8_t *image, size_t image_len, const uint8_t *frame, size_t frame_len, size_t at);
+
+/* Takes the work step of a line such as "step=admit" or "step=move at=2", or drains by "step=drain".
+ * Gives 0, the image after the step, and the tally counted up. */
+int64_t cg_step(uint8_t *image, size_t image_len, const uint8_t *frame, size_t frame_len, size_t at,
+                cg_tally *tally);
+
+/* Writes the result that a line such as "claim=4" asks for, and removes it from the image.
+ * Gives the length written, with the newline; the bytes of out after it stay. */
+int64_t cg_claim(uint8_t *image, size_t image_len, const uint8_t *frame, size_t frame_len, size_t at,
+                 uint8_t *out, size_t out_len);
+
+/* Writes the listing: a head, the nodes from the front on, the unclaimed results by label.
+ * Gives the length written, with the newlines; the bytes of out after it stay, and so does the image. */
+int64_t cg_list(const uint8_t *image, size_t image_len, uint8_t *out, size_t out_len);
+
+#ifdef __cplusplus
+}
+#endif
+
+#endif

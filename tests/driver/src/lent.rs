@@ -1,0 +1,115 @@
+//! What an entry is lent, and one call of it compared.
+
+use std::cell::RefCell;
+use std::collections::BTreeSet;
+
+use hosts::{Entry, Host, Tally, PRODUCT, SECOND};
+use second::line_at;
+
+/// Bytes before, between and after what is lent: nobody may write them. Their number is odd, so that
+/// no image stands at a place that would suit a machine word.
+const MARGIN: usize = 33;
+
+/// What was met so far, so that a run can say that it left nothing out.
+#[derive(Default)]
+pub struct Met {
+    /// Entries with their answers; a label or a length stands as 1.
+    pub answers: BTreeSet<(Entry, i64)>,
+    /// The counts that rose.
+    pub kinds: BTreeSet<usize>,
+}
+
+thread_local! {
+    pub static MET: RefCell<Met> = RefCell::default();
+}
+
+/// An image, an output and a tally. They stand in one block, so that comparing blocks also compares the
+/// bytes around them.
+#[derive(Clone, PartialEq)]
+pub struct Lent {
+    bytes: Vec<u8>,
+    image_len: usize,
+    out_len: usize,
+    tally: Tally,
+}
+
+impl Lent {
+    pub fn new(image: &[u8], out_len: usize, tally: Tally) -> Lent {
+        let mut bytes = vec![b'#'; 3 * MARGIN + image.len() + out_len];
+        bytes[MARGIN..][..image.len()].copy_from_slice(image);
+        Lent {
+            bytes,
+            image_len: image.len(),
+            out_len,
+            tally,
+        }
+    }
+
+    /// The same with another output.
+    pub fn with_room(&self, out_len: usize) -> Lent {
+        let image = &self.bytes[MARGIN..][..self.image_len];
+        Lent::new(image, out_len, self.tally)
+    }
+
+    /// Has both serve, compares everything that they answer and leave, and gives the answer.
+    pub fn serve(&mut self, entry: Entry, frame: &[u8], at: usize) -> Result<i64, String> {
+        let before = self.clone();
+        let mut expected = self.clone();
+        let answer = self.served_by(&PRODUCT, entry, frame, at);
+        let due = expected.served_by(&SECOND, entry, frame, at);
+        let told = if answer != due {
+            format!("answers {answer}, expected {due}")
+        } else if let Some(part) = self.differs(&expected) {
+            format!("answers {answer}, and leaves another {part}")
+        } else if answer < 0 && *self != before {
+            format!("is refused with {answer}, and changes something")
+        } else {
+            MET.with_borrow_mut(|met| {
+                let rose = |kind: &usize| self.tally[*kind] != before.tally[*kind];
+                met.kinds.extend((0..8).filter(rose));
+                met.answers.insert((entry, answer.min(1)));
+            });
+            return Ok(answer);
+        };
+        let line = line_at(frame, at).escape_ascii();
+        Err(format!("{entry:?} of '{line}' {told}"))
+    }
+
+    /// The same, where the answer is known.
+    pub fn expect(
+        &mut self,
+        due: i64,
+        entry: Entry,
+        frame: &[u8],
+        at: usize,
+    ) -> Result<(), String> {
+        match self.serve(entry, frame, at)? {
+            answer if answer == due => Ok(()),
+            answer => Err(format!("{entry:?}: both answer {answer}, expected {due}")),
+        }
+    }
+
+    fn differs(&self, other: &Lent) -> Option<String> {
+        let mut pairs = self.bytes.iter().zip(&other.bytes);
+        let (image, out) = (MARGIN, 2 * MARGIN + self.image_len);
+        match pairs.position(|(a, b)| a != b) {
+            Some(place) if place >= out && place < out + self.out_len => {
+                Some(format!("output at byte {}", place - out))
+            }
+            Some(place) if place >= image && place < image + self.image_len => {
+                Some(format!("image at byte {}", place - image))
+            }
+            Some(_) => Some(String::from("byte beside what was lent")),
+            None if self.tally != other.tally => {
+                Some(format!("tally, {:?} for {:?}", self.tally, other.tally))
+            }
+            None => None,
+        }
+    }
+
+    fn served_by(&mut self, host: &Host, entry: Entry, frame: &[u8], at: usize) -> i64 {
+        let (image, rest) = self.bytes[MARGIN..].split_at_mut(self.image_len);
+        let out = &mut rest[MARGIN..][..self.out_len];
+        host.serve(entry, image, (frame, at), &mut self.tally, out)
+    }
+}

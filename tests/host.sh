@@ -1,0 +1,59 @@
+#!/bin/sh
+# Tests what a studio links: the libraries, the header, the example host, the installation; and builds
+# the driver. The last line is 'N passed, M failed'.
+
+cd "$(dirname "$0")/.." || exit 1
+work=$(mktemp -d) || exit 1
+trap 'rm -rf "$work"' EXIT
+unset CARGO_TARGET_DIR
+
+passed=0
+failed=0
+
+# try NAME COMMAND..: the command must succeed; what it says is told only if it doesn't.
+try() {
+    name=$1
+    shift
+    if "$@" >"$work/said" 2>&1; then
+        passed=$((passed + 1))
+    else
+        failed=$((failed + 1))
+        echo "FAILED: $name"
+        tail -n 20 "$work/said"
+        return 1
+    fi
+}
+
+exports() {
+    nm -D --defined-only build/libcg.so | awk '{ print $3 }' | sort >"$work/exports"
+    printf 'cg_%s\n' call claim list open step | cmp - "$work/exports"
+}
+
+# example COMMAND..: runs the example host, which must print what it always prints.
+example() {
+    "$@" >"$work/printed" && diff examples/host.out "$work/printed"
+}
+
+installed() {
+    make install PREFIX="$work/prefix" &&
+        flags=$(PKG_CONFIG_PATH="$work/prefix/lib/pkgconfig" pkg-config --cflags --libs cg) &&
+        gcc examples/host.c $flags -o "$work/installed" &&
+        LD_LIBRARY_PATH="$work/prefix/lib" example "$work/installed"
+}
+
+try "make lib" make lib
+try "libcg.so exports the five functions and nothing else" exports
+
+warnings="-Wall -Wextra -Wpedantic -Werror -Iinclude"
+try "host.c with gcc" gcc -std=c99 $warnings examples/host.c build/libcg.a -o "$work/c" &&
+    try "host.c, run" example "$work/c"
+try "host.c with g++" g++ $warnings -x c++ examples/host.c -x none build/libcg.a -o "$work/cpp" &&
+    try "host.c with g++, run" example "$work/cpp"
+try "host.c under valgrind" example valgrind --quiet --error-exitcode=1 --leak-check=full "$work/c"
+try "host.c with what is installed" installed
+
+cd tests/driver && try "the driver's build" cargo build --release --offline --quiet &&
+    try "the driver under valgrind" valgrind --quiet --error-exitcode=1 target/release/driver seed 1
+
+echo "$passed passed, $failed failed"
+[ "$failed" -eq 0 ]
