@@ -2,3 +2,4 @@ pub mod Entering
 pub mod Calling
 pub mod Stepping
 pub mod Claiming
+pub mod ListingOut

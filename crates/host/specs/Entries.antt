@@ -24,6 +24,7 @@ use Rattle.panel.specs.declared.tally.Tally.{Tally}
 use Rattle.panel.specs.Answer.{numberOf}
 use Rattle.panel.specs.Tally.{counted}
 use Rattle.valid.specs.Values.{encode}
+use Rattle.listing.specs.Listed.{listingOf}
 
 -- the bytes are the image of the session
 pub record ImageOf (image : List ℕ) (s : Session) : Type 0 where
@@ -103,3 +104,21 @@ claimServed image out s (done c) =
 
 abbrev pub Claims : (image line out : List ℕ) → ClaimMade → Type 0
 Claims image line out r = Enters image (IsClaim line) (claimRefused image out) (λ s l. claimServed image out s (claim l s)) r
+
+-- ---- the listing: an answer and an output
+
+pub record Listed : Type 0 where
+  pub answer : ℤ
+  pub output : List ℕ
+
+abbrev pub listRefused : List ℕ → ℕ → Listed
+listRefused out n = record { answer = numberOf (Refused n); output = out }
+
+-- "33 output shorter than the .. listing with newlines"
+abbrev pub listServed : List ℕ → Session → Listed
+listServed out s =
+    cond (leb (length (listingOf s)) (length out)) (record { answer = numberOf (Done (length (listingOf s))); output = pasted out 0 (listingOf s) }) (listRefused out 33)
+
+-- there is no line, and so one form
+abbrev pub Lists : (image out : List ℕ) → Listed → Type 0
+Lists image out r = Enters image (λ (f : Unit {0}). Unit {0}) (listRefused out) (λ s f. listServed out s) r

@@ -2,4 +2,5 @@
 pub mod call;
 pub mod claim;
 pub mod lent;
+pub mod list;
 pub mod step;

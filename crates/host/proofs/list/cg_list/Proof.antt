@@ -1,0 +1,26 @@
+-- The answer as a number.
+-- Assumes nothing.
+use mathlib.Core.Path.{_≡_, _∙_}
+use mir.Syntax.{w64}
+use mir.Val.{toZ, ofZ}
+use Rattle.host.proofs.ListingOut.{list-answer}
+use borrow.Author.Needs.{needs}
+use Rattle.host.proofs.list.cg_list.Statement.{statement}
+use Rattle.host.proofs.list.cg_list.Tie as tie
+
+list-requires : tie.Need-list-requires
+list-requires c κs = search needs
+
+number-requires : tie.Need-number-requires
+number-requires c κs = search needs
+
+same-length : tie.Need-same-length
+same-length c = search needs
+
+returns : tie.Need-returns
+returns c =
+    let same : toZ w64 (ofZ w64 (c .number .result)) ≡ c .number .result = search needs in
+    list-answer (same ∙ c .number .ensures) (c .before .before .before .list .ensures)
+
+pub cg-list-spec : {M : Type 1} → statement M
+cg-list-spec = tie.close (tie.spec list-requires number-requires same-length returns)
