@@ -1,6 +1,6 @@
 -- Each answer is a case of `Lists`.
 -- Assumes nothing.
-use mathlib.Core.Path.{sym}
+
 use native.Mathlib.Omega.{arith}
 use Rattle.host.proofs.Entering.{tested-refused, tested-session, session-live}
 use Rattle.host.proofs.ListingOut.{no-room, is-listed}
