@@ -138,7 +138,7 @@ some-test (split k i j) s e = some-of k i 1 (split k i j) s e
 some-test (swap k i) s e = some-of k i 2 (swap k i) s e
 some-test (fuse k i) s e = some-of k i 2 (fuse k i) s e
 
-step-refused : (w : Step) (s : Session) {n : ℕ} → step w s ≡ refused n → 1 ≤ n
+pub step-refused : (w : Step) (s : Session) {n : ℕ} → step w s ≡ refused n → 1 ≤ n
 step-refused w s {n} e =
     let same : n ≡ firstOf (stepTests w s) = sym (ap codeOf e) ∙ step-number w s in
     omega (arith, some-test w s (sym (step-done w s) ∙ ap isDone e))

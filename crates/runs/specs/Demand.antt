@@ -1,0 +1,82 @@
+-- Demand 3, of a list of lines sent to a fresh session: one record, a field for each clause.
+-- Assumes nothing.
+use Prim.Native.Nat.{ℕ, _*_, _≤_}
+use mathlib.Core.Path.{_≡_}
+use mathlib.Core.Bool.{true}
+use mathlib.Core.List.{List, [], _∷_}
+use mathlib.Core.Option.{some}
+use lib.IntN.{pos}
+use lib.ListN.{length}
+use Rattle.graph.specs.Calls.{Call}
+use Rattle.graph.specs.Nodes.{Result}
+use Rattle.graph.specs.OneAtATime.{oneAtATime}
+use Rattle.graph.specs.Sessions.{Session}
+use Rattle.graph.specs.Steps.{Step}
+use Rattle.graph.specs.Drain.{drain}
+use Rattle.graph.specs.Runs.{find, ofKind, workSteps}
+use Rattle.lines.specs.Forms.{work, stepText}
+use Rattle.lines.specs.Answers.{IsClaim}
+use Rattle.print.specs.Printed.{resultText}
+use Rattle.panel.specs.declared.tally.Tally.{Tally}
+use Rattle.panel.specs.Tally.{counted, zeros}
+use Rattle.valid.specs.Values.{encode}
+use Rattle.host.specs.Entries.{ImageOf, ClaimMade, Steps}
+use Rattle.runs.specs.Runs.{Sent, call, step, claim, Runs, opening, after, isServed, acceptedLines, labelsGiven, labelsFrom, TextsOf, Pending, Allowed, Wrote, ClaimedIn, WouldWrite, GraphOf, Taken, OneTally, lastTally}
+
+-- label l has a result, that of one-at-a-time processing: "the value and the `left` in the line that its claim wrote or, while
+-- unclaimed, would write given room"
+pub data ResultOf (es : List Sent) (l : ℕ) (q : Result) : Type 0 where
+  claimed : ClaimedIn l q es → ResultOf es l q
+  unclaimed : ((out : List ℕ) → length (resultText q) ≤ length out → WouldWrite (after opening es) out l q) → ResultOf es l q
+
+pub record HasResult (es : List Sent) (meant : List Result) (l : ℕ) : Type 0 where
+  pub result : Result
+  pub given : ResultOf es l result
+  pub same : find l meant ≡ some result
+
+-- a claim line wrote the line of what one-at-a-time processing gives the label
+pub record GaveMeant (meant : List Result) (line out : List ℕ) (r : ClaimMade) : Type 0 where
+  pub label : ℕ
+  pub text : IsClaim line label
+  pub result : Result
+  pub same : find label meant ≡ some result
+  pub wrote : Wrote out result r
+
+abbrev pub ClaimsMeant : List Result → List Sent → Type 0
+ClaimsMeant meant [] = Unit {0}
+ClaimsMeant meant (call line r ∷ es) = ClaimsMeant meant es
+ClaimsMeant meant (step line t r ∷ es) = ClaimsMeant meant es
+ClaimsMeant meant (claim line out r ∷ es) = (isServed (r .answer) ≡ true → GaveMeant meant line out r) × ClaimsMeant meant es
+
+-- some admit, realise, move or finish line would be answered 0
+pub record Progress (image : List ℕ) : Type 0 where
+  pub what : Step
+  pub kind : workSteps (what ∷ []) ≡ 1
+  pub allowed : (t : Tally) → Allowed image (stepText (work what)) t
+
+-- the steps, sent as lines one by one, are each answered 0 whatever tally they are lent, and lead to the image `end`
+pub data StepLines (end : List ℕ) : List ℕ → List Step → Type 0 where
+  ended : {image : List ℕ} → image ≡ end → StepLines end image []
+  stepped : {image : List ℕ} {w : Step} {ts : List Step} (next : List ℕ) → ((t : Tally) → Steps image (stepText (work w)) t (record { answer = pos 0; image = next; tally = counted t (w ∷ []) })) → StepLines end next ts → StepLines end image (w ∷ ts)
+
+pub record Demand3 (es : List Sent) : Type 0 where
+  -- one-at-a-time processing is fed the accepted lines, read by the grammar alone
+  pub calls : List Call
+  pub texts : TextsOf (acceptedLines es) calls
+  pub labels : labelsGiven es ≡ labelsFrom 1 (length (acceptedLines es))
+  -- "For every accepted call that isn't pending it equals the result of the same label in one-at-a-time processing"
+  pub results : (l : ℕ) → 1 ≤ l → l ≤ length (acceptedLines es) → (Pending (after opening es) l → ⊥) → HasResult es ((oneAtATime calls) .results) l
+  -- every claim that was served wrote exactly that
+  pub claims : ClaimsMeant ((oneAtATime calls) .results) es
+  -- "With none pending it equals the nodes of one-at-a-time processing, front first."
+  pub graph : ((l : ℕ) → 1 ≤ l → l ≤ length (acceptedLines es) → Pending (after opening es) l → ⊥) → GraphOf (after opening es) ((oneAtATime calls) .nodes)
+  -- "While a call is pending, an admit, realise, move or finish is allowed."
+  pub progress : (l : ℕ) → Pending (after opening es) l → Progress (after opening es)
+  -- the steps taken, and at most 73 of the four kinds for each call accepted
+  pub steps : List Step
+  pub taken : Taken opening es steps
+  pub bound : workSteps steps ≤ 73 * length (acceptedLines es)
+  -- "With one tally, zeros at the start .., each of these four kinds' number equals its count there"
+  pub tally : OneTally zeros es → (lastTally zeros es .admit ≡ ofKind 0 steps) × (lastTally zeros es .realise ≡ ofKind 1 steps) × (lastTally zeros es .«move_on» ≡ ofKind 2 steps) × (lastTally zeros es .finish ≡ ofKind 3 steps)
+  -- a drain's steps, sent one by one as lines, are each answered 0 and lead to the image that the drain leaves
+  pub drained : (s : Session) → ImageOf (after opening es) s → StepLines (encode ((drain s) .end)) (after opening es) ((drain s) .took)
