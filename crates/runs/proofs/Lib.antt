@@ -1,2 +1,4 @@
 pub mod Entered
 pub mod Reached
+pub mod Seen
+pub mod Demand3

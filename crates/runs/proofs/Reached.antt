@@ -1,26 +1,23 @@
 -- A list of lines is a list of the session's own events: the lines that were refused leave no event.
 -- Assumes nothing.
 use mathlib.Core.Path.{_≡_, refl, sym, ap, subst, _∙_}
-use Prim.Native.Nat.{ℕ, suc, _≤_}
-use mathlib.Core.Bool.{Bool, true, false, cond, true≢false}
+use Prim.Native.Nat.{ℕ, suc}
+use mathlib.Core.Bool.{Bool, true, false, cond}
 use mathlib.Core.List.{List, [], _∷_, _++_, append-assoc, append-nil}
-use lib.Dec.{eqb}
-use lib.IntN.{ℤ, pos}
+use lib.IntN.{pos}
 use lib.ListN.{length}
-use Rattle.graph.specs.Refusals.{Answer, refused, done, mapDone}
+use Rattle.graph.specs.Refusals.{Answer, done}
 use Rattle.graph.specs.Calls.{Call}
 use Rattle.graph.specs.Nodes.{Result}
 use Rattle.graph.specs.Sessions.{Session}
 use Rattle.graph.specs.Steps.{Step}
-use Rattle.graph.specs.Steps as graph
 use Rattle.graph.specs.Acceptance.{accept, Claimed, keeping}
 use Rattle.graph.specs.Acceptance as acceptance
 use Rattle.graph.specs.Drain.{drain}
 use Rattle.graph.specs.Valid.{Valid}
-use Rattle.graph.specs.OneAtATime.{Labelled}
-use Rattle.graph.specs.Runs.{Event, calls, steps, drains, claims, Run, event, events, andThen, stepAll}
+use Rattle.graph.specs.Runs.{Event, calls, steps, drains, claims, Run, event, events}
 use Rattle.graph.specs.Runs as graphRuns
-use Rattle.graph.proofs.Answers.{Holds, refuses, holds, holds-at}
+use Rattle.graph.proofs.Answers.{Holds, holds-at}
 use Rattle.graph.proofs.Validity.{ValidClaim, step-valid, accept-valid, claim-valid}
 use Rattle.graph.proofs.Drains.{done-holds, drain-drains}
 use Rattle.lines.specs.Forms.{work}
@@ -228,37 +225,6 @@ module _ (x : Run) (line out : List ℕ) (r : ClaimMade) (es : List Sent) where
           claimed = ap (λ (y : Run). y .claimed) (sym (to (h .made))) ∙ h .claimed ∙ append-assoc (x .claimed) (c .result ∷ []) (h .gave);
         }
 
--- NO STEP GIVES A LABEL
-changed-last : (s : Session) (cs : List Labelled) (x : Answer graph.Change) → Holds (λ (u : Session). u .last ≡ s .last) (mapDone (graph.changed s cs) x)
-changed-last s cs (refused n) = refuses
-changed-last s cs (done c) = holds refl
-
-step-last : (w : Step) (s : Session) → Holds (λ (u : Session). u .last ≡ s .last) (graph.step w s)
-step-last graph.admit s = go (s .topStream)
-  where
-    go : (cs : List Labelled) → Holds (λ (u : Session). u .last ≡ s .last) (graph.admitHead s cs)
-    go [] = refuses
-    go (c ∷ cs) = holds refl
-step-last (graph.realise k) s = changed-last s (s .topStream) (graph.at k (graph.atStation (graph.realise k)) (s .stations))
-step-last (graph.move k) s = changed-last s (s .topStream) (graph.at k (graph.atStation (graph.move k)) (s .stations))
-step-last (graph.finish k) s = changed-last s (s .topStream) (graph.at k (graph.atStation (graph.finish k)) (s .stations))
-step-last (graph.join k i) s = changed-last s (s .topStream) (graph.at k (graph.atStation (graph.join k i)) (s .stations))
-step-last (graph.split k i j) s = changed-last s (s .topStream) (graph.at k (graph.atStation (graph.split k i j)) (s .stations))
-step-last (graph.swap k i) s = changed-last s (s .topStream) (graph.at k (graph.atStation (graph.swap k i)) (s .stations))
-step-last (graph.fuse k i) s = changed-last s (s .topStream) (graph.at k (graph.atStation (graph.fuse k i)) (s .stations))
-
-all-last : (ts : List Step) (s : Session) → Holds (λ (u : Session). u .last ≡ s .last) (stepAll ts s)
-all-last [] s = holds refl
-all-last (t ∷ ts) s = go (graph.step t s) (step-last t s) (all-last ts)
-  where
-    further : (u : Session) → u .last ≡ s .last → (y : Answer Session) → Holds (λ (v : Session). v .last ≡ u .last) y → Holds (λ (v : Session). v .last ≡ s .last) y
-    further u e (refused n) h = refuses
-    further u e (done v) (holds h) = holds (h ∙ e)
-
-    go : (x : Answer Session) → Holds (λ (u : Session). u .last ≡ s .last) x → ((u : Session) → Holds (λ (v : Session). v .last ≡ u .last) (stepAll ts u)) → Holds (λ (v : Session). v .last ≡ s .last) (andThen x (stepAll ts))
-    go (refused n) h f = refuses
-    go (done u) (holds e) f = further u e (stepAll ts u) (f u)
-
 -- EVERY LINE
 abbrev Onward : List Sent → Type 0
 Onward es = (y : Run) → Valid (y .now) → Runs (encode (y .now)) es → Reached y es
@@ -275,12 +241,12 @@ module _ (x : Run) (v : Valid (x .now)) (es : List Sent) (ih : Onward es) where
   on-step line t r (stepRefuses below same kept) h = step-refused x line t r es below same kept (ih x v (subst (λ (b : List ℕ). Runs b es) same h))
   on-step line t r (takes w u i did e) h =
       let same : r .image ≡ encode u = ap (λ (y : Stepped). y .image) e in
-      step-served x line t r es (w ∷ []) u (steps w) (done-holds did (step-last w (x .now))) (ap (graphRuns.onStep w x) did) (one w i) (ap (λ (y : Stepped). y .answer) e) same (ap (λ (y : Stepped). y .tally) e)
+      step-served x line t r es (w ∷ []) u (steps w) (done-holds did (step-valid w (x .now) v) .last) (ap (graphRuns.onStep w x) did) (one w i) (ap (λ (y : Stepped). y .answer) e) same (ap (λ (y : Stepped). y .tally) e)
       (ih _ (done-holds did (step-valid w (x .now) v) .valid) (subst (λ (b : List ℕ). Runs b es) same h))
   on-step line t r (drained i e) h =
       let d = drain-drains (x .now) v in
       let same : r .image ≡ encode ((drain (x .now)) .end) = ap (λ (y : Stepped). y .image) e in
-      step-served x line t r es ((drain (x .now)) .took) ((drain (x .now)) .end) drains (done-holds (d .steps) (all-last ((drain (x .now)) .took) (x .now))) refl (several (x .now) (own (x .now) v) i)
+      step-served x line t r es ((drain (x .now)) .took) ((drain (x .now)) .end) drains (d .last) refl (several (x .now) (own (x .now) v) i)
       (ap (λ (y : Stepped). y .answer) e) same (ap (λ (y : Stepped). y .tally) e) (ih _ (d .valid) (subst (λ (b : List ℕ). Runs b es) same h))
 
   on-claim : (line out : List ℕ) (r : ClaimMade) → ClaimNext (x .now) line out r → Runs (r .image) es → Reached x (claim line out r ∷ es)

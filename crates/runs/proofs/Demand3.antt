@@ -1,0 +1,207 @@
+-- Demand 3 of lines and images: one theorem, from the session's own.
+-- Assumes nothing.
+use mathlib.Core.Path.{_≡_, refl, sym, ap, subst, _∙_}
+use Prim.Native.Nat.{ℕ, zero, suc, _+_, _*_, _≤_, _-_, min}
+use native.Mathlib.Omega.{arith}
+use mathlib.Core.Bool.{Bool, true, false, cond, _||_, true≢false}
+use mathlib.Core.List.{List, [], _∷_, _++_, append-assoc}
+use mathlib.Core.Option.{Option, none, some}
+use lib.Dec.{eqb}
+use lib.IntN.{pos}
+use lib.ListN.{length}
+use borrow.Author.Tests.{eqb-true, eq-eqb}
+use Rattle.graph.specs.Refusals.{Answer, refused, done}
+use Rattle.graph.specs.KeyLists.{contains}
+use Rattle.graph.specs.Calls.{Call}
+use Rattle.graph.specs.Nodes.{Node, Result}
+use Rattle.graph.specs.OneAtATime.{oneAtATime}
+use Rattle.graph.specs.Sessions.{Session, pending, live, labelsOfResults, graphOf}
+use Rattle.graph.specs.Steps.{Step}
+use Rattle.graph.specs.Steps as graph
+use Rattle.graph.specs.Allowed.{allowed}
+use Rattle.graph.specs.Drain.{drain, weightOf}
+use Rattle.graph.specs.Runs.{Run, start, run, find, ofKind, workSteps, SameResult}
+use Rattle.graph.specs.Runs as graphRuns
+use Rattle.graph.specs.Valid.{Each, Given, Valid}
+use Rattle.graph.proofs.Answers.{isDone, by-bool}
+use Rattle.graph.proofs.Effects.{costs}
+use Rattle.graph.proofs.Verdicts.{step-done}
+use Rattle.graph.proofs.Validity.{valid-fresh}
+use Rattle.graph.proofs.Drains.{work-cons, drain-drains, drain-works}
+use Rattle.graph.proofs.Demand3 as sessions
+use Rattle.print.specs.Printed.{resultText}
+use Rattle.lines.specs.Forms.{work, stepText}
+use Rattle.lines.specs.Answers.{IsClaim}
+use Rattle.panel.specs.declared.tally.Tally.{Tally}
+use Rattle.panel.specs.Tally.{upBy, each, counted, zeros}
+use Rattle.panel.proofs.TallyLaws.{counted-kinds}
+use Rattle.valid.specs.Values.{encode}
+use Rattle.host.specs.Entries.{ImageOf, Steps}
+use Rattle.runs.specs.Runs.{Sent, call, step, claim, Runs, opening, after, isServed, acceptedLines, TextsOf, noLine, aLine, Pending, Allowed, Wrote, ClaimedIn, here, there, WouldWrite, GraphOf, OneTally, lastTally}
+use Rattle.runs.specs.Demand.{ResultOf, claimed, unclaimed, HasResult, GaveMeant, ClaimsMeant, Progress, StepLines, Demand3}
+use Rattle.runs.proofs.Entered.{own, same-session}
+use Rattle.runs.proofs.Reached.{Gave, noClaim, pastCall, pastStep, pastRefusal, pastClaim, Reached, reached}
+use Rattle.runs.proofs.Seen.{line-taken, all-lines, pending-seen, pending-only, would-write, some-same, none-some}
+
+texts-length : {lines : List (List ℕ)} {cs : List Call} → TextsOf lines cs → length lines ≡ length cs
+texts-length noLine = refl
+texts-length (aLine i h) = ap suc (texts-length h)
+
+-- RESULTS
+pub data InEither (l : ℕ) (q : Result) (xs ys : List Result) : Type 0 where
+  first : find l xs ≡ some q → InEither l q xs ys
+  second : find l ys ≡ some q → InEither l q xs ys
+
+find-either : (l : ℕ) (q : Result) (xs ys : List Result) → find l (xs ++ ys) ≡ some q → InEither l q xs ys
+find-either l q [] ys e = second e
+find-either l q (x ∷ xs) ys e = go (eqb (x .label) l) refl (λ d. find-either l q xs ys d) e
+  where
+    further : eqb (x .label) l ≡ false → InEither l q xs ys → InEither l q (x ∷ xs) ys
+    further d (first e) = first (rw d e)
+    further d (second e) = second e
+
+    go : (b : Bool) → eqb (x .label) l ≡ b → (find l (xs ++ ys) ≡ some q → InEither l q xs ys) → cond b (some x) (find l (xs ++ ys)) ≡ some q → InEither l q (x ∷ xs) ys
+    go true d g e = first (rw d e)
+    go false d g e = further d (g e)
+
+-- what was claimed was written
+gave-claimed : (l : ℕ) (q : Result) {es : List Sent} {qs : List Result} → Gave es qs → find l qs ≡ some q → ClaimedIn l q es
+gave-claimed l q noClaim e = absurd (none-some e)
+gave-claimed l q (pastCall h) e = there (gave-claimed l q h e)
+gave-claimed l q (pastStep h) e = there (gave-claimed l q h e)
+gave-claimed l q (pastRefusal n h) e = there (gave-claimed l q h e)
+gave-claimed l q (pastClaim {line} {out} {r} {es} {q = p} {qs} i w h) e = go (eqb (p .label) l) refl (λ d. gave-claimed l q h d) e
+  where
+    go : (b : Bool) → eqb (p .label) l ≡ b → (find l qs ≡ some q → ClaimedIn l q es) → cond b (some p) (find l qs) ≡ some q → ClaimedIn l q (claim line out r ∷ es)
+    go true d g e =
+        let same : p ≡ q = some-same e in
+        here (subst (IsClaim line) (eqb-true (p .label) l d) i) (subst (λ (x : Result). Wrote out x r) same w)
+    go false d g e = there (g e)
+
+module _ (meant : List Result) (all : List Result) (right : (pre post : List Result) (r : Result) → all ≡ pre ++ (r ∷ post) → find (r .label) meant ≡ some r) where
+  gave-meant : (pre : List Result) {es : List Sent} {qs : List Result} → Gave es qs → all ≡ pre ++ qs → ClaimsMeant meant es
+  gave-meant pre noClaim e = tt
+  gave-meant pre (pastCall h) e = gave-meant pre h e
+  gave-meant pre (pastStep h) e = gave-meant pre h e
+  gave-meant pre (pastRefusal n h) e = (λ y. absurd (true≢false (sym y ∙ n)), gave-meant pre h e)
+  gave-meant pre (pastClaim {line} {out} {r} {es} {q} {qs} i w h) e =
+      (λ y. record { label = q .label; text = i; result = q; same = right pre qs q e; wrote = w }, gave-meant (pre ++ (q ∷ [])) h (e ∙ sym (append-assoc pre (q ∷ []) qs)))
+
+-- ONE STEP THAT IS ALLOWED
+done-of : (x : Answer Session) → isDone x ≡ true → (B : Type 0) → ((u : Session) → x ≡ done u → B) → B
+done-of (refused n) e B f = absurd (true≢false (sym e))
+done-of (done u) e B f = f u refl
+
+up-exact : (n : ℕ) → n ≤ 4294967295 → upBy 0 n ≡ n
+up-exact n h = omega arith
+
+-- ONE THEOREM
+module _ (es : List Sent) (h : Runs opening es) where
+  abbrev to : Reached start es
+  to = reached start valid-fresh es h
+
+  abbrev x : Run
+  x = run (to .made)
+
+  abbrev s : Session
+  s = x .now
+
+  d : graphRuns.Demand3 x
+  d = sessions.demand3 (to .made)
+
+  v : Valid s
+  v = d .valid
+
+  fed : x .accepted ≡ to .calls
+  fed = to .accepted
+
+  size : s .last ≡ length (acceptedLines es)
+  size = d .labels ∙ ap length fed ∙ sym (texts-length (to .texts))
+
+  image : after opening es ≡ encode s
+  image = to .image
+
+  waits : (l : ℕ) → 1 ≤ l → l ≤ length (acceptedLines es) → contains l (pending s) ≡ true → Pending (after opening es) l
+  waits l a b c = subst (λ (i : List ℕ). Pending i l) (sym image) (pending-seen s v l a (omega (arith, size)) c)
+
+  waiting : (l : ℕ) → Pending (after opening es) l → contains l (pending s) ≡ true
+  waiting l p = pending-only s v l (subst (λ (i : List ℕ). Pending i l) image p)
+
+  result : (l : ℕ) → 1 ≤ l → l ≤ length (acceptedLines es) → contains l (pending s) ≡ false → HasResult es ((oneAtATime (to .calls)) .results) l
+  result l a b c =
+      let b′ : l ≤ length (x .accepted) = omega (arith, d .labels, size) in
+      let r = d .results l a b′ c in
+      record {
+        result = r .result;
+        given = go (r .result) (find-either l (r .result) (x .claimed) (s .results) (r .here));
+        same = sym (ap (λ (cs : List Call). find l ((oneAtATime cs) .results)) fed) ∙ r .there;
+      }
+    where
+      go : (q : Result) → InEither l q (x .claimed) (s .results) → ResultOf es l q
+      go q (first e) = claimed (gave-claimed l q (to .wrote) (sym (ap (find l) (to .claimed)) ∙ e))
+      go q (second e) = unclaimed (λ out room. subst (λ (i : List ℕ). WouldWrite i out l q) (sym image) (would-write s v l a (omega (arith, size)) c q e out room))
+
+  no-more : ((l : ℕ) → 1 ≤ l → l ≤ length (acceptedLines es) → Pending (after opening es) l → ⊥) → pending s ≡ []
+  no-more np = go (pending s) refl
+    where
+      go : (ps : List ℕ) → pending s ≡ ps → pending s ≡ []
+      go [] e = e
+      go (p ∷ ps) e =
+          let g : Given (s .last) p = subst (λ (ls : List ℕ). Each (Given (s .last)) (ls ++ labelsOfResults (s .results))) e (v .given) .0 in
+          let c : contains p (pending s) ≡ true = ap (contains p) e ∙ ap (λ (b : Bool). b || contains p ps) (eq-eqb p p refl) in
+          absurd (np p (g .0) (omega (arith, g .1, size)) (waits p (g .0) (omega (arith, g .1, size)) c))
+
+  onward : (l : ℕ) → Pending (after opening es) l → Progress (after opening es)
+  onward l p =
+      let g = d .progress l (waiting l p) in
+      let cost : costs (g .what) ≡ 1 = omega (arith, g .work, work-cons (g .what) []) in
+      done-of (graph.step (g .what) s) (step-done (g .what) s ∙ g .fine) (Progress (after opening es)) (λ u e.
+      record {
+        what = g .what;
+        kind = g .work;
+        allowed = λ t.
+            record {
+              gives = record { answer = pos 0; image = encode u; tally = counted t (g .what ∷ []) };
+              stepped = subst (λ (i : List ℕ). Steps i (stepText (work (g .what))) t (record { answer = pos 0; image = encode u; tally = counted t (g .what ∷ []) })) (sym image) (line-taken s v (g .what) cost u e t);
+              zero = refl;
+            };
+      })
+
+  few : workSteps (to .steps) ≤ 73 * length (acceptedLines es)
+  few = subst (λ (ts : List Step). workSteps ts ≤ 73 * length (acceptedLines es)) (to .taken) (omega (arith, d .bound, d .labels, size))
+
+  tallied : OneTally zeros es → lastTally zeros es ≡ each (λ k c. upBy c (ofKind k (to .steps))) zeros
+  tallied o = to .tally zeros o ∙ counted-kinds zeros (to .steps)
+
+  -- 73 × 65,535 is far below resting
+  small : workSteps (to .steps) ≤ 4294967295
+  small = omega (arith, few, size, v .labels)
+
+  one-by-one : (u : Session) → ImageOf (after opening es) u → StepLines (encode ((drain u) .end)) (after opening es) ((drain u) .took)
+  one-by-one u i =
+      let same : s ≡ u = same-session (own s v) (subst (λ (b : List ℕ). ImageOf b u) image i) in
+      subst (λ (b : List ℕ). StepLines (encode ((drain u) .end)) b ((drain u) .took)) (sym image)
+      (subst (λ (y : Session). StepLines (encode ((drain y) .end)) (encode s) ((drain y) .took)) same
+      (all-lines ((drain s) .took) s ((drain s) .end) v (drain-works (suc (weightOf s)) s) (drain-drains s v .steps)))
+
+  pub demand3 : Demand3 es
+  demand3 =
+      record {
+        calls = to .calls;
+        texts = to .texts;
+        labels = to .labels;
+        results = λ l a b np. result l a b (by-bool (contains l (pending s)) (λ c. absurd (np (waits l a b c))) (λ c. c));
+        claims = gave-meant ((oneAtATime (to .calls)) .results) (x .claimed) (λ pre post r e. sym (ap (λ (cs : List Call). find (r .label) ((oneAtATime cs) .results)) fed) ∙ d .claims pre post r e) [] (to .wrote) (to .claimed);
+        graph = λ np. record { session = s; holds = subst (λ (i : List ℕ). ImageOf i s) (sym image) (own s v); graph = d .graph (no-more np) ∙ ap (λ (cs : List Call). (oneAtATime cs) .nodes) fed };
+        progress = onward;
+        steps = to .steps;
+        taken = to .took;
+        bound = few;
+        tally = λ o. (
+          ap (λ (t : Tally). t .admit) (tallied o) ∙ up-exact (ofKind 0 (to .steps)) (omega (arith, small)),
+          ap (λ (t : Tally). t .realise) (tallied o) ∙ up-exact (ofKind 1 (to .steps)) (omega (arith, small)),
+          ap (λ (t : Tally). t .«move_on») (tallied o) ∙ up-exact (ofKind 2 (to .steps)) (omega (arith, small)),
+          ap (λ (t : Tally). t .finish) (tallied o) ∙ up-exact (ofKind 3 (to .steps)) (omega (arith, small)),
+        );
+        drained = one-by-one;
+      }
