@@ -2,3 +2,4 @@ pub mod Entered
 pub mod Reached
 pub mod Seen
 pub mod Demand3
+pub mod Determined
