@@ -52,7 +52,7 @@ pub data InEither (l : ℕ) (q : Result) (xs ys : List Result) : Type 0 where
   first : find l xs ≡ some q → InEither l q xs ys
   second : find l ys ≡ some q → InEither l q xs ys
 
-find-either : (l : ℕ) (q : Result) (xs ys : List Result) → find l (xs ++ ys) ≡ some q → InEither l q xs ys
+pub find-either : (l : ℕ) (q : Result) (xs ys : List Result) → find l (xs ++ ys) ≡ some q → InEither l q xs ys
 find-either l q [] ys e = second e
 find-either l q (x ∷ xs) ys e = go (eqb (x .label) l) refl (λ d. find-either l q xs ys d) e
   where
@@ -65,7 +65,7 @@ find-either l q (x ∷ xs) ys e = go (eqb (x .label) l) refl (λ d. find-either 
     go false d g e = further d (g e)
 
 -- what was claimed was written
-gave-claimed : (l : ℕ) (q : Result) {es : List Sent} {qs : List Result} → Gave es qs → find l qs ≡ some q → ClaimedIn l q es
+pub gave-claimed : (l : ℕ) (q : Result) {es : List Sent} {qs : List Result} → Gave es qs → find l qs ≡ some q → ClaimedIn l q es
 gave-claimed l q noClaim e = absurd (none-some e)
 gave-claimed l q (pastCall h) e = there (gave-claimed l q h e)
 gave-claimed l q (pastStep h) e = there (gave-claimed l q h e)

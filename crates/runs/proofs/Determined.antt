@@ -54,13 +54,13 @@ module _ {F R Q : Type 0} {image : List ℕ} {Is : F → Type 0} {refuse : ℕ �
   both (served s i f h e) (served u j g k d) =
       same-ends P e (d ∙ (λ t. serve′ (same-session j i t) (unique g f k h t))) (serves s f)
 
-call-forms : {line : List ℕ} (f g : Call) → IsCall line f → IsCall line g → f ≡ g
+pub call-forms : {line : List ℕ} (f g : Call) → IsCall line f → IsCall line g → f ≡ g
 call-forms f g h k = call-unique f g (sym (h .same) ∙ k .same)
 
 step-forms : {line : List ℕ} (f g : StepForm) → IsStep line f → IsStep line g → f ≡ g
 step-forms f g h k = step-unique f g (sym (h .same) ∙ k .same)
 
-claim-forms : {line : List ℕ} (l m : ℕ) → IsClaim line l → IsClaim line m → l ≡ m
+pub claim-forms : {line : List ℕ} (l m : ℕ) → IsClaim line l → IsClaim line m → l ≡ m
 claim-forms l m h k = claim-unique l m (sym (h .same) ∙ k .same)
 
 -- ONE ANSWER

@@ -3,3 +3,4 @@ pub mod Reached
 pub mod Seen
 pub mod Demand3
 pub mod Determined
+pub mod SameEnd

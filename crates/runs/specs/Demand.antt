@@ -8,7 +8,7 @@ use mathlib.Core.Option.{some}
 use lib.IntN.{pos}
 use lib.ListN.{length}
 use Rattle.graph.specs.Calls.{Call}
-use Rattle.graph.specs.Nodes.{Result}
+use Rattle.graph.specs.Nodes.{Node, Result}
 use Rattle.graph.specs.OneAtATime.{oneAtATime}
 use Rattle.graph.specs.Sessions.{Session}
 use Rattle.graph.specs.Steps.{Step}
@@ -59,6 +59,10 @@ pub data StepLines (end : List ℕ) : List ℕ → List Step → Type 0 where
   ended : {image : List ℕ} → image ≡ end → StepLines end image []
   stepped : {image : List ℕ} {w : Step} {ts : List Step} (next : List ℕ) → ((t : Tally) → Steps image (stepText (work w)) t (record { answer = pos 0; image = next; tally = counted t (w ∷ []) })) → StepLines end next ts → StepLines end image (w ∷ ts)
 
+-- no accepted call is pending
+abbrev pub NonePending : List Sent → Type 0
+NonePending es = (l : ℕ) → 1 ≤ l → l ≤ length (acceptedLines es) → Pending (after opening es) l → ⊥
+
 pub record Demand3 (es : List Sent) : Type 0 where
   -- one-at-a-time processing is fed the accepted lines, read by the grammar alone
   pub calls : List Call
@@ -69,7 +73,7 @@ pub record Demand3 (es : List Sent) : Type 0 where
   -- every claim that was served wrote exactly that
   pub claims : ClaimsMeant ((oneAtATime calls) .results) es
   -- "With none pending it equals the nodes of one-at-a-time processing, front first."
-  pub graph : ((l : ℕ) → 1 ≤ l → l ≤ length (acceptedLines es) → Pending (after opening es) l → ⊥) → GraphOf (after opening es) ((oneAtATime calls) .nodes)
+  pub graph : NonePending es → GraphOf (after opening es) ((oneAtATime calls) .nodes)
   -- "While a call is pending, an admit, realise, move or finish is allowed."
   pub progress : (l : ℕ) → Pending (after opening es) l → Progress (after opening es)
   -- the steps taken, and at most 73 of the four kinds for each call accepted
@@ -80,3 +84,21 @@ pub record Demand3 (es : List Sent) : Type 0 where
   pub tally : OneTally zeros es → (lastTally zeros es .admit ≡ ofKind 0 steps) × (lastTally zeros es .realise ≡ ofKind 1 steps) × (lastTally zeros es .«move_on» ≡ ofKind 2 steps) × (lastTally zeros es .finish ≡ ofKind 3 steps)
   -- a drain's steps, sent one by one as lines, are each answered 0 and lead to the image that the drain leaves
   pub drained : (s : Session) → ImageOf (after opening es) s → StepLines (encode ((drain s) .end)) (after opening es) ((drain s) .took)
+
+-- "Two such lists that accept the same calls in the same order, and end with none pending, have the same final graph and the same
+-- result for each call."
+pub record SameResult (es fs : List Sent) (l : ℕ) : Type 0 where
+  pub result : Result
+  pub here : ResultOf es l result
+  pub there : ResultOf fs l result
+
+pub record SameEnd (es fs : List Sent) : Type 0 where
+  pub nodes : List Node
+  pub here : GraphOf (after opening es) nodes
+  pub there : GraphOf (after opening fs) nodes
+  pub results : (l : ℕ) → 1 ≤ l → l ≤ length (acceptedLines es) → SameResult es fs l
+
+-- a label that the list claimed
+pub record ClaimedLabel (l : ℕ) (es : List Sent) : Type 0 where
+  pub result : Result
+  pub is : ClaimedIn l result es

@@ -1,0 +1,54 @@
+-- Two lists that accept the same calls and end with none pending end alike; and if they claimed the same labels, byte for byte.
+-- Assumes nothing.
+use mathlib.Core.Path.{_≡_, refl, sym, ap, subst, _∙_}
+use Prim.Native.Nat.{ℕ, zero, suc, _+_, _≤_, _<_}
+use native.Mathlib.Omega.{arith}
+use mathlib.Core.Bool.{Bool, true, false, cond, _&&_, true≢false}
+use mathlib.Core.List.{List, [], _∷_, _++_}
+use mathlib.Core.Option.{Option, none, some}
+use lib.Dec.{eqb, ltb}
+use lib.ListN.{length}
+use borrow.Author.Tests.{eqb-true, eqb-false, eq-eqb, ne-eqb, ltb-true}
+use Rattle.graph.specs.KeyLists.{above, rising}
+use Rattle.graph.specs.Calls.{Call}
+use Rattle.graph.specs.Nodes.{Node, Result}
+use Rattle.graph.specs.OneAtATime.{oneAtATime}
+use Rattle.graph.specs.Sessions.{Station, station, Session, graphOf, labelsOfResults, pending, live}
+use Rattle.graph.specs.Drain.{backmost}
+use Rattle.graph.specs.Runs.{Event, Run, run, find}
+use Rattle.graph.specs.Valid.{Each, Given, Valid, count}
+use Rattle.graph.proofs.Answers.{and-left, and-right}
+use Rattle.graph.proofs.Drains.{Resting, no-units, pending-resting}
+use Rattle.lines.specs.Answers.{IsCall, IsClaim}
+use Rattle.valid.specs.Values.{encode}
+use Rattle.host.specs.Entries.{ClaimMade}
+use Rattle.runs.specs.Runs.{Sent, call, step, claim, Runs, opening, after, isServed, acceptedLines, TextsOf, noLine, aLine, Wrote, ClaimedIn, here, there, GraphOf}
+use Rattle.runs.specs.Demand.{ResultOf, HasResult, NonePending, SameResult, SameEnd, ClaimedLabel}
+use Rattle.runs.proofs.Seen.{some-same, none-some}
+use Rattle.runs.proofs.Reached.{Gave, noClaim, pastCall, pastStep, pastRefusal, pastClaim}
+use Rattle.runs.proofs.Determined.{call-forms, claim-forms}
+use Rattle.runs.proofs.Demand3.{demand3, InEither, first, second, find-either, gave-claimed}
+use Rattle.runs.proofs.Demand3 as main
+
+-- the same lines are the texts of the same calls
+texts-same : {lines : List (List ℕ)} {cs ds : List Call} → TextsOf lines cs → TextsOf lines ds → cs ≡ ds
+texts-same noLine noLine = refl
+texts-same (aLine {c = c} i h) (aLine {c = d} j k) = λ t. call-forms c d i j t ∷ texts-same h k t
+
+module _ (es fs : List Sent) (h : Runs opening es) (k : Runs opening fs) (same : acceptedLines es ≡ acceptedLines fs) where
+  calls-same : demand3 es h .calls ≡ demand3 fs k .calls
+  calls-same = texts-same (demand3 es h .texts) (subst (λ (ls : List (List ℕ)). TextsOf ls (demand3 fs k .calls)) (sym same) (demand3 fs k .texts))
+
+  pub same-end : NonePending es → NonePending fs → SameEnd es fs
+  same-end p q =
+      record {
+        nodes = (oneAtATime (demand3 es h .calls)) .nodes;
+        here = demand3 es h .graph p;
+        there = subst (λ (cs : List Call). GraphOf (after opening fs) ((oneAtATime cs) .nodes)) (sym calls-same) (demand3 fs k .graph q);
+        results = λ l a b.
+            let r = demand3 es h .results l a b (p l a b) in
+            let b′ : l ≤ length (acceptedLines fs) = omega (arith, ap length same) in
+            let t = demand3 fs k .results l a b′ (q l a b′) in
+            let alike : t .result ≡ r .result = some-same (sym (t .same) ∙ ap (λ (cs : List Call). find l ((oneAtATime cs) .results)) (sym calls-same) ∙ r .same) in
+            record { result = r .result; here = r .given; there = subst (ResultOf fs l) alike (t .given) };
+      }
