@@ -38,7 +38,7 @@ use Rattle.panel.proofs.TallyLaws.{counted-kinds}
 use Rattle.valid.specs.Values.{encode}
 use Rattle.host.specs.Entries.{ImageOf, Steps}
 use Rattle.runs.specs.Runs.{Sent, call, step, claim, Runs, opening, after, isServed, acceptedLines, TextsOf, noLine, aLine, Pending, Allowed, Wrote, ClaimedIn, here, there, WouldWrite, GraphOf, OneTally, lastTally}
-use Rattle.runs.specs.Demand.{ResultOf, claimed, unclaimed, HasResult, GaveMeant, ClaimsMeant, Progress, StepLines, Demand3}
+use Rattle.runs.specs.Demand.{ResultOf, claimed, unclaimed, HasResult, GaveMeant, ClaimsMeant, Progress, StepLines, NonePending, Demand3}
 use Rattle.runs.proofs.Entered.{own, same-session}
 use Rattle.runs.proofs.Reached.{Gave, noClaim, pastCall, pastStep, pastRefusal, pastClaim, Reached, reached}
 use Rattle.runs.proofs.Seen.{line-taken, all-lines, pending-seen, pending-only, would-write, some-same, none-some}
@@ -97,28 +97,28 @@ up-exact n h = omega arith
 
 -- ONE THEOREM
 module _ (es : List Sent) (h : Runs opening es) where
-  abbrev to : Reached start es
+  abbrev pub to : Reached start es
   to = reached start valid-fresh es h
 
-  abbrev x : Run
+  abbrev pub x : Run
   x = run (to .made)
 
-  abbrev s : Session
+  abbrev pub s : Session
   s = x .now
 
-  d : graphRuns.Demand3 x
+  pub d : graphRuns.Demand3 x
   d = sessions.demand3 (to .made)
 
-  v : Valid s
+  pub v : Valid s
   v = d .valid
 
-  fed : x .accepted ≡ to .calls
+  pub fed : x .accepted ≡ to .calls
   fed = to .accepted
 
-  size : s .last ≡ length (acceptedLines es)
+  pub size : s .last ≡ length (acceptedLines es)
   size = d .labels ∙ ap length fed ∙ sym (texts-length (to .texts))
 
-  image : after opening es ≡ encode s
+  pub image : after opening es ≡ encode s
   image = to .image
 
   waits : (l : ℕ) → 1 ≤ l → l ≤ length (acceptedLines es) → contains l (pending s) ≡ true → Pending (after opening es) l
@@ -141,7 +141,7 @@ module _ (es : List Sent) (h : Runs opening es) where
       go q (first e) = claimed (gave-claimed l q (to .wrote) (sym (ap (find l) (to .claimed)) ∙ e))
       go q (second e) = unclaimed (λ out room. subst (λ (i : List ℕ). WouldWrite i out l q) (sym image) (would-write s v l a (omega (arith, size)) c q e out room))
 
-  no-more : ((l : ℕ) → 1 ≤ l → l ≤ length (acceptedLines es) → Pending (after opening es) l → ⊥) → pending s ≡ []
+  pub no-more : NonePending es → pending s ≡ []
   no-more np = go (pending s) refl
     where
       go : (ps : List ℕ) → pending s ≡ ps → pending s ≡ []

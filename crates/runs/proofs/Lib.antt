@@ -4,3 +4,4 @@ pub mod Seen
 pub mod Demand3
 pub mod Determined
 pub mod SameEnd
+pub mod SameImage

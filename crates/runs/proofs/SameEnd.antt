@@ -31,7 +31,7 @@ use Rattle.runs.proofs.Demand3.{demand3, InEither, first, second, find-
 use Rattle.runs.proofs.Demand3 as main
 
 -- the same lines are the texts of the same calls
-texts-same : {lines : List (List ℕ)} {cs ds : List Call} → TextsOf lines cs → TextsOf lines ds → cs ≡ ds
+pub texts-same : {lines : List (List ℕ)} {cs ds : List Call} → TextsOf lines cs → TextsOf lines ds → cs ≡ ds
 texts-same noLine noLine = refl
 texts-same (aLine {c = c} i h) (aLine {c = d} j k) = λ t. call-forms c d i j t ∷ texts-same h k t
 
