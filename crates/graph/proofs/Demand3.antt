@@ -16,11 +16,11 @@ use Rattle.graph.specs.KeyLists.{contains, sameKeys}
 use Rattle.graph.specs.Calls.{Call, targetsOf}
 use Rattle.graph.specs.Nodes.{Node, Op, Result, visitOp, stored}
 use Rattle.graph.specs.OneAtATime.{Labelled, labelled, World, passOp, process, processFrom, oneAtATime}
-use Rattle.graph.specs.Sessions.{Station, Session, graphOf, labelsOfResults, pending}
+use Rattle.graph.specs.Sessions.{Station, Session, graphOf, labelsOfResults, pending, live}
 use Rattle.graph.specs.Steps.{Step, step}
 use Rattle.graph.specs.Acceptance.{accepted, accept, Claimed, claim}
 use Rattle.graph.specs.Drain.{weightOfCall, weightOfCalls, weightOf, backmost, drain}
-use Rattle.graph.specs.Valid.{Valid}
+use Rattle.graph.specs.Valid.{Valid, count}
 use Rattle.graph.specs.Runs.{Event, calls, steps, drains, claims, Run, onCall, onStep, onDrain, onClaim, events, start, run, stepEvents, workSteps, andThen, stepAll, find, SameResult, Demand3, SameOutcome}
 use Rattle.graph.proofs.Answers.{Holds, holds, holds-at, and-left, and-right, eqb-same}
 use Rattle.graph.proofs.Striking.{same-eq, same-refl}
@@ -234,6 +234,14 @@ label-one i l (r ∷ rs) d h k = go (eqb l (r .label)) refl (label-one (suc i) l
         let f : l ≡ i → ⊥ = λ q. eqb-false l (r .label) e (q ∙ sym (d .0)) in
         omega (arith, ih (omega arith) (omega arith))
 
+label-most : (i l : ℕ) (rs : List Result) → Labelling i rs → sum (byLabel (is l)) rs ≤ 1
+label-most i l [] d = omega arith
+label-most i l (r ∷ rs) d = go (eqb l (r .label)) refl (label-most (suc i) l rs (d .1))
+  where
+    go : (b : Bool) → eqb l (r .label) ≡ b → sum (byLabel (is l)) rs ≤ 1 → cond b 1 0 + sum (byLabel (is l)) rs ≤ 1
+    go true e ih = omega (arith, label-none (suc i) l rs (d .1) (omega (arith, d .0, eqb-true l (r .label) e)))
+    go false e ih = omega (arith, ih)
+
 -- a label that stands among results finds one there
 record Has (l : ℕ) (rs : List Result) : Type 0 where
   which : Result
@@ -319,6 +327,21 @@ demand3 es =
       drained = drain-ends (x .now) (g .valid);
       valid = g .valid;
     }
+
+-- a label stands once: among the results that were claimed, or in the session
+pub label-once : (es : List Event) (l : ℕ) → count l (labelsOfResults ((run es) .claimed)) + count l (live ((run es) .now)) ≤ 1
+label-once es l =
+    let x = run es in
+    let g = good-events es start good-start in
+    omega (
+      arith,
+      ap (λ (y : Seen). y .total) (g .balance (byLabel (is l))),
+      live-total (is l) (x .now),
+      total-is l (live (x .now)),
+      total-is l (labelsOfResults (x .claimed)),
+      total-results (is l) (x .claimed),
+      label-most 1 l ((oneAtATime (x .accepted)) .results) (g .plain .labelling),
+    )
 
 -- COROLLARY: what two lists that accept the same calls, and end with none pending, have in common
 same-find : {l : ℕ} {rs qs all : List Result} → SameResult l rs all → SameResult l qs all → SameResult l rs qs

@@ -1,6 +1,6 @@
 -- A claim line: refused in reading, or the claim that the session is asked for; and the result's line, where there is room.
 -- Assumes nothing.
-use mathlib.Core.Path.{_≡_, refl, sym, ap, subst, _∙_}
+use mathlib.Core.Path.{_≡_, sym, ap, subst, _∙_}
 use Prim.Native.Nat.{ℕ, _≤_, _<_}
 use native.Mathlib.Omega.{arith}
 use mathlib.Core.Bool.{Bool, true, false, cond}
@@ -18,14 +18,14 @@ use Rattle.lines.specs.declared.claim.ClaimLine.{ClaimLine}
 use Rattle.lines.specs.Answers.{form, other, IsClaim, ClaimRead}
 use Rattle.print.specs.Printed.{resultText, resultOf}
 use Rattle.print.specs.Lengths.{LineLength}
-use Rattle.panel.specs.declared.answer.Answer.the-variants.{Done, Refused}
+use Rattle.panel.specs.declared.answer.Answer.the-variants.{Done}
 use Rattle.panel.specs.Answer.{numberOf}
 use Rattle.valid.specs.Values.{encode, sessionOf}
 use Rattle.state.specs.declared.results.Outcome.{Outcome}
 use Rattle.state.specs.State.{held}
-use Rattle.state.specs.Results.{IsOutcome, noResult, takenAt}
+use Rattle.state.specs.Results.{IsOutcome, noResult}
 use Rattle.session.specs.declared.claims.Found.{Found}
-use Rattle.session.specs.Claims.{Takes, Claimable, Finds}
+use Rattle.session.specs.Claims.{Claimable, Finds}
 use Rattle.host.specs.Entries.{ImageOf, otherLine, served, ClaimMade, claimRefused, claimServed, Claims}
 
 -- the text of what was found

@@ -1,19 +1,18 @@
 -- The listing, where there is room.
 -- Assumes nothing.
-use mathlib.Core.Path.{_≡_, refl, sym, ap, subst, _∙_}
+use mathlib.Core.Path.{_≡_, refl, sym, subst}
 use Prim.Native.Nat.{ℕ, _≤_, _<_}
 use native.Mathlib.Omega.{arith}
-use mathlib.Core.Bool.{true, false}
 use mathlib.Core.List.{List}
 use lib.IntN.{ℤ}
 use lib.ListN.{length}
 use borrow.Author.Tests.{le-leb, lt-leb}
 use Rattle.text.specs.Text.{Written}
-use Rattle.panel.specs.declared.answer.Answer.the-variants.{Done, Refused}
+use Rattle.panel.specs.declared.answer.Answer.the-variants.{Done}
 use Rattle.panel.specs.Answer.{numberOf}
 use Rattle.valid.specs.Values.{sessionOf}
 use Rattle.listing.specs.Listed.{listingOf, ListingLength}
-use Rattle.host.specs.Entries.{ImageOf, served, listRefused, listServed, Lists}
+use Rattle.host.specs.Entries.{ImageOf, served, listRefused, Lists}
 
 module _ (image out : List ℕ) (n : ℕ) (h : ImageOf image (sessionOf image)) (m : ListingLength (sessionOf image) n) where
   pub no-room : length out < n → Lists image out (listRefused out 33)

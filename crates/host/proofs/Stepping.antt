@@ -3,7 +3,7 @@
 use mathlib.Core.Path.{_≡_, refl, sym, ap, subst, _∙_}
 use Prim.Native.Nat.{ℕ, suc, _≤_, _<_}
 use native.Mathlib.Omega.{arith}
-use mathlib.Core.Bool.{Bool, true, false, not, cond, true≢false, _&&_}
+use mathlib.Core.Bool.{Bool, true, false, not, cond, true≢false}
 use mathlib.Core.List.{List, [], _∷_}
 use lib.Dec.{leb}
 use lib.IntN.{ℤ}
@@ -29,7 +29,7 @@ use Rattle.panel.specs.declared.tally.Tally.{Tally}
 use Rattle.panel.specs.Answer.{numberOf}
 use Rattle.panel.specs.Tally.{raised, counted}
 use Rattle.panel.proofs.TallyLaws.{counted-at-once}
-use Rattle.valid.specs.Values.{encode, sessionOf}
+use Rattle.valid.specs.Values.{sessionOf}
 use Rattle.live.specs.Live.{imageAfter, Serves}
 use Rattle.session.specs.declared.drain.Counts.{Counts}
 use Rattle.session.specs.Drained.{Drains}

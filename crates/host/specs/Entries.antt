@@ -12,7 +12,7 @@ use Rattle.graph.specs.Refusals.{Answer, refused, done, unless}
 use Rattle.graph.specs.Sessions.{Session, fresh}
 use Rattle.graph.specs.Steps.{Step, step}
 use Rattle.graph.specs.Acceptance.{accept, Claimed, claim, keeping}
-use Rattle.graph.specs.Drain.{Drained, drain}
+use Rattle.graph.specs.Drain.{drain}
 use Rattle.graph.specs.Runs.{andThen}
 use Rattle.graph.specs.Valid.{Valid}
 use Rattle.text.specs.Text.{pasted}

@@ -1,11 +1,11 @@
 -- Demand 3 of lines and images: one theorem, from the session's own.
 -- Assumes nothing.
 use mathlib.Core.Path.{_≡_, refl, sym, ap, subst, _∙_}
-use Prim.Native.Nat.{ℕ, zero, suc, _+_, _*_, _≤_, _-_, min}
+use Prim.Native.Nat.{ℕ, zero, suc, _+_, _*_, _≤_, _-_}
 use native.Mathlib.Omega.{arith}
 use mathlib.Core.Bool.{Bool, true, false, cond, _||_, true≢false}
 use mathlib.Core.List.{List, [], _∷_, _++_, append-assoc}
-use mathlib.Core.Option.{Option, none, some}
+use mathlib.Core.Option.{some}
 use lib.Dec.{eqb}
 use lib.IntN.{pos}
 use lib.ListN.{length}
@@ -13,14 +13,14 @@ use borrow.Author.Tests.{eqb-true, eq-eqb}
 use Rattle.graph.specs.Refusals.{Answer, refused, done}
 use Rattle.graph.specs.KeyLists.{contains}
 use Rattle.graph.specs.Calls.{Call}
-use Rattle.graph.specs.Nodes.{Node, Result}
+use Rattle.graph.specs.Nodes.{Result}
 use Rattle.graph.specs.OneAtATime.{oneAtATime}
-use Rattle.graph.specs.Sessions.{Session, pending, live, labelsOfResults, graphOf}
+use Rattle.graph.specs.Sessions.{Session, pending, labelsOfResults}
 use Rattle.graph.specs.Steps.{Step}
 use Rattle.graph.specs.Steps as graph
 use Rattle.graph.specs.Allowed.{allowed}
 use Rattle.graph.specs.Drain.{drain, weightOf}
-use Rattle.graph.specs.Runs.{Run, start, run, find, ofKind, workSteps, SameResult}
+use Rattle.graph.specs.Runs.{Run, start, run, find, ofKind, workSteps}
 use Rattle.graph.specs.Runs as graphRuns
 use Rattle.graph.specs.Valid.{Each, Given, Valid}
 use Rattle.graph.proofs.Answers.{isDone, by-bool}
@@ -29,7 +29,6 @@ use Rattle.graph.proofs.Verdicts.{step-done}
 use Rattle.graph.proofs.Validity.{valid-fresh}
 use Rattle.graph.proofs.Drains.{work-cons, drain-drains, drain-works}
 use Rattle.graph.proofs.Demand3 as sessions
-use Rattle.print.specs.Printed.{resultText}
 use Rattle.lines.specs.Forms.{work, stepText}
 use Rattle.lines.specs.Answers.{IsClaim}
 use Rattle.panel.specs.declared.tally.Tally.{Tally}
@@ -37,8 +36,8 @@ use Rattle.panel.specs.Tally.{upBy, each, counted, zeros}
 use Rattle.panel.proofs.TallyLaws.{counted-kinds}
 use Rattle.valid.specs.Values.{encode}
 use Rattle.host.specs.Entries.{ImageOf, Steps}
-use Rattle.runs.specs.Runs.{Sent, call, step, claim, Runs, opening, after, isServed, acceptedLines, TextsOf, noLine, aLine, Pending, Allowed, Wrote, ClaimedIn, here, there, WouldWrite, GraphOf, OneTally, lastTally}
-use Rattle.runs.specs.Demand.{ResultOf, claimed, unclaimed, HasResult, GaveMeant, ClaimsMeant, Progress, StepLines, NonePending, Demand3}
+use Rattle.runs.specs.Runs.{Sent, step, claim, Runs, opening, after, acceptedLines, TextsOf, noLine, aLine, Pending, Wrote, ClaimedIn, here, there, WouldWrite, OneTally, lastTally}
+use Rattle.runs.specs.Demand.{ResultOf, claimed, unclaimed, HasResult, ClaimsMeant, Progress, StepLines, NonePending, Demand3}
 use Rattle.runs.proofs.Entered.{own, same-session}
 use Rattle.runs.proofs.Reached.{Gave, noClaim, pastCall, pastStep, pastRefusal, pastClaim, Reached, reached}
 use Rattle.runs.proofs.Seen.{line-taken, all-lines, pending-seen, pending-only, would-write, some-same, none-some}

@@ -11,7 +11,6 @@ use Rattle.graph.specs.Calls.{Call}
 use Rattle.graph.specs.Sessions.{Session}
 use Rattle.graph.specs.Steps.{Step, step}
 use Rattle.graph.specs.Acceptance.{accept, Claimed, claim}
-use Rattle.graph.specs.Drain.{drain}
 use Rattle.graph.specs.Runs.{andThen}
 use Rattle.lines.specs.Forms.{StepForm, work, drain as drains}
 use Rattle.lines.specs.Answers.{IsCall, IsStep, IsClaim, stepFormTests}
@@ -22,7 +21,7 @@ use Rattle.panel.specs.declared.tally.Tally.{Tally}
 use Rattle.print.specs.Printed.{resultText}
 use Rattle.listing.specs.Listed.{listingOf}
 use Rattle.live.proofs.Serving.{encode-shows}
-use Rattle.host.specs.Entries.{ImageOf, Enters, otherLength, otherBytes, otherLine, served, Called, callRefused, callServed, Calls, Stepped, stepRefused, stepServed, stepMade, Steps, ClaimMade, claimRefused, claimServed, Claims, Listed, listRefused, listServed, Lists}
+use Rattle.host.specs.Entries.{ImageOf, Enters, otherLength, otherBytes, otherLine, served, Called, callServed, Calls, Stepped, stepServed, stepMade, Steps, ClaimMade, claimRefused, claimServed, Claims, Listed, listRefused, Lists}
 use Rattle.runs.specs.Runs.{isServed}
 use Rattle.runs.proofs.Entered.{same-session}
 

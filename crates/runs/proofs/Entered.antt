@@ -21,12 +21,11 @@ use Rattle.graph.specs.Valid.{Valid}
 use Rattle.graph.proofs.Answers.{isDone}
 use Rattle.text.specs.Text.{pasted}
 use Rattle.lines.specs.Forms.{StepForm, work, drain as drains, stepKeys}
-use Rattle.lines.specs.Answers.{IsCall, IsStep, IsClaim, stepFormTests}
+use Rattle.lines.specs.Answers.{IsCall, IsStep, IsClaim}
 use Rattle.print.specs.Printed.{resultText}
 use Rattle.panel.specs.declared.answer.Answer.the-variants.{Done, Refused}
 use Rattle.panel.specs.declared.tally.Tally.{Tally}
 use Rattle.panel.specs.Answer.{numberOf}
-use Rattle.panel.specs.Tally.{counted}
 use Rattle.valid.specs.Values.{encode, sessionOf}
 use Rattle.live.proofs.Serving.{session-held, nest-shown, encode-shows}
 use Rattle.host.specs.Entries.{ImageOf, Enters, otherLength, otherBytes, otherLine, served, Called, callRefused, callServed, Calls, Stepped, stepRefused, stepServed, stepMade, Steps, ClaimMade, claimRefused, claimServed, Claims}

@@ -20,13 +20,12 @@ use Rattle.graph.specs.Runs as graphRuns
 use Rattle.graph.proofs.Answers.{Holds, holds-at}
 use Rattle.graph.proofs.Validity.{ValidClaim, step-valid, accept-valid, claim-valid}
 use Rattle.graph.proofs.Drains.{done-holds, drain-drains}
-use Rattle.lines.specs.Forms.{work}
-use Rattle.lines.specs.Answers.{IsCall, IsStep, IsClaim}
+use Rattle.lines.specs.Answers.{IsCall, IsClaim}
 use Rattle.panel.specs.declared.tally.Tally.{Tally}
 use Rattle.panel.specs.Tally.{counted}
 use Rattle.panel.proofs.TallyLaws.{counted-append}
 use Rattle.valid.specs.Values.{encode}
-use Rattle.host.specs.Entries.{Called, Stepped, ClaimMade, Calls, Steps, Claims}
+use Rattle.host.specs.Entries.{Called, Stepped, ClaimMade}
 use Rattle.runs.specs.Runs.{Sent, call, step, claim, Runs, after, isServed, acceptedLines, labelsGiven, labelsFrom, TextsOf, noLine, aLine, Wrote, Took, one, several, Taken, nothingSent, afterCall, afterClaim, afterRefusal, afterStep, OneTally, lastTally}
 use Rattle.runs.proofs.Entered.{own, CallNext, StepNext, ClaimNext, call-next, step-next, claim-next, callRefuses, accepts, stepRefuses, takes, drained, claimRefuses, gives, claimed-label}
 

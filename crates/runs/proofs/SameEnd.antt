@@ -1,34 +1,20 @@
 -- Two lists that accept the same calls and end with none pending end alike; and if they claimed the same labels, byte for byte.
 -- Assumes nothing.
 use mathlib.Core.Path.{_≡_, refl, sym, ap, subst, _∙_}
-use Prim.Native.Nat.{ℕ, zero, suc, _+_, _≤_, _<_}
+use Prim.Native.Nat.{ℕ, _≤_}
 use native.Mathlib.Omega.{arith}
-use mathlib.Core.Bool.{Bool, true, false, cond, _&&_, true≢false}
-use mathlib.Core.List.{List, [], _∷_, _++_}
-use mathlib.Core.Option.{Option, none, some}
-use lib.Dec.{eqb, ltb}
+use mathlib.Core.List.{List, _∷_}
+use mathlib.Core.Option.{none}
 use lib.ListN.{length}
-use borrow.Author.Tests.{eqb-true, eqb-false, eq-eqb, ne-eqb, ltb-true}
-use Rattle.graph.specs.KeyLists.{above, rising}
 use Rattle.graph.specs.Calls.{Call}
-use Rattle.graph.specs.Nodes.{Node, Result}
 use Rattle.graph.specs.OneAtATime.{oneAtATime}
-use Rattle.graph.specs.Sessions.{Station, station, Session, graphOf, labelsOfResults, pending, live}
-use Rattle.graph.specs.Drain.{backmost}
-use Rattle.graph.specs.Runs.{Event, Run, run, find}
-use Rattle.graph.specs.Valid.{Each, Given, Valid, count}
-use Rattle.graph.proofs.Answers.{and-left, and-right}
-use Rattle.graph.proofs.Drains.{Resting, no-units, pending-resting}
-use Rattle.lines.specs.Answers.{IsCall, IsClaim}
-use Rattle.valid.specs.Values.{encode}
-use Rattle.host.specs.Entries.{ClaimMade}
-use Rattle.runs.specs.Runs.{Sent, call, step, claim, Runs, opening, after, isServed, acceptedLines, TextsOf, noLine, aLine, Wrote, ClaimedIn, here, there, GraphOf}
-use Rattle.runs.specs.Demand.{ResultOf, HasResult, NonePending, SameResult, SameEnd, ClaimedLabel}
-use Rattle.runs.proofs.Seen.{some-same, none-some}
-use Rattle.runs.proofs.Reached.{Gave, noClaim, pastCall, pastStep, pastRefusal, pastClaim}
-use Rattle.runs.proofs.Determined.{call-forms, claim-forms}
-use Rattle.runs.proofs.Demand3.{demand3, InEither, first, second, find-either, gave-claimed}
-use Rattle.runs.proofs.Demand3 as main
+use Rattle.graph.specs.Sessions.{pending}
+use Rattle.graph.specs.Runs.{find}
+use Rattle.runs.specs.Runs.{Sent, Runs, opening, after, acceptedLines, TextsOf, noLine, aLine, here, there, GraphOf}
+use Rattle.runs.specs.Demand.{ResultOf, NonePending, SameEnd}
+use Rattle.runs.proofs.Seen.{some-same}
+use Rattle.runs.proofs.Determined.{call-forms}
+use Rattle.runs.proofs.Demand3.{demand3}
 
 -- the same lines are the texts of the same calls
 pub texts-same : {lines : List (List ℕ)} {cs ds : List Call} → TextsOf lines cs → TextsOf lines ds → cs ≡ ds

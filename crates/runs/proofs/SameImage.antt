@@ -1,11 +1,11 @@
 -- Two lists that also claimed the same labels leave images that are equal byte for byte: their sessions are equal.
 -- Assumes nothing.
 use mathlib.Core.Path.{_≡_, refl, sym, ap, subst, _∙_}
-use Prim.Native.Nat.{ℕ, zero, suc, _+_, _≤_, _<_}
+use Prim.Native.Nat.{ℕ, _+_, _≤_, _<_}
 use native.Mathlib.Omega.{arith}
-use mathlib.Core.Bool.{Bool, true, false, cond, _&&_, true≢false}
+use mathlib.Core.Bool.{Bool, true, false, cond, true≢false}
 use mathlib.Core.List.{List, [], _∷_, _++_}
-use mathlib.Core.Option.{Option, none, some}
+use mathlib.Core.Option.{none, some}
 use lib.Dec.{eqb, ltb}
 use lib.ListN.{length}
 use borrow.Author.Tests.{eqb-true, eqb-false, eq-eqb, ne-eqb, ltb-true}
@@ -13,20 +13,20 @@ use Rattle.graph.specs.KeyLists.{above, rising, contains}
 use Rattle.graph.specs.Calls.{Call}
 use Rattle.graph.specs.Nodes.{Node, Result}
 use Rattle.graph.specs.OneAtATime.{oneAtATime}
-use Rattle.graph.specs.Sessions.{Station, station, Session, graphOf, labelsOfResults, pending, live}
+use Rattle.graph.specs.Sessions.{Station, Session, graphOf, labelsOfResults, pending, live}
 use Rattle.graph.specs.Drain.{backmost}
-use Rattle.graph.specs.Runs.{Event, Run, run, find}
-use Rattle.graph.specs.Valid.{Each, Given, Valid, count}
-use Rattle.graph.proofs.Answers.{and-left, and-right, by-bool}
+use Rattle.graph.specs.Runs.{find}
+use Rattle.graph.specs.Valid.{Each, Given, count}
+use Rattle.graph.proofs.Answers.{and-left, and-right}
 use Rattle.graph.proofs.Drains.{Resting, no-units, pending-resting}
 use Rattle.graph.proofs.Limits.{rising-above}
-use Rattle.graph.proofs.Labels.{total, is, total-append, total-is}
-use Rattle.lines.specs.Answers.{IsClaim}
+use Rattle.graph.proofs.Demand3.{label-once}
+use Rattle.graph.proofs.Labels.{is, total-append, total-is}
 use Rattle.valid.specs.Values.{encode}
 use Rattle.runs.specs.Runs.{Sent, claim, Runs, opening, after, isServed, acceptedLines, TextsOf, ClaimedIn, here, there}
 use Rattle.runs.specs.Demand.{NonePending, ClaimedLabel}
 use Rattle.runs.proofs.Seen.{some-same, none-some}
-use Rattle.runs.proofs.Reached.{Gave, noClaim, pastCall, pastStep, pastRefusal, pastClaim}
+use Rattle.runs.proofs.Reached.{Gave, pastCall, pastStep, pastRefusal, pastClaim}
 use Rattle.runs.proofs.Determined.{claim-forms}
 use Rattle.runs.proofs.Demand3.{InEither, first, second, find-either, gave-claimed}
 use Rattle.runs.proofs.Demand3 as main
@@ -144,95 +144,94 @@ same-stations (s ∷ ss) (u ∷ us) a b e =
     λ i. record { node = ap (nodes-head (s .node)) e i; units = (p .1 ∙ sym (q .1)) i } ∷ same-stations ss us (p .0) (q .0) (ap nodes-tail e) i
 
 -- what the results of a session are, where none is pending
-module _ (once : (gs : List Event) (l : ℕ) → count l (labelsOfResults ((run gs) .claimed)) + count l (live ((run gs) .now)) ≤ 1) where
-  module _ (es : List Sent) (h : Runs opening es) where
-    abbrev s : Session
-    s = main.s es h
+module _ (es : List Sent) (h : Runs opening es) where
+  abbrev s : Session
+  s = main.s es h
 
-    abbrev meant : List Result
-    meant = (oneAtATime (main.x es h .accepted)) .results
+  abbrev meant : List Result
+  meant = (oneAtATime (main.x es h .accepted)) .results
 
-    results-live : (l : ℕ) → count l (labelsOfResults (s .results)) ≤ count l (live s)
-    results-live l =
-        omega (
-          arith,
-          total-is l (labelsOfResults (s .results)),
-          total-is l (live s),
-          total-append (is l) (pending s) (labelsOfResults (s .results)),
-        )
+  results-live : (l : ℕ) → count l (labelsOfResults (s .results)) ≤ count l (live s)
+  results-live l =
+      omega (
+        arith,
+        total-is l (labelsOfResults (s .results)),
+        total-is l (live s),
+        total-append (is l) (pending s) (labelsOfResults (s .results)),
+      )
 
-    not-both : (l : ℕ) (q p : Result) → find l (s .results) ≡ some q → find l (main.x es h .claimed) ≡ some p → ⊥
-    not-both l q p e f = omega (arith, counted l q (s .results) e, counted l p (main.x es h .claimed) f, results-live l, once (main.to es h .made) l)
+  not-both : (l : ℕ) (q p : Result) → find l (s .results) ≡ some q → find l (main.x es h .claimed) ≡ some p → ⊥
+  not-both l q p e f = omega (arith, counted l q (s .results) e, counted l p (main.x es h .claimed) f, results-live l, label-once (main.to es h .made) l)
 
-    results-given : Each (Given (s .last)) (labelsOfResults (s .results))
-    results-given = each-right (pending s) (labelsOfResults (s .results)) (main.v es h .given)
+  results-given : Each (Given (s .last)) (labelsOfResults (s .results))
+  results-given = each-right (pending s) (labelsOfResults (s .results)) (main.v es h .given)
+    where
+      each-right : (xs ys : List ℕ) → Each (Given (s .last)) (xs ++ ys) → Each (Given (s .last)) ys
+      each-right [] ys g = g
+      each-right (x ∷ xs) ys g = each-right xs ys (g .1)
+
+  module _ (np : NonePending es) where
+    idle : (l : ℕ) → contains l (pending s) ≡ false
+    idle l = ap (contains l) (main.no-more es h np)
+
+    -- what the session holds under a label is what is meant, and was not claimed
+    held-meant : (l : ℕ) (q : Result) → find l (s .results) ≡ some q → find l meant ≡ some q
+    held-meant l q e =
+        let g = given (s .last) l q (s .results) results-given e in
+        let r = main.d es h .results l (g .0) (omega (arith, g .1, main.d es h .labels)) (idle l) in
+        go (r .result) (r .there) (find-either l (r .result) (main.x es h .claimed) (s .results) (r .here))
       where
-        each-right : (xs ys : List ℕ) → Each (Given (s .last)) (xs ++ ys) → Each (Given (s .last)) ys
-        each-right [] ys g = g
-        each-right (x ∷ xs) ys g = each-right xs ys (g .1)
+        go : (p : Result) → find l meant ≡ some p → InEither l p (main.x es h .claimed) (s .results) → find l meant ≡ some q
+        go p m (first f) = absurd (not-both l q p e f)
+        go p m (second f) = m ∙ sym f ∙ e
 
-    module _ (np : NonePending es) where
-      idle : (l : ℕ) → contains l (pending s) ≡ false
-      idle l = ap (contains l) (main.no-more es h np)
+    -- and what is meant under a label that was not claimed is held
+    meant-held : (l : ℕ) (q : Result) → 1 ≤ l → l ≤ s .last → find l meant ≡ some q → (ClaimedLabel l es → ⊥) → find l (s .results) ≡ some q
+    meant-held l q a b e n =
+        let r = main.d es h .results l a (omega (arith, b, main.d es h .labels)) (idle l) in
+        go (r .result) (r .there) (find-either l (r .result) (main.x es h .claimed) (s .results) (r .here))
+      where
+        go : (p : Result) → find l meant ≡ some p → InEither l p (main.x es h .claimed) (s .results) → find l (s .results) ≡ some q
+        go p m (first f) = absurd (n (record { result = p; is = gave-claimed l p (main.to es h .wrote) (sym (ap (find l) (main.to es h .claimed)) ∙ f) }))
+        go p m (second f) = f ∙ sym m ∙ e
 
-      -- what the session holds under a label is what is meant, and was not claimed
-      held-meant : (l : ℕ) (q : Result) → find l (s .results) ≡ some q → find l meant ≡ some q
-      held-meant l q e =
-          let g = given (s .last) l q (s .results) results-given e in
-          let r = main.d es h .results l (g .0) (omega (arith, g .1, main.d es h .labels)) (idle l) in
-          go (r .result) (r .there) (find-either l (r .result) (main.x es h .claimed) (s .results) (r .here))
-        where
-          go : (p : Result) → find l meant ≡ some p → InEither l p (main.x es h .claimed) (s .results) → find l meant ≡ some q
-          go p m (first f) = absurd (not-both l q p e f)
-          go p m (second f) = m ∙ sym f ∙ e
+    held-unclaimed : (l : ℕ) (q : Result) → find l (s .results) ≡ some q → ClaimedLabel l es → ⊥
+    held-unclaimed l q e c =
+        let f = claimed-gave l (c .result) (c .is) (main.to es h .wrote) in
+        not-both l q (f .which) e (ap (find l) (main.to es h .claimed) ∙ f .found)
 
-      -- and what is meant under a label that was not claimed is held
-      meant-held : (l : ℕ) (q : Result) → 1 ≤ l → l ≤ s .last → find l meant ≡ some q → (ClaimedLabel l es → ⊥) → find l (s .results) ≡ some q
-      meant-held l q a b e n =
-          let r = main.d es h .results l a (omega (arith, b, main.d es h .labels)) (idle l) in
-          go (r .result) (r .there) (find-either l (r .result) (main.x es h .claimed) (s .results) (r .here))
-        where
-          go : (p : Result) → find l meant ≡ some p → InEither l p (main.x es h .claimed) (s .results) → find l (s .results) ≡ some q
-          go p m (first f) = absurd (n (record { result = p; is = gave-claimed l p (main.to es h .wrote) (sym (ap (find l) (main.to es h .claimed)) ∙ f) }))
-          go p m (second f) = f ∙ sym m ∙ e
+module _ (es fs : List Sent) (h : Runs opening es) (k : Runs opening fs) (same : acceptedLines es ≡ acceptedLines fs) (p : NonePending es) (q : NonePending fs) where
+  fed : main.x es h .accepted ≡ main.x fs k .accepted
+  fed = main.fed es h ∙ texts-same (main.to es h .texts) (subst (λ (ls : List (List ℕ)). TextsOf ls (main.to fs k .calls)) (sym same) (main.to fs k .texts)) ∙ sym (main.fed fs k)
 
-      held-unclaimed : (l : ℕ) (q : Result) → find l (s .results) ≡ some q → ClaimedLabel l es → ⊥
-      held-unclaimed l q e c =
-          let f = claimed-gave l (c .result) (c .is) (main.to es h .wrote) in
-          not-both l q (f .which) e (ap (find l) (main.to es h .claimed) ∙ f .found)
+  last : main.s es h .last ≡ main.s fs k .last
+  last = main.size es h ∙ ap length same ∙ sym (main.size fs k)
 
-  module _ (es fs : List Sent) (h : Runs opening es) (k : Runs opening fs) (same : acceptedLines es ≡ acceptedLines fs) (p : NonePending es) (q : NonePending fs) where
-    fed : main.x es h .accepted ≡ main.x fs k .accepted
-    fed = main.fed es h ∙ texts-same (main.to es h .texts) (subst (λ (ls : List (List ℕ)). TextsOf ls (main.to fs k .calls)) (sym same) (main.to fs k .texts)) ∙ sym (main.fed fs k)
+  results-found : ((l : ℕ) → ClaimedLabel l fs → ClaimedLabel l es) → Finds (main.s es h .results) (main.s fs k .results)
+  unfolding Finds
+  results-found c l r e =
+      let g = given (main.s es h .last) l r (main.s es h .results) (results-given es h) e in
+      let m : find l (meant fs k) ≡ some r = sym (ap (λ (cs : List Call). find l ((oneAtATime cs) .results)) fed) ∙ held-meant es h p l r e in
+      meant-held fs k q l r (g .0) (omega (arith, g .1, last)) m (λ d. held-unclaimed es h p l r e (c l d))
 
-    last : main.s es h .last ≡ main.s fs k .last
-    last = main.size es h ∙ ap length same ∙ sym (main.size fs k)
+module _ (es fs : List Sent) (h : Runs opening es) (k : Runs opening fs) (same : acceptedLines es ≡ acceptedLines fs) (p : NonePending es) (q : NonePending fs) (to : (l : ℕ) → ClaimedLabel l es → ClaimedLabel l fs) (from : (l : ℕ) → ClaimedLabel l fs → ClaimedLabel l es) where
+  resting : (gs : List Sent) (r : Runs opening gs) → NonePending gs → Resting (main.s gs r)
+  resting gs r n = pending-resting (main.s gs r) (main.v gs r) (main.no-more gs r n)
 
-    results-found : ((l : ℕ) → ClaimedLabel l fs → ClaimedLabel l es) → Finds (main.s es h .results) (main.s fs k .results)
-    unfolding Finds
-    results-found c l r e =
-        let g = given (main.s es h .last) l r (main.s es h .results) (results-given es h) e in
-        let m : find l (meant fs k) ≡ some r = sym (ap (λ (cs : List Call). find l ((oneAtATime cs) .results)) fed) ∙ held-meant es h p l r e in
-        meant-held fs k q l r (g .0) (omega (arith, g .1, last)) m (λ d. held-unclaimed es h p l r e (c l d))
+  same-graph : graphOf (main.s es h .stations) ≡ graphOf (main.s fs k .stations)
+  same-graph =
+      main.d es h .graph (main.no-more es h p) ∙ ap (λ (cs : List Call). (oneAtATime cs) .nodes) (fed es fs h k same p q) ∙ sym (main.d fs k .graph (main.no-more fs k q))
 
-  module _ (es fs : List Sent) (h : Runs opening es) (k : Runs opening fs) (same : acceptedLines es ≡ acceptedLines fs) (p : NonePending es) (q : NonePending fs) (to : (l : ℕ) → ClaimedLabel l es → ClaimedLabel l fs) (from : (l : ℕ) → ClaimedLabel l fs → ClaimedLabel l es) where
-    resting : (gs : List Sent) (r : Runs opening gs) → NonePending gs → Resting (main.s gs r)
-    resting gs r n = pending-resting (main.s gs r) (main.v gs r) (main.no-more gs r n)
+  same-session : main.s es h ≡ main.s fs k
+  same-session =
+      let a = resting es h p in
+      let b = resting fs k q in
+      λ i. record {
+        stations = same-stations (main.s es h .stations) (main.s fs k .stations) (a .units) (b .units) same-graph i;
+        topStream = (a .calls ∙ sym (b .calls)) i;
+        results = same-list (main.s es h .results) (main.s fs k .results) (main.v es h .order) (main.v fs k .order) (results-found es fs h k same p q from) (results-found fs es k h (sym same) q p to) i;
+        last = last es fs h k same p q i;
+      }
 
-    same-graph : graphOf (main.s es h .stations) ≡ graphOf (main.s fs k .stations)
-    same-graph =
-        main.d es h .graph (main.no-more es h p) ∙ ap (λ (cs : List Call). (oneAtATime cs) .nodes) (fed es fs h k same p q) ∙ sym (main.d fs k .graph (main.no-more fs k q))
-
-    same-session : main.s es h ≡ main.s fs k
-    same-session =
-        let a = resting es h p in
-        let b = resting fs k q in
-        λ i. record {
-          stations = same-stations (main.s es h .stations) (main.s fs k .stations) (a .units) (b .units) same-graph i;
-          topStream = (a .calls ∙ sym (b .calls)) i;
-          results = same-list (main.s es h .results) (main.s fs k .results) (main.v es h .order) (main.v fs k .order) (results-found es fs h k same p q from) (results-found fs es k h (sym same) q p to) i;
-          last = last es fs h k same p q i;
-        }
-
-    pub same-image : after opening es ≡ after opening fs
-    same-image = main.image es h ∙ ap encode same-session ∙ sym (main.image fs k)
+  pub same-image : after opening es ≡ after opening fs
+  same-image = main.image es h ∙ ap encode same-session ∙ sym (main.image fs k)

@@ -7,16 +7,16 @@ use mathlib.Core.Bool.{Bool, true, false, not, cond, true≢false, _&&_}
 use mathlib.Core.List.{List, [], _∷_, _++_}
 use mathlib.Core.Option.{Option, none, some}
 use Prim.Native.String.{String}
-use lib.Dec.{eqb, leb, ltb}
+use lib.Dec.{eqb, leb}
 use lib.IntN.{ℤ, pos, negsuc}
 use lib.ListN.{length, length-append}
 use borrow.Author.Tests.{lt-ltb, le-leb, eqb-true}
 use Rattle.graph.specs.Refusals.{Answer, refused, done, mapDone, numberOf as codeOf, unless}
-use Rattle.graph.specs.KeyLists.{isKey, areKeys, contains}
+use Rattle.graph.specs.KeyLists.{areKeys, contains}
 use Rattle.graph.specs.Calls.{areWords}
 use Rattle.graph.specs.Nodes.{Result}
 use Rattle.graph.specs.Sessions.{Station, Session, pending}
-use Rattle.graph.specs.Steps.{Step, admit, realise, move, finish, join, split, swap, fuse, Change, behind, at, atStation, step}
+use Rattle.graph.specs.Steps.{Step, admit, realise, move, finish, join, split, swap, fuse, Change, behind, at, step}
 use Rattle.graph.specs.Acceptance.{Claimed, takeResult, claim, keeping}
 use Rattle.graph.specs.Runs.{workSteps, andThen, stepAll, find}
 use Rattle.graph.specs.Valid.{KeysFall, Valid}
@@ -26,8 +26,8 @@ use Rattle.graph.proofs.Validity.{step-valid}
 use Rattle.graph.proofs.Drains.{done-holds, work-cons}
 use Rattle.text.specs.Text.{ascii, decimal, pasted}
 use Rattle.text.proofs.Decimals.{len-ten}
-use Rattle.lines.specs.Forms.{StepForm, work, field, stepText, stepKeys, claimText}
-use Rattle.lines.specs.Answers.{TextOf, IsStep, IsClaim, stepFormTests}
+use Rattle.lines.specs.Forms.{work, field, stepText, stepKeys, claimText}
+use Rattle.lines.specs.Answers.{IsStep, IsClaim, stepFormTests}
 use Rattle.lines.proofs.Claims.{claim-unique}
 use Rattle.print.specs.Printed.{resultText}
 use Rattle.panel.specs.declared.answer.Answer.the-variants.{Done, Refused}
@@ -35,7 +35,7 @@ use Rattle.panel.specs.declared.tally.Tally.{Tally}
 use Rattle.panel.specs.Answer.{numberOf}
 use Rattle.panel.specs.Tally.{counted}
 use Rattle.valid.specs.Values.{encode}
-use Rattle.host.specs.Entries.{served, ClaimMade, claimRefused, claimServed, Claims, stepServed, Steps}
+use Rattle.host.specs.Entries.{served, ClaimMade, claimRefused, claimServed, stepServed, Steps}
 use Rattle.runs.specs.Runs.{isServed, Pending, Wrote, WouldWrite}
 use Rattle.runs.specs.Demand.{StepLines, ended, stepped}
 use Rattle.runs.proofs.Entered.{own, Entered, noForm, aForm, entered, take-refused}

@@ -21,7 +21,7 @@ use Rattle.panel.specs.declared.tally.Tally.{Tally}
 use Rattle.panel.specs.Tally.{counted, zeros}
 use Rattle.valid.specs.Values.{encode}
 use Rattle.host.specs.Entries.{ImageOf, ClaimMade, Steps}
-use Rattle.runs.specs.Runs.{Sent, call, step, claim, Runs, opening, after, isServed, acceptedLines, labelsGiven, labelsFrom, TextsOf, Pending, Allowed, Wrote, ClaimedIn, WouldWrite, GraphOf, Taken, OneTally, lastTally}
+use Rattle.runs.specs.Runs.{Sent, call, step, claim, opening, after, isServed, acceptedLines, labelsGiven, labelsFrom, TextsOf, Pending, Allowed, Wrote, ClaimedIn, WouldWrite, GraphOf, Taken, OneTally, lastTally}
 
 -- label l has a result, that of one-at-a-time processing: "the value and the `left` in the line that its claim wrote or, while
 -- unclaimed, would write given room"

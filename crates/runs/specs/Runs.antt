@@ -5,7 +5,6 @@ use Prim.Native.Nat.{ℕ, zero, suc}
 use mathlib.Core.Path.{_≡_}
 use mathlib.Core.Bool.{Bool, true, false, cond}
 use mathlib.Core.List.{List, [], _∷_, _++_}
-use mathlib.Core.Option.{some}
 use lib.IntN.{ℤ, pos, negsuc}
 use lib.ListN.{length}
 use Rattle.graph.specs.Calls.{Call}
@@ -13,7 +12,6 @@ use Rattle.graph.specs.Nodes.{Node, Result}
 use Rattle.graph.specs.Sessions.{Session, fresh, graphOf}
 use Rattle.graph.specs.Steps.{Step}
 use Rattle.graph.specs.Drain.{drain}
-use Rattle.graph.specs.Runs.{find}
 use Rattle.text.specs.Text.{pasted}
 use Rattle.lines.specs.Forms.{work, drain as drains, claimText}
 use Rattle.lines.specs.Answers.{IsCall, IsStep, IsClaim}
