@@ -22,14 +22,6 @@ use Rattle.state.specs.State.{held, Shows}
 use Rattle.live.specs.Live.{Live, Works}
 use Rattle.headsteps.specs.Heads.{Head}
 
--- ANSWERS
-module _ {before after : List ℕ} {x : Answer Flat} where
-  pub works-refused : (n : ℕ) → x ≡ refused n → after ≡ before → Works x before after n
-  works-refused n e same = subst (λ (y : Answer Flat). Works y before after n) (sym e) (record { number = refl; leaves = same })
-
-  pub works-done : (f : Flat) → x ≡ done f → Shows f after → Works x before after 0
-  works-done f e shows = subst (λ (y : Answer Flat). Works y before after 0) (sym e) (record { number = refl; leaves = shows })
-
 -- KEYS
 pub record InNodes (k : ℕ) (f : Flat) : Type 0 where
   pub low : 1 ≤ k

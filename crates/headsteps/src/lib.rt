@@ -4,6 +4,7 @@ use graph::task::Task;
 use graph::task::task_of;
 use state::nodes;
 use state::nodes::Body;
+use state::nodes::is_known;
 use state::operation::Operation;
 use state::ops;
 use state::results;
@@ -20,18 +21,6 @@ ghost use Rattle.state.specs.Operations.{opValue, Normal, Carries, Bounded};
 ghost use Rattle.state.specs.State.{held, Proper, Shows};
 ghost use Rattle.live.specs.Live.{Live, Works};
 ghost use Rattle.headsteps.specs.Heads.{bodyValue, handOn, IsHead};
-
-// Whether a node has this key.
-pub fn is_known(image: &[u8], k: u8) -> bool
-    requires { ⌜ Proper (now image) ⌝ }
-    ensures { λ r. ⌜ r ≡ known k (held (now (image .entry))) ⌝ }
-{
-    if k < 1 {
-        return false;
-    }
-    let n = nodes::total(image);
-    k as usize <= n
-}
 
 // The task rule that holds for the operation at i, at the station with key k.
 fn task_at(image: &[u8], k: u8, i: usize) -> Task

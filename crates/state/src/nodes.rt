@@ -11,7 +11,7 @@ ghost use Prim.Native.Nat.{_<_};
 ghost use lib.ListN.{length, getD, set};
 ghost use Rattle.graph.specs.Packed.{listed, packed};
 ghost use Rattle.graph.specs.Nodes.{newNode};
-ghost use Rattle.worksteps.specs.FlatSteps.{noNode};
+ghost use Rattle.worksteps.specs.FlatSteps.{noNode, known};
 ghost use Rattle.state.specs.Operations.{Bounded};
 ghost use Rattle.state.specs.State.{held, Proper, Shows, withNodes};
 ghost use Rattle.state.specs.Results.{IsBody, nodeWith};
@@ -28,6 +28,18 @@ pub fn total(image: &[u8]) -> usize
     ensures { λ r. ⌜ Bounded (length (held (now (image .entry)) .nodes)) 64 r ⌝ }
 {
     node_count(image)
+}
+
+// Whether a node has this key.
+pub fn is_known(image: &[u8], k: u8) -> bool
+    requires { ⌜ Proper (now image) ⌝ }
+    ensures { λ r. ⌜ r ≡ known k (held (now (image .entry))) ⌝ }
+{
+    if k < 1 {
+        return false;
+    }
+    let n = total(image);
+    k as usize <= n
 }
 
 pub fn body_at(image: &[u8], i: usize) -> Body

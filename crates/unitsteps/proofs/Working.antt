@@ -27,14 +27,6 @@ use Rattle.unitsteps.specs.declared.units.Spot.{Spot}
 use Rattle.unitsteps.specs.Numbered.{locateTwo, spotted}
 use Rattle.unitsteps.proofs.Located.{at-within, both, spanOf, spot-yes, two-yes}
 
--- ANSWERS
-module _ {x : Answer Flat} {s : List ℕ} where
-  pub works-refused : (n : ℕ) → x ≡ refused n → Works x s s n
-  works-refused n e = rw e (record { number = refl; leaves = refl })
-
-  pub works-done : {f : Flat} (t : List ℕ) → x ≡ done f → Shows f t → Works x s t 0
-  works-done t e h = rw e (record { number = refl; leaves = h })
-
 -- OPERATIONS: what stands at a station is no add
 module _ (image : List ℕ) (live : Live image) (k p : ℕ) (node : known k (held image) ≡ true) (at : isAt k p (held image .queue) ≡ true) where
   sits : Sits (getD (held image .queue) p noOp)

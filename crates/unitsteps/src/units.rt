@@ -1,5 +1,5 @@
 // Units by number, found in the image.
-use state::nodes;
+use state::nodes::is_known;
 use state::ops;
 ghost use mathlib.Core.Path.{_≡_};
 ghost use lib.ListN.{length};
@@ -14,16 +14,6 @@ pub struct Spot {
     pub refusal: u32,
     pub start: usize,
     pub end: usize,
-}
-
-fn is_known(image: &[u8], k: u8) -> bool
-    requires { ⌜ Proper (now image) ⌝ }
-    ensures { λ r. ⌜ r ≡ known k (held (now (image .entry))) ⌝ }
-{
-    if k < 1 {
-        return false;
-    }
-    k as usize <= nodes::total(image)
 }
 
 // An operation of station k stands at p.

@@ -3,7 +3,8 @@
 use mathlib.Core.Path.{refl, sym, _∙_}
 use Rattle.worksteps.specs.FlatSteps.{moveFlat}
 use Rattle.state.specs.State.{held}
-use Rattle.headsteps.proofs.Heads.{works-refused, works-done, in-nodes, move-last, move-hit, move-free}
+use Rattle.live.proofs.Working.{works-refused, works-done}
+use Rattle.headsteps.proofs.Heads.{in-nodes, move-last, move-hit, move-free}
 use borrow.Author.Needs.{needs}
 use native.Mathlib.Omega.{arith}
 use Rattle.headsteps.proofs.move_on.Statement.{statement}
@@ -16,7 +17,7 @@ same-length : tie.Need-same-length
 same-length c = search needs
 
 returns : tie.Need-returns
-returns c = works-refused _ (c .before .before .head-unit .ensures .none (c .if1 .taken) (moveFlat (c .before .before .before .before .before .args .k))) refl
+returns c = works-refused (c .before .before .head-unit .ensures .none (c .if1 .taken) (moveFlat (c .before .before .before .before .before .args .k))) refl
 
 same-length-2 : tie.Need-same-length-2
 same-length-2 c = search needs
@@ -26,7 +27,7 @@ returns-2 c =
     let a = c .before .before .before .before .before .before in
     let u = c .before .before .before .head-unit in
     let at = u .ensures .some (c .before .if1 .left) in
-    works-refused 22 (move-last (a .args .image .now) (a .args .k) (u .result .start) (u .result .end) at (c .if2 .taken)) refl
+    works-refused (move-last (a .args .image .now) (a .args .k) (u .result .start) (u .result .end) at (c .if2 .taken)) refl
 
 first-for-requires : tie.Need-first-for-requires
 first-for-requires c κs =
@@ -41,7 +42,7 @@ returns-3 c =
     let a = c .before .before .before .before .before .before .before .before .before .before in
     let u = c .before .before .before .before .before .before .before .head-unit in
     let at = u .ensures .some (c .before .before .before .before .before .if1 .left) in
-    works-refused 22 (move-hit (a .args .image .now) (a .args .k) (u .result .start) (u .result .end) at (c .before .before .before .before .if2 .left) (omega (arith, c .if3 .taken, c .before .before .first-for .ensures .is))) refl
+    works-refused (move-hit (a .args .image .now) (a .args .k) (u .result .start) (u .result .end) at (c .before .before .before .before .if2 .left) (omega (arith, c .if3 .taken, c .before .before .first-for .ensures .is))) refl
 
 move-unit-requires : tie.Need-move-unit-requires
 move-unit-requires c κs =
@@ -58,7 +59,7 @@ returns-4 c =
     let a = c .before .before .before .before .before .before .before .before .before .before .before .before .before .before in
     let u = c .before .before .before .before .before .before .before .before .before .before .before .head-unit in
     let at = u .ensures .some (c .before .before .before .before .before .before .before .before .before .if1 .left) in
-    works-done _ (move-free (a .args .image .now) (a .args .k) (u .result .start) (u .result .end) at (c .before .before .before .before .before .before .before .before .if2 .left) (omega (arith, c .before .before .before .before .if3 .left, c .before .before .before .before .before .before .first-for .ensures .is))) (c .before .before .move-unit .ensures)
+    works-done (move-free (a .args .image .now) (a .args .k) (u .result .start) (u .result .end) at (c .before .before .before .before .before .before .before .before .if2 .left) (omega (arith, c .before .before .before .before .if3 .left, c .before .before .before .before .before .before .first-for .ensures .is))) (c .before .before .move-unit .ensures)
 
 pub move-on-spec : {M : Type 1} → statement M
 move-on-spec =

@@ -5,7 +5,8 @@ use Prim.Native.Nat.{_<_}
 use lib.ListN.{length}
 use Rattle.worksteps.specs.FlatSteps.{realiseFlat}
 use Rattle.state.specs.State.{held}
-use Rattle.headsteps.proofs.Heads.{works-refused, works-done, head-op, realise-none, realise-one}
+use Rattle.live.proofs.Working.{works-refused, works-done}
+use Rattle.headsteps.proofs.Heads.{head-op, realise-none, realise-one}
 use borrow.Author.Needs.{needs}
 use native.Mathlib.Omega.{arith}
 use Rattle.headsteps.proofs.realise.Statement.{statement}
@@ -18,7 +19,7 @@ same-length : tie.Need-same-length
 same-length c = search needs
 
 returns : tie.Need-returns
-returns c = works-refused _ (c .before .before .head-unit .ensures .none (c .if1 .taken) (realiseFlat (c .before .before .before .before .before .args .k))) refl
+returns c = works-refused (c .before .before .head-unit .ensures .none (c .if1 .taken) (realiseFlat (c .before .before .before .before .before .args .k))) refl
 
 first-for-requires : tie.Need-first-for-requires
 first-for-requires c κs =
@@ -33,7 +34,7 @@ returns-2 c =
     let a = c .before .before .before .before .before .before .before .before .before in
     let u = c .before .before .before .before .before .before .head-unit in
     let at = u .ensures .some (c .before .before .before .before .if1 .left) in
-    works-refused 22 (realise-none (a .args .image .now) (a .args .k) (u .result .start) (u .result .end) at (omega (arith, c .if2 .taken, c .before .before .first-for .ensures .is))) refl
+    works-refused (realise-none (a .args .image .now) (a .args .k) (u .result .start) (u .result .end) at (omega (arith, c .if2 .taken, c .before .before .first-for .ensures .is))) refl
 
 act-at-requires : tie.Need-act-at-requires
 act-at-requires c κs =
@@ -55,7 +56,7 @@ returns-3 c =
     let u = c .before .before .before .before .before .before .before .before .before .before .head-unit in
     let at = u .ensures .some (c .before .before .before .before .before .before .before .before .if1 .left) in
     let p = c .before .before .before .before .before .before .first-for in
-    works-done _ (realise-one (a .args .image .now) (a .args .k) (u .result .start) (u .result .end) at (p .result) (p .ensures .is) (omega (arith, c .before .before .before .before .if2 .left, p .ensures .within))) (c .before .before .act-at .ensures)
+    works-done (realise-one (a .args .image .now) (a .args .k) (u .result .start) (u .result .end) at (p .result) (p .ensures .is) (omega (arith, c .before .before .before .before .if2 .left, p .ensures .within))) (c .before .before .act-at .ensures)
 
 pub realise-spec : {M : Type 1} → statement M
 realise-spec =

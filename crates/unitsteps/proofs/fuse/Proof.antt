@@ -9,7 +9,8 @@ use borrow.Author.Tests.{not-true, not-false}
 use Rattle.state.specs.Operations.{opValue}
 use Rattle.state.proofs.QueueHeld.{still-in}
 use Rattle.unitsteps.proofs.Located.{two-no}
-use Rattle.unitsteps.proofs.Working.{works-refused, works-done, two-found, fuse-found, few-labels, removed-after}
+use Rattle.live.proofs.Working.{works-refused, works-done}
+use Rattle.unitsteps.proofs.Working.{two-found, fuse-found, few-labels, removed-after}
 use borrow.Author.Needs.{needs}
 use Rattle.unitsteps.proofs.fuse.Statement.{statement}
 use Rattle.unitsteps.proofs.fuse.Tie as tie
@@ -25,7 +26,7 @@ returns c =
     let s = c .before .before .before .before .before in
     let f = held (s .args .image .now) in
     let u = c .before .before .two-at in
-    works-refused _ (two-no (s .args .k) (s .args .unit) f (u .result) fuseFlat (u .ensures) (c .if1 .taken))
+    works-refused (two-no (s .args .k) (s .args .unit) f (u .result) fuseFlat (u .ensures) (c .if1 .taken)) refl
 
 operation-at-requires : tie.Need-operation-at-requires
 operation-at-requires c κs =
@@ -54,7 +55,7 @@ returns-2 c =
     let u = c .before .before .before .before .before .before .before .before .two-at in
     let a = c .before .before .before .before .operation-at in
     let b = c .before .before .operation-at2 in
-    works-refused 22 (fuse-found (s .args .k) (s .args .unit) f (u .result) (u .ensures) (c .before .before .before .before .before .before .if1 .left) (a .result) (b .result) (a .ensures) (b .ensures) false _ (sym (not-true _ (c .if2 .taken)) ∙ c .before .may-fuse .ensures) refl)
+    works-refused (fuse-found (s .args .k) (s .args .unit) f (u .result) (u .ensures) (c .before .before .before .before .before .before .if1 .left) (a .result) (b .result) (a .ensures) (b .ensures) false _ (sym (not-true _ (c .if2 .taken)) ∙ c .before .may-fuse .ensures) refl) refl
 
 merge-requires : tie.Need-merge-requires
 merge-requires c κs =
@@ -90,7 +91,7 @@ returns-3 c =
     let b = c .before .before .before .before .before .before .before .before .before .before .before .operation-at2 in
     let o = c .before .before .before .before .before .before .before .before .merge in
     let q = set (f .queue) (u .result .start) (withOp (getD (f .queue) (u .result .start) noOp) (opValue (o .result))) in
-    works-done _ (fuse-found (s .args .k) (s .args .unit) f (u .result) (u .ensures) (c .before .before .before .before .before .before .before .before .before .before .before .before .before .before .before .if1 .left) (a .result) (b .result) (a .ensures) (b .ensures) true (opValue (o .result)) (sym (not-false _ (c .before .before .before .before .before .before .before .before .before .if2 .left)) ∙ c .before .before .before .before .before .before .before .before .before .before .may-fuse .ensures) (o .ensures .is))
+    works-done (fuse-found (s .args .k) (s .args .unit) f (u .result) (u .ensures) (c .before .before .before .before .before .before .before .before .before .before .before .before .before .before .before .if1 .left) (a .result) (b .result) (a .ensures) (b .ensures) true (opValue (o .result)) (sym (not-false _ (c .before .before .before .before .before .before .before .before .before .if2 .left)) ∙ c .before .before .before .before .before .before .before .before .before .before .may-fuse .ensures) (o .ensures .is))
     (removed-after f q _ _ (u .result .end) (c .before .before .before .before .before .before .put-operation .ensures) (c .before .before .remove .ensures))
 
 pub fuse-spec : {M : Type 1} → statement M

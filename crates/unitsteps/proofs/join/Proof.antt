@@ -7,7 +7,7 @@ use Rattle.state.specs.State.{held}
 use borrow.Author.Tests.{not-true, not-false}
 use Rattle.worksteps.specs.FlatSteps.{withNext, joinFlat}
 use Rattle.unitsteps.proofs.Located.{at-within, one-no, one-yes}
-use Rattle.unitsteps.proofs.Working.{works-refused, works-done}
+use Rattle.live.proofs.Working.{works-refused, works-done}
 use borrow.Author.Needs.{needs}
 use Rattle.unitsteps.proofs.join.Statement.{statement}
 use Rattle.unitsteps.proofs.join.Tie as tie
@@ -23,7 +23,7 @@ returns c =
     let s = c .before .before .before .before .before in
     let f = held (s .args .image .now) in
     let u = c .before .before .unit-at in
-    works-refused _ (one-no (s .args .k) (s .args .unit) f (u .result) (withNext (s .args .k) joinFlat) (u .ensures) (c .if1 .taken))
+    works-refused (one-no (s .args .k) (s .args .unit) f (u .result) (withNext (s .args .k) joinFlat) (u .ensures) (c .if1 .taken)) refl
 
 is-at-requires : tie.Need-is-at-requires
 is-at-requires c κs = search needs
@@ -37,7 +37,7 @@ returns-2 c =
     let f = held (s .args .image .now) in
     let u = c .before .before .before .before .before .unit-at in
     let t : isAt (s .args .k) (u .result .end) (f .queue) ≡ false = sym (c .before .is-at .ensures) ∙ not-true _ (c .if2 .taken) in
-    works-refused 21 (one-yes (s .args .k) (s .args .unit) f (u .result) (withNext (s .args .k) joinFlat) (u .ensures) (c .before .before .before .if1 .left) ∙ rw t refl)
+    works-refused (one-yes (s .args .k) (s .args .unit) f (u .result) (withNext (s .args .k) joinFlat) (u .ensures) (c .before .before .before .if1 .left) ∙ rw t refl) refl
 
 set-opens-requires : tie.Need-set-opens-requires
 set-opens-requires c κs =
@@ -55,7 +55,7 @@ returns-3 c =
     let f = held (s .args .image .now) in
     let u = c .before .before .before .before .before .before .before .before .before .unit-at in
     let t : isAt (s .args .k) (u .result .end) (f .queue) ≡ true = sym (c .before .before .before .before .before .is-at .ensures) ∙ not-false _ (c .before .before .before .before .if2 .left) in
-    works-done _ (one-yes (s .args .k) (s .args .unit) f (u .result) (withNext (s .args .k) joinFlat) (u .ensures) (c .before .before .before .before .before .before .before .if1 .left) ∙ rw t refl) (c .before .before .set-opens .ensures)
+    works-done (one-yes (s .args .k) (s .args .unit) f (u .result) (withNext (s .args .k) joinFlat) (u .ensures) (c .before .before .before .before .before .before .before .if1 .left) ∙ rw t refl) (c .before .before .set-opens .ensures)
 
 pub join-spec : {M : Type 1} → statement M
 join-spec =

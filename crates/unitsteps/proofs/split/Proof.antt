@@ -6,7 +6,7 @@ use Rattle.state.specs.State.{held}
 use borrow.Author.Tests.{le-leb, lt-leb, lt-ltb, le-ltb}
 use Rattle.worksteps.specs.FlatSteps.{splitFlat}
 use Rattle.unitsteps.proofs.Located.{at-within, end-within, stands, spanOf, spot-yes, one-no, one-yes}
-use Rattle.unitsteps.proofs.Working.{works-refused, works-done}
+use Rattle.live.proofs.Working.{works-refused, works-done}
 use native.Mathlib.Omega.{arith}
 use borrow.Author.Needs.{needs}
 use Rattle.unitsteps.proofs.split.Statement.{statement}
@@ -23,7 +23,7 @@ returns c =
     let s = c .before .before .before .before .before in
     let f = held (s .args .image .now) in
     let u = c .before .before .unit-at in
-    works-refused _ (one-no (s .args .k) (s .args .unit) f (u .result) (splitFlat (s .args .after)) (u .ensures) (c .if1 .taken))
+    works-refused (one-no (s .args .k) (s .args .unit) f (u .result) (splitFlat (s .args .after)) (u .ensures) (c .if1 .taken)) refl
 
 same-length-2 : tie.Need-same-length-2
 same-length-2 c = search needs
@@ -33,7 +33,7 @@ returns-2 c =
     let s = c .before .before .before .before .before .before in
     let f = held (s .args .image .now) in
     let u = c .before .before .before .unit-at in
-    works-refused 22 (one-yes (s .args .k) (s .args .unit) f (u .result) (splitFlat (s .args .after)) (u .ensures) (c .before .if1 .left) ∙ rw (lt-leb 1 (s .args .after) (c .if2 .taken)) refl)
+    works-refused (one-yes (s .args .k) (s .args .unit) f (u .result) (splitFlat (s .args .after)) (u .ensures) (c .before .if1 .left) ∙ rw (lt-leb 1 (s .args .after) (c .if2 .taken)) refl) refl
 
 sub-if3 : tie.Need-sub-if3
 sub-if3 c =
@@ -53,7 +53,7 @@ returns-3 c =
     let u = c .before .before .before .before .before .unit-at in
     let w = stands (s .args .k) (s .args .unit) f (spanOf (u .result)) (spot-yes (u .result) (u .ensures) (c .before .before .before .if1 .left)) in
     let h : u .result .end ≤ u .result .start + s .args .after = omega (arith, w .size) in
-    works-refused 22 (one-yes (s .args .k) (s .args .unit) f (u .result) (splitFlat (s .args .after)) (u .ensures) (c .before .before .before .if1 .left) ∙ rw (le-leb 1 (s .args .after) (c .before .before .if2 .left), le-ltb (u .result .start + s .args .after) (u .result .end) h) refl)
+    works-refused (one-yes (s .args .k) (s .args .unit) f (u .result) (splitFlat (s .args .after)) (u .ensures) (c .before .before .before .if1 .left) ∙ rw (le-leb 1 (s .args .after) (c .before .before .if2 .left), le-ltb (u .result .start + s .args .after) (u .result .end) h) refl) refl
 
 add-set-opens : tie.Need-add-set-opens
 add-set-opens c = search needs
@@ -76,7 +76,7 @@ returns-4 c =
     let u = c .before .before .before .before .before .before .before .before .before .unit-at in
     let w = stands (s .args .k) (s .args .unit) f (spanOf (u .result)) (spot-yes (u .result) (u .ensures) (c .before .before .before .before .before .before .before .if1 .left)) in
     let h : u .result .start + s .args .after < u .result .end = omega (arith, w .size) in
-    works-done _ (one-yes (s .args .k) (s .args .unit) f (u .result) (splitFlat (s .args .after)) (u .ensures) (c .before .before .before .before .before .before .before .if1 .left) ∙ rw (le-leb 1 (s .args .after) (c .before .before .before .before .before .before .if2 .left), lt-ltb (u .result .start + s .args .after) (u .result .end) h) refl) (c .before .before .set-opens .ensures)
+    works-done (one-yes (s .args .k) (s .args .unit) f (u .result) (splitFlat (s .args .after)) (u .ensures) (c .before .before .before .before .before .before .before .if1 .left) ∙ rw (le-leb 1 (s .args .after) (c .before .before .before .before .before .before .if2 .left), lt-ltb (u .result .start + s .args .after) (u .result .end) h) refl) (c .before .before .set-opens .ensures)
 
 pub split-spec : {M : Type 1} → statement M
 split-spec =

@@ -1,12 +1,13 @@
 -- Each of the two is an operation, and the test is of both.
 -- Assumes nothing.
-use mathlib.Core.Path.{sym, _∙_}
+use mathlib.Core.Path.{refl, sym, _∙_}
 use mathlib.Core.Bool.{true, false}
 use Rattle.state.specs.State.{held}
 use borrow.Author.Tests.{not-true, not-false}
 use Rattle.worksteps.specs.FlatSteps.{swapFlat}
 use Rattle.unitsteps.proofs.Located.{two-no}
-use Rattle.unitsteps.proofs.Working.{works-refused, works-done, two-found, swap-found}
+use Rattle.live.proofs.Working.{works-refused, works-done}
+use Rattle.unitsteps.proofs.Working.{two-found, swap-found}
 use borrow.Author.Needs.{needs}
 use Rattle.unitsteps.proofs.swap.Statement.{statement}
 use Rattle.unitsteps.proofs.swap.Tie as tie
@@ -22,7 +23,7 @@ returns c =
     let s = c .before .before .before .before .before in
     let f = held (s .args .image .now) in
     let u = c .before .before .two-at in
-    works-refused _ (two-no (s .args .k) (s .args .unit) f (u .result) swapFlat (u .ensures) (c .if1 .taken))
+    works-refused (two-no (s .args .k) (s .args .unit) f (u .result) swapFlat (u .ensures) (c .if1 .taken)) refl
 
 operation-at-requires : tie.Need-operation-at-requires
 operation-at-requires c κs =
@@ -51,7 +52,7 @@ returns-2 c =
     let u = c .before .before .before .before .before .before .before .before .two-at in
     let a = c .before .before .before .before .operation-at in
     let b = c .before .before .operation-at2 in
-    works-refused 22 (swap-found (s .args .k) (s .args .unit) f (u .result) (u .ensures) (c .before .before .before .before .before .before .if1 .left) (a .result) (b .result) (a .ensures) (b .ensures) false (sym (not-true _ (c .if2 .taken)) ∙ c .before .may-swap .ensures))
+    works-refused (swap-found (s .args .k) (s .args .unit) f (u .result) (u .ensures) (c .before .before .before .before .before .before .if1 .left) (a .result) (b .result) (a .ensures) (b .ensures) false (sym (not-true _ (c .if2 .taken)) ∙ c .before .may-swap .ensures)) refl
 
 exchange-requires : tie.Need-exchange-requires
 exchange-requires c κs =
@@ -70,7 +71,7 @@ returns-3 c =
     let u = c .before .before .before .before .before .before .before .before .before .before .before .before .two-at in
     let a = c .before .before .before .before .before .before .before .before .operation-at in
     let b = c .before .before .before .before .before .before .operation-at2 in
-    works-done _ (swap-found (s .args .k) (s .args .unit) f (u .result) (u .ensures) (c .before .before .before .before .before .before .before .before .before .before .if1 .left) (a .result) (b .result) (a .ensures) (b .ensures) true (sym (not-false _ (c .before .before .before .before .if2 .left)) ∙ c .before .before .before .before .before .may-swap .ensures)) (c .before .before .exchange .ensures)
+    works-done (swap-found (s .args .k) (s .args .unit) f (u .result) (u .ensures) (c .before .before .before .before .before .before .before .before .before .before .if1 .left) (a .result) (b .result) (a .ensures) (b .ensures) true (sym (not-false _ (c .before .before .before .before .if2 .left)) ∙ c .before .before .before .before .before .may-swap .ensures)) (c .before .before .exchange .ensures)
 
 pub swap-spec : {M : Type 1} → statement M
 swap-spec =

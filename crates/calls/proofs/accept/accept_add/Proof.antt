@@ -8,7 +8,7 @@ use Rattle.graph.specs.OneAtATime.{addOf}
 use Rattle.graph.specs.Refusals.{refused}
 use Rattle.state.specs.State.{held}
 use Rattle.calls.proofs.Accepted.{rest-spent, rest-refused, rest-done, spare, accepted-shown}
-use Rattle.calls.proofs.Worked.{works-refused, works-done}
+use Rattle.live.proofs.Working.{works-refused, works-done}
 use borrow.Author.Needs.{needs}
 use Rattle.calls.proofs.accept.accept_add.Statement.{statement}
 use Rattle.calls.proofs.accept.accept_add.Tie as tie

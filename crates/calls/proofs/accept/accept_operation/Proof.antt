@@ -10,7 +10,7 @@ use Rattle.graph.specs.Refusals.{refused}
 use Rattle.state.specs.State.{held}
 use Rattle.calls.proofs.Accepted.{rest-refused, rest-done, spare, accepted-shown}
 use Rattle.calls.proofs.Naming.{only-normal}
-use Rattle.calls.proofs.Worked.{works-refused, works-done}
+use Rattle.live.proofs.Working.{works-refused, works-done}
 use borrow.Author.Needs.{needs}
 use Rattle.calls.proofs.accept.accept_operation.Statement.{statement}
 use Rattle.calls.proofs.accept.accept_operation.Tie as tie

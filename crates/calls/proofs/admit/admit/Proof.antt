@@ -5,7 +5,7 @@ use borrow.Author.Tests.{not-true, not-false}
 use Rattle.state.specs.State.{held}
 use Rattle.calls.proofs.Admitting.{admit-refused, admit-done, first-in}
 use Rattle.calls.proofs.Room.{results-room, node-room, result-room}
-use Rattle.calls.proofs.Worked.{works-refused, works-done}
+use Rattle.live.proofs.Working.{works-refused, works-done}
 use borrow.Author.Needs.{needs}
 use Rattle.calls.proofs.admit.admit.Statement.{statement}
 use Rattle.calls.proofs.admit.admit.Tie as tie

@@ -5,8 +5,8 @@ use lib.Dec.{leb}
 use borrow.Author.Tests.{le-leb, lt-leb}
 use borrow.Author.Needs.{needs}
 use native.Mathlib.Omega.{arith}
-use Rattle.headsteps.proofs.is_known.Statement.{statement}
-use Rattle.headsteps.proofs.is_known.Tie as tie
+use Rattle.state.proofs.nodes.is_known.Statement.{statement}
+use Rattle.state.proofs.nodes.is_known.Tie as tie
 
 returns : tie.Need-returns
 returns c = rw (lt-leb 1 _ (c .if1 .taken))
