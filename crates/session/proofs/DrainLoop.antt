@@ -22,7 +22,8 @@ use Rattle.state.specs.State.{held, Shows}
 use Rattle.live.specs.Live.{Live}
 use Rattle.live.proofs.Serving.{session-held, shows-encode}
 use Rattle.session.specs.declared.drain.Counts.{Counts}
-use Rattle.session.specs.Drained.{placeTaken, LeavesTaken, DrainsOne, Counted, Drains, more, raisedCounts}
+use Rattle.session.specs.DrainStep.{placeTaken, LeavesTaken, DrainsOne, more, raisedCounts}
+use Rattle.session.specs.Drained.{Counted, Drains}
 use Rattle.session.proofs.DrainTurns.{Turn, drain-turn, Rests, drain-stops}
 
 abbrev pub stepsOf : List ℕ → List Step

@@ -26,7 +26,7 @@ use Rattle.worksteps.proofs.Facts.{each-at}
 use Rattle.state.specs.State.{held, Shows}
 use Rattle.live.specs.Live.{Live, Leaves, Works}
 use Rattle.headsteps.specs.Heads.{Head}
-use Rattle.session.specs.Drained.{Begins, placeTaken, LeavesTaken, DrainsOne}
+use Rattle.session.specs.DrainStep.{Begins, placeTaken, LeavesTaken, DrainsOne}
 use Rattle.session.proofs.Draining.{taken, drain-empty, drain-admits, admits-first, drain-realises, drain-finishes, drain-moves}
 
 -- ANSWERS

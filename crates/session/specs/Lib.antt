@@ -1,3 +1,4 @@
+pub mod DrainStep
 pub mod Drained
 pub mod WorkSteps
 pub mod Claims

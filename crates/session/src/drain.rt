@@ -10,7 +10,8 @@ ghost use Prim.Native.Nat.{_<_};
 ghost use Rattle.worksteps.specs.FlatEvents.{flatDrainStep};
 ghost use Rattle.state.specs.State.{held};
 ghost use Rattle.live.specs.Live.{Live};
-ghost use Rattle.session.specs.Drained.{Begins, DrainsOne, Drains, raisedCounts};
+ghost use Rattle.session.specs.DrainStep.{Begins, DrainsOne, raisedCounts};
+ghost use Rattle.session.specs.Drained.{Drains};
 ghost use mathlib.Core.Path.{_≡_};
 
 // The admits, realises, moves and finishes that were taken.
