@@ -141,6 +141,65 @@ const CASES: [[u16; 6]; 65] = [
     [1044, 0, 1048, 255, 1048, 255],
 ];
 
+// The session below, byte by byte: nodes 1 and 2; at station 1 a unit of a map with two labels and a sum, at station 2 a near; an
+// add waits; two results. Each row has a place and its value; every other byte is the opened image's.
+const SESSION: [[u16; 2]; 47] = [
+    // the head: two nodes, four operations, two results, last label 9
+    [1, 2],
+    [2, 4],
+    [3, 2],
+    [4, 9],
+    // node 1: value 7, links 2, 2; node 2: value 5
+    [16, 7],
+    [20, 1],
+    [21, 2],
+    [22, 2],
+    [23, 2],
+    [32, 5],
+    [36, 2],
+    // map 3, 4 to 1, 2, labels 3 and 2
+    [1040, 1],
+    [1041, 1],
+    [1042, 1],
+    [1044, 3],
+    [1048, 4],
+    [1052, 2],
+    [1053, 1],
+    [1054, 2],
+    [1061, 2],
+    [1062, 3],
+    [1064, 2],
+    // a sum that holds 10, to 9, label 5
+    [1072, 1],
+    [1074, 4],
+    [1080, 10],
+    [1084, 1],
+    [1085, 9],
+    [1093, 1],
+    [1094, 5],
+    // near key 2 that holds 1, label 6
+    [1104, 2],
+    [1105, 1],
+    [1106, 7],
+    [1107, 2],
+    [1112, 1],
+    [1125, 1],
+    [1126, 6],
+    // an add of 7 in the top stream, label 8
+    [1136, 65],
+    [1137, 1],
+    [1144, 7],
+    [1157, 1],
+    [1158, 8],
+    // label 1 gave 1; label 7 gave 54 and left 9
+    [3088, 1],
+    [3090, 1],
+    [3104, 7],
+    [3106, 54],
+    [3110, 1],
+    [3111, 9],
+];
+
 fn blank() -> [u8; 4112]
     ensures { λ r. ⌜ 4112 ≡ length r ⌝ }
 {
@@ -153,98 +212,22 @@ fn put(image: &mut [u8], at: usize, value: u8) {
     }
 }
 
-// Nodes 1 and 2; at station 1 a unit of a map with two labels and a sum, at station 2 a near; an add waits; two results.
+fn byte(v: u16) -> u8 {
+    (v % 256) as u8
+}
+
+fn place(v: u16) -> usize {
+    v as usize
+}
+
 fn session(image: &mut [u8]) {
     open(image);
-    head(image);
-    nodes(image);
-    queue(image);
-    results(image);
-}
-
-fn head(image: &mut [u8]) {
-    put(image, 1, 2);
-    put(image, 2, 4);
-    put(image, 3, 2);
-    put(image, 4, 9);
-}
-
-fn queue(image: &mut [u8]) {
-    map(image);
-    map_lists(image);
-    sum(image);
-    near(image);
-    add(image);
-}
-
-// Node 1: value 7, links 2, 2. Node 2: value 5.
-fn nodes(image: &mut [u8]) {
-    put(image, 16, 7);
-    put(image, 20, 1);
-    put(image, 21, 2);
-    put(image, 22, 2);
-    put(image, 23, 2);
-    put(image, 32, 5);
-    put(image, 36, 2);
-}
-
-// Map 3, 4 to 1, 2, labels 3 and 2.
-fn map(image: &mut [u8]) {
-    put(image, 1040, 1);
-    put(image, 1041, 1);
-    put(image, 1042, 1);
-    put(image, 1044, 3);
-    put(image, 1048, 4);
-}
-
-fn map_lists(image: &mut [u8]) {
-    put(image, 1052, 2);
-    put(image, 1053, 1);
-    put(image, 1054, 2);
-    put(image, 1061, 2);
-    put(image, 1062, 3);
-    put(image, 1064, 2);
-}
-
-// A sum that holds 10, to 9, label 5.
-fn sum(image: &mut [u8]) {
-    put(image, 1072, 1);
-    put(image, 1074, 4);
-    put(image, 1080, 10);
-    put(image, 1084, 1);
-    put(image, 1085, 9);
-    put(image, 1093, 1);
-    put(image, 1094, 5);
-}
-
-// Near key 2 that holds 1, label 6.
-fn near(image: &mut [u8]) {
-    put(image, 1104, 2);
-    put(image, 1105, 1);
-    put(image, 1106, 7);
-    put(image, 1107, 2);
-    put(image, 1112, 1);
-    put(image, 1125, 1);
-    put(image, 1126, 6);
-}
-
-// An add of 7 in the top stream, label 8.
-fn add(image: &mut [u8]) {
-    put(image, 1136, 65);
-    put(image, 1137, 1);
-    put(image, 1144, 7);
-    put(image, 1157, 1);
-    put(image, 1158, 8);
-}
-
-// Label 1 gave 1; label 7 gave 54 and left 9.
-fn results(image: &mut [u8]) {
-    put(image, 3088, 1);
-    put(image, 3090, 1);
-    put(image, 3104, 7);
-    put(image, 3106, 54);
-    put(image, 3110, 1);
-    put(image, 3111, 9);
+    let mut i: usize = 0;
+    while i < 47 {
+        let row = SESSION[i];
+        put(image, place(row[0]), byte(row[1]));
+        i += 1;
+    }
 }
 
 // A map that waits, with four labels.
@@ -311,14 +294,6 @@ fn tell(n: u32, image: &[u8]) {
     } else {
         io::write_all(1, b" 2\n");
     }
-}
-
-fn byte(v: u16) -> u8 {
-    (v % 256) as u8
-}
-
-fn place(v: u16) -> usize {
-    v as usize
 }
 
 fn case(n: u32, row: [u16; 6]) {
