@@ -2,20 +2,19 @@
 -- Assumes nothing.
 use mathlib.Core.Path.{_≡_, refl, sym, ap, subst, _∙_}
 use Prim.Native.Nat.{ℕ, zero, suc, _+_, _-_, _≤_, _<_}
-use native.Mathlib.Nat.{not-suc-le-zero}
 use native.Mathlib.Numerals.{add-one}
 use native.Mathlib.Omega.{arith}
-use mathlib.Core.Bool.{Bool, true, false, cond, not, _&&_, _||_}
+use mathlib.Core.Bool.{Bool, true, false, cond, not, _&&_, _||_, or-false}
 use mathlib.Core.List.{List, [], _∷_, _++_, append-assoc, append-nil}
 use lib.Dec.{eqb, leb, ltb}
-use lib.ListN.{length, getD, set, take, drop, drop-of-length-le, length-set, length-append}
-use lib.Seq.{drop-cons, take-suc, take-all, take-suc-set}
+use lib.ListN.{length, getD, set, take, drop, replicate, drop-of-length-le, length-drop}
+use lib.Seq.{drop-cons, take-suc, take-all, take-suc-set, take-add, take-take, take-append-add, take-at, drop-at, drop-append-le, length-take-le, getD-drop}
 use borrow.Author.Tests.{eq-eqb, ne-eqb, le-leb, lt-leb, ltb-false}
 use Rattle.graph.specs.KeyLists.{contains}
 use Rattle.records.specs.declared.op.OpRecord.{OpRecord}
 use Rattle.records.specs.declared.result.ResultRecord.{ResultRecord}
 use Rattle.valid.specs.Values.{labelsOf}
-use Rattle.valid.specs.Tests.{walk, keyAbove, floorAfter, keyPlaces, isAdd, addsAmong, opLabels, resultLabels, givenOnce, four, Gathers}
+use Rattle.valid.specs.Tests.{walk, keyAbove, floorAfter, keyPlaces, isAdd, addsAmong, opLabels, resultLabels, givenOnce, four, Gathers, Padded}
 
 -- WALKS
 module _ {S A : Type 0} (ok : S → A → Bool) (next : S → A → S) (xs : List A) (d : A) (i : ℕ) (st : S) where
@@ -106,47 +105,95 @@ push pool before ls at j v h e =
     ap (λ (n : ℕ). take n (set pool (at + j) v)) q ∙ take-suc-set pool (at + j) v h
     ∙ ap (λ (l : List ℕ). l ++ (v ∷ [])) e ∙ append-assoc (take at before) ls (v ∷ [])
 
+-- of the labels put, the first n
+pub shorter : (pool before ls : List ℕ) (at n m : ℕ) → n ≤ m → at ≤ length before → take (at + m) pool ≡ take at before ++ ls → take (at + n) pool ≡ take at before ++ take n ls
+shorter pool before ls at n m h s e =
+    let q : length (take at before) ≡ at = length-take-le at before s in
+    sym (take-take (at + n) (at + m) pool (omega arith)) ∙ ap (take (at + n)) e ∙ ap (λ (k : ℕ). take (k + n) (take at before ++ ls)) (sym q) ∙ take-append-add (take at before) ls n
+
 pub take-four : (n : ℕ) (l : List ℕ) → length l ≡ 4 → (b : Bool) → ltb n 4 ≡ b → take (cond b n 4) l ≡ take n l
 take-four n l e true q = refl
 take-four n l e false q = take-all 4 l (omega arith) ∙ sym (take-all n l (omega (arith, ltb-false n 4 q)))
 
--- SLICES FROM THEIR TAIL: `rest l` is what the code has after `&t[1..]`
-abbrev pub rest : List ℕ → List ℕ
-rest l = take (length l - 1) (drop 1 l)
+-- IS IT AMONG THEM
+contains-append : (x : ℕ) (s t : List ℕ) → contains x (s ++ t) ≡ (contains x s || contains x t)
+contains-append x [] t = refl
+contains-append x (y ∷ s) t = ap (λ (b : Bool). eqb x y || b) (contains-append x s t) ∙ go (eqb x y) (contains x s) (contains x t)
+  where
+    go : (a b c : Bool) → (a || (b || c)) ≡ ((a || b) || c)
+    go true b c = refl
+    go false b c = refl
 
-pub uncons : (l : List ℕ) → 0 < length l → l ≡ getD l 0 0 ∷ rest l
-uncons [] h = absurd (not-suc-le-zero h)
-uncons (x ∷ xs) h = ap (λ (r : List ℕ). x ∷ r) (sym (take-all (suc (length xs) - 1) xs (omega arith)))
+or-last : (a b : Bool) → (a || (b || false)) ≡ (b || a)
+or-last true true = refl
+or-last true false = refl
+or-last false true = refl
+or-last false false = refl
 
-pub shorter : (l : List ℕ) → 0 < length l → length (rest l) < length l
-shorter l h = omega (arith, ap length (uncons l h))
+-- one more of those from `at` on
+pub among-more : (x : ℕ) (s : List ℕ) (at j : ℕ) → at + j < length s → contains x (take (j + 1) (drop at s)) ≡ (eqb x (getD s (at + j) 0) || contains x (take j (drop at s)))
+among-more x s at j h =
+    let q : j < length (drop at s) = omega (arith, length-drop at s) in
+    ap (λ (n : ℕ). contains x (take n (drop at s))) (add-one j) ∙ ap (contains x) (take-suc (drop at s) j 0 q)
+    ∙ contains-append x (take j (drop at s)) (getD (drop at s) j 0 ∷ []) ∙ or-last (contains x (take j (drop at s))) (eqb x (getD (drop at s) j 0))
+    ∙ ap (λ (y : ℕ). eqb x y || contains x (take j (drop at s))) (getD-drop at s j 0)
 
-pub none : {A : Type 0} (f : List ℕ → A) (l : List ℕ) → length l ≤ 0 → f l ≡ f []
-none f [] h = refl
-none f (x ∷ xs) h = absurd (not-suc-le-zero h)
+none-zero : (x : ℕ) → 1 ≤ x → (m k : ℕ) → contains x (take m (replicate k 0)) ≡ false
+none-zero x h zero k = refl
+none-zero x h (suc m) zero = refl
+none-zero x h (suc m) (suc k) = rw (ne-eqb x 0 (λ e. omega arith)) (none-zero x h m k)
 
-module _ (l : List ℕ) (h : 0 < length l) where
-  pub among-here : (x : ℕ) → getD l 0 0 ≡ x → contains x l ≡ true
-  among-here x e = ap (contains x) (uncons l h) ∙ rw (eq-eqb x (getD l 0 0) (sym e))
+-- the zeros after n labels are none of them
+module _ (n : ℕ) (s : List ℕ) (p : Padded n s) (k : ℕ) (h : k ≤ n) where
+  window : take 64 (drop k s) ≡ drop k (take n s) ++ take ((k + 64) - n) (replicate 64 0)
+  window =
+      let live : List ℕ = take n s in
+      let m : ℕ = (k + 64) - n in
+      let size : length live ≡ n = length-take-le n s (omega (arith, p .size)) in
+      let q : k + 64 ≡ length live + m = omega (arith, p .few) in
+      let front : take k s ++ take 64 (drop k s) ≡ live ++ take m (replicate 64 0) =
+      sym (take-add k 64 s) ∙ sym (take-take (k + 64) (n + 64) s (omega arith)) ∙ ap (take (k + 64)) (p .front)
+      ∙ ap (λ (i : ℕ). take i (live ++ replicate 64 0)) q ∙ take-append-add live (replicate 64 0) m in
+      sym (drop-at (take k s) (take 64 (drop k s)) k (length-take-le k s (omega (arith, p .size)))) ∙ ap (drop k) front
+      ∙ drop-append-le k live (take m (replicate 64 0)) (omega arith)
 
-  pub among-rest : (x : ℕ) → (getD l 0 0 ≡ x → ⊥) → contains x (rest l) ≡ contains x l
-  among-rest x n = sym (ap (contains x) (uncons l h) ∙ rw (ne-eqb x (getD l 0 0) (λ e. n (sym e))))
+  pub among-padded : (x : ℕ) → 1 ≤ x → contains x (take 64 (drop k s)) ≡ contains x (drop k (take n s))
+  among-padded x a =
+      ap (contains x) window ∙ contains-append x (drop k (take n s)) (take ((k + 64) - n) (replicate 64 0))
+      ∙ ap (λ (b : Bool). contains x (drop k (take n s)) || b) (none-zero x a ((k + 64) - n) 64) ∙ or-false (contains x (drop k (take n s)))
 
-  module _ (last : ℕ) where
-    pub given-zero : getD l 0 0 < 1 → givenOnce last l ≡ false
+-- 64 zeros put after n labels
+module _ (n : ℕ) (before after : List ℕ) where
+  pub kept : n ≤ length before → Gathers (replicate 64 0) n before after (n + 64) → take n after ≡ take n before
+  kept h g = sym (take-take n (n + 64) after (omega arith)) ∙ ap (take n) (g .front) ∙ take-at (take n before) (replicate 64 0) n (length-take-le n before h)
+
+  pub padded : n ≤ 64 → n + 64 ≤ length before → Gathers (replicate 64 0) n before after (n + 64) → Padded n after
+  padded few h g =
+      record { few = few; size = omega (arith, g .size); front = g .front ∙ ap (λ (l : List ℕ). l ++ replicate 64 0) (sym (kept (omega arith) g)) }
+
+-- GIVEN ONCE: i labels are behind us
+module _ (last : ℕ) (l : List ℕ) (i x : ℕ) (h : i < length l) (e : getD l i 0 ≡ x) where
+  head : drop i l ≡ x ∷ drop (i + 1) l
+  head = drop-cons l i 0 h ∙ ap (λ (y : ℕ). y ∷ drop (suc i) l) e ∙ ap (λ (n : ℕ). x ∷ drop n l) (sym (add-one i))
+
+  pub given-zero : x < 1 → givenOnce last (drop i l) ≡ false
+  unfolding givenOnce
+  given-zero a = ap (givenOnce last) head ∙ rw (lt-leb 1 x a)
+
+  module _ (a : 1 ≤ x) where
+    pub given-late : last < x → givenOnce last (drop i l) ≡ false
     unfolding givenOnce
-    given-zero a = ap (givenOnce last) (uncons l h) ∙ rw (lt-leb 1 (getD l 0 0) a)
+    given-late b = ap (givenOnce last) head ∙ rw (le-leb 1 x a, lt-leb x last b)
 
-    module _ (a : 1 ≤ getD l 0 0) where
-      pub given-late : last < getD l 0 0 → givenOnce last l ≡ false
+    module _ (b : x ≤ last) where
+      pub given-twice : contains x (drop (i + 1) l) ≡ true → givenOnce last (drop i l) ≡ false
       unfolding givenOnce
-      given-late b = ap (givenOnce last) (uncons l h) ∙ rw (le-leb 1 (getD l 0 0) a, lt-leb (getD l 0 0) last b)
+      given-twice t = ap (givenOnce last) head ∙ rw (le-leb 1 x a, le-leb x last b, t)
 
-      module _ (b : getD l 0 0 ≤ last) where
-        pub given-twice : contains (getD l 0 0) (rest l) ≡ true → givenOnce last l ≡ false
-        unfolding givenOnce
-        given-twice e = ap (givenOnce last) (uncons l h) ∙ rw (le-leb 1 (getD l 0 0) a, le-leb (getD l 0 0) last b, e)
+      pub given-next : contains x (drop (i + 1) l) ≡ false → givenOnce last (drop (i + 1) l) ≡ givenOnce last (drop i l)
+      unfolding givenOnce
+      given-next t = sym (ap (givenOnce last) head ∙ rw (le-leb 1 x a, le-leb x last b, t))
 
-        pub given-rest : contains (getD l 0 0) (rest l) ≡ false → givenOnce last (rest l) ≡ givenOnce last l
-        unfolding givenOnce
-        given-rest e = sym (ap (givenOnce last) (uncons l h) ∙ rw (le-leb 1 (getD l 0 0) a, le-leb (getD l 0 0) last b, e))
+pub given-end : (last : ℕ) (l : List ℕ) (i : ℕ) → length l ≤ i → givenOnce last (drop i l) ≡ true
+unfolding givenOnce
+given-end last l i h = rw (drop-of-length-le l h)
