@@ -1,4 +1,5 @@
 pub mod Turns
+pub mod InPlace
 pub mod Unused
 pub mod Packing
 pub mod Decoding

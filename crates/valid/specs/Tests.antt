@@ -1,11 +1,11 @@
 -- The facts of refusal 2 as tests of an image's records.
 -- Assumes nothing.
-use Prim.Native.Nat.{ℕ, zero, suc, _+_}
+use Prim.Native.Nat.{ℕ, zero, suc, _+_, _≤_}
 use mathlib.Core.Path.{_≡_}
 use mathlib.Core.Bool.{Bool, true, false, cond, not, _&&_, _||_}
 use mathlib.Core.List.{List, [], _∷_, _++_}
 use lib.Dec.{eqb, leb, ltb}
-use lib.ListN.{length, take, drop}
+use lib.ListN.{length, take, drop, replicate}
 use Rattle.graph.specs.declared.keys.Keys.{Keys}
 use Rattle.graph.specs.KeyLists.{isKey, contains}
 use Rattle.queue.specs.Flat.{placed, follows}
@@ -35,6 +35,10 @@ unfoldable pub keyPlaces : Bool → ℕ → ℕ → List ℕ → Bool
 keyPlaces rise n low [] = true
 keyPlaces rise zero low (x ∷ xs) = eqb x 0 && keyPlaces rise zero low xs
 keyPlaces rise (suc n) low (x ∷ xs) = keyAbove low x && keyPlaces rise n (floorAfter rise x) xs
+
+-- eight of one number, and eight zeros
+abbrev pub eightAndZeros : ℕ → List ℕ
+eightAndZeros x = replicate 8 x ++ replicate 8 0
 
 unfoldable pub keysOk : Bool → Keys → Bool
 keysOk rise ks = leb (ks .count) 8 && keyPlaces rise (ks .count) 0 (ks .key)
@@ -123,3 +127,9 @@ pub record Gathers (ls : List ℕ) (at : ℕ) (before after : List ℕ) (r : ℕ
   pub size : length after ≡ length before
   pub count : r ≡ at + length ls
   pub front : take r after ≡ take at before ++ ls
+
+-- a pool of n labels, with 64 zeros after them
+pub record Padded (n : ℕ) (pool : List ℕ) : Type 0 where
+  pub few : n ≤ 64
+  pub size : n + 64 ≤ length pool
+  pub front : take (n + 64) pool ≡ take n pool ++ replicate 64 0

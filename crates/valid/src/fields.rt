@@ -1,50 +1,71 @@
 // Tests of the parts of a record.
-use graph::keys::Keys;
 use records::bytes::long;
 use records::labels::Labels;
 ghost use mathlib.Core.Path.{_≡_};
-ghost use lib.ListN.{drop};
-ghost use Rattle.records.specs.Bytes.{allZero};
-ghost use Rattle.valid.specs.Tests.{keyAbove, floorAfter, keysOk, labelsOk, takesKey, operandOk, numbersOk, mostOf, targetsOk};
+ghost use mathlib.Core.Bool.{false, _||_};
+ghost use Prim.Native.Nat.{_≤_};
+ghost use lib.Dec.{ltb};
+ghost use lib.ListN.{length, drop};
+ghost use Rattle.graph.specs.KeyLists.{rising};
+ghost use Rattle.records.specs.Bytes.{allZero, keysAt};
+ghost use Rattle.valid.specs.Tests.{eightAndZeros, keyPlaces, keysOk, labelsOk, takesKey, operandOk, numbersOk, mostOf, targetsOk};
 
-fn key_above(low: u8, x: u8) -> bool
-    ensures { λ r. ⌜ r ≡ keyAbove low x ⌝ }
+fn below_or(bad: bool, x: u8, y: u8) -> bool
+    ensures { λ r. ⌜ r ≡ (ltb x y || bad) ⌝ }
 {
-    low < x && x <= 64
+    if x < y { true } else { bad }
 }
 
-fn floor_after(rise: bool, x: u8) -> u8
-    ensures { λ r. ⌜ r ≡ floorAfter rise x ⌝ }
+// The least and the most that a place may hold: eight places with a key, then eight without. n keys look at the eight from 8 - n on.
+pub const LEAST: [u8; 16] = [1, 1, 1, 1, 1, 1, 1, 1, 0, 0, 0, 0, 0, 0, 0, 0];
+
+pub const MOST: [u8; 16] = [64, 64, 64, 64, 64, 64, 64, 64, 0, 0, 0, 0, 0, 0, 0, 0];
+
+// Keys in the first n places, zeros after them. The loop has no exit on the way, so that all eight places are compared at once.
+fn places_ok(x: &[u8], n: usize, least: &[u8], most: &[u8]) -> bool
+    requires { ⌜ (length (now x) ≡ 8) × (n ≤ 8) × (now least ≡ eightAndZeros 1) × (now most ≡ eightAndZeros 64) ⌝ }
+    ensures { λ r. ⌜ r ≡ keyPlaces false n 0 (now (x .entry)) ⌝ }
 {
-    if rise { x } else { 0 }
+    let low = &least[8 - n..];
+    let high = &most[8 - n..];
+    let mut bad = false;
+    let mut j: usize = 0;
+    while j < x.len() {
+        bad = below_or(bad, x[j], low[j]);
+        bad = below_or(bad, high[j], x[j]);
+        j += 1;
+    }
+    !bad
 }
 
-// At most eight keys, strictly rising where `rise` says so, and zeros after them.
-pub fn keys_ok(rise: bool, ks: Keys) -> bool
-    ensures { λ r. ⌜ r ≡ keysOk rise ks ⌝ }
+// Whether the keys rise strictly.
+fn rises(x: &[u8]) -> bool
+    ensures { λ r. ⌜ r ≡ rising (now (x .entry)) ⌝ }
 {
-    let key = ks.key;
-    let n = long(ks.count);
+    let mut j: usize = 1;
+    while j < x.len() {
+        if x[j] <= x[j - 1] {
+            return false;
+        }
+        j += 1;
+    }
+    true
+}
+
+// At most eight keys, strictly rising where `rise` says so, and zeros after them: x has their count and their eight places. The tables are
+// the caller's, which fills them once for all of its records.
+pub fn keys_ok(rise: bool, x: &[u8], least: &[u8], most: &[u8]) -> bool
+    requires { ⌜ (length (now x) ≡ 9) × (now least ≡ eightAndZeros 1) × (now most ≡ eightAndZeros 64) ⌝ }
+    ensures { λ r. ⌜ r ≡ keysOk rise (keysAt (now (x .entry)) 0) ⌝ }
+{
+    let n = long(x[0]);
     if 8 < n {
         return false;
     }
-    let mut low: u8 = 0;
-    let mut j: usize = 0;
-    while j < 8 {
-        if j < n {
-            if !key_above(low, key[j]) {
-                return false;
-            }
-            low = floor_after(rise, key[j]);
-            j += 1;
-        } else {
-            if key[j] != 0 {
-                return false;
-            }
-            j += 1;
-        }
+    if !places_ok(&x[1..], n, least, most) {
+        return false;
     }
-    true
+    if rise { rises(&x[1..n + 1]) } else { true }
 }
 
 // The labels from place n on are zero.

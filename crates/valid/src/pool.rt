@@ -7,14 +7,14 @@ use image::read::result_count;
 use records::bytes::long;
 use records::labels::Labels;
 ghost use mathlib.Core.Path.{_≡_};
-ghost use mathlib.Core.Bool.{_&&_};
+ghost use mathlib.Core.Bool.{_&&_, _||_};
 ghost use Prim.Native.Nat.{_+_, _≤_, _*_};
-ghost use lib.Dec.{leb};
-ghost use lib.ListN.{length};
+ghost use lib.Dec.{eqb, leb};
+ghost use lib.ListN.{length, take, drop, replicate};
 ghost use Rattle.graph.specs.KeyLists.{contains};
 ghost use Rattle.image.specs.Layout.{Sound, view};
 ghost use Rattle.valid.specs.Values.{labelsOf};
-ghost use Rattle.valid.specs.Tests.{four, opLabels, resultLabels, liveLabels, givenOnce, Gathers};
+ghost use Rattle.valid.specs.Tests.{four, opLabels, resultLabels, liveLabels, givenOnce, Gathers, Padded};
 
 fn at_most_four(n: u8) -> usize
     ensures { λ r. ⌜ (r ≡ four n) × (r ≤ 4) ⌝ }
@@ -22,7 +22,8 @@ fn at_most_four(n: u8) -> usize
     if n < 4 { long(n) } else { 4 }
 }
 
-// Puts the labels into the pool from `at` on, and says where the next goes.
+// Puts the labels into the pool from `at` on, and says where the next goes. All four places are written, since four are one store; what
+// comes next goes over those that do not count.
 fn push_labels(pool: &mut [u16], at: usize, l: Labels) -> usize
     requires { ⌜ at + 4 ≤ length (now pool) ⌝ }
     ensures { λ r. ⌜ (Gathers (labelsOf l) at (now (pool .entry)) (now (pool .exit)) r) × (r ≤ at + 4) ⌝ }
@@ -30,7 +31,7 @@ fn push_labels(pool: &mut [u16], at: usize, l: Labels) -> usize
     let label = l.label;
     let n = at_most_four(l.count);
     let mut j: usize = 0;
-    while j < n {
+    while j < 4 {
         pool[at + j] = label[j];
         j += 1;
     }
@@ -66,37 +67,57 @@ fn gather_results(image: &[u8], pool: &mut [u16], at: usize) -> usize
     at + m
 }
 
-fn is_among(s: &[u16], x: u16) -> bool
-    ensures { λ r. ⌜ r ≡ contains x (now (s .entry)) ⌝ }
+// Puts 64 zeros into the pool from `at` on.
+fn push_zeros(pool: &mut [u16], at: usize)
+    requires { ⌜ at + 64 ≤ length (now pool) ⌝ }
+    ensures { λ _. ⌜ Gathers (replicate 64 0) at (now (pool .entry)) (now (pool .exit)) (at + 64) ⌝ }
 {
-    let mut t = s;
-    while 0 < t.len() {
-        if t[0] == x {
-            return true;
-        }
-        t = &t[1..];
+    let mut j: usize = 0;
+    while j < 64 {
+        pool[at + j] = 0;
+        j += 1;
     }
-    false
 }
 
-// Each label is from 1 to `last`, and stands once.
-fn given_once(s: &[u16], last: u16) -> bool
-    ensures { λ r. ⌜ r ≡ givenOnce last (now (s .entry)) ⌝ }
+fn same_or(found: bool, y: u16, x: u16) -> bool
+    ensures { λ r. ⌜ r ≡ (eqb x y || found) ⌝ }
 {
-    let mut t = s;
-    while 0 < t.len() {
-        let x = t[0];
-        let u = &t[1..];
+    if y == x { true } else { found }
+}
+
+// Whether x is among the 64 labels from `at` on. Their number is fixed, and the loop has no exit on the way, so that many are compared at
+// once.
+fn is_among(s: &[u16], at: usize, x: u16) -> bool
+    requires { ⌜ at + 64 ≤ length (now s) ⌝ }
+    ensures { λ r. ⌜ r ≡ contains x (take 64 (drop at (now (s .entry)))) ⌝ }
+{
+    let mut found = false;
+    let mut j: usize = 0;
+    while j < 64 {
+        found = same_or(found, s[at + j], x);
+        j += 1;
+    }
+    found
+}
+
+// Each of the first n labels is from 1 to `last`, and stands once among them.
+fn given_once(s: &[u16], n: usize, last: u16) -> bool
+    requires { ⌜ Padded n (now s) ⌝ }
+    ensures { λ r. ⌜ r ≡ givenOnce last (take n (now (s .entry))) ⌝ }
+{
+    let mut i: usize = 0;
+    while i < n {
+        let x = s[i];
         if x < 1 {
             return false;
         }
         if last < x {
             return false;
         }
-        if is_among(u, x) {
+        if is_among(s, i + 1, x) {
             return false;
         }
-        t = u;
+        i += 1;
     }
     true
 }
@@ -112,5 +133,6 @@ pub fn labels_live(image: &[u8]) -> bool
     if 64 < n {
         return false;
     }
-    given_once(&pool[..n], last_label(image))
+    push_zeros(&mut pool, n);
+    given_once(&pool, n, last_label(image))
 }

@@ -1,4 +1,6 @@
 // Tests of whole records, and of every record of a region.
+use crate::fields::LEAST;
+use crate::fields::MOST;
 use crate::fields::keys_ok;
 use crate::fields::labels_ok;
 use crate::fields::most_of;
@@ -17,25 +19,27 @@ use records::node::NodeRecord;
 use records::op::OpRecord;
 use records::result::ResultRecord;
 ghost use mathlib.Core.Path.{_≡_};
+ghost use mathlib.Core.Bool.{true, false};
 ghost use Prim.Native.Nat.{_<_, _≤_};
 ghost use lib.ListN.{length};
 ghost use Rattle.image.specs.Layout.{Sound, view};
 ghost use Rattle.queue.specs.Flat.{placed, follows};
 ghost use Rattle.valid.specs.Values.{taggedOf};
-ghost use Rattle.valid.specs.Tests.{nodeOk, opOk, resultOk, nodesOk, opsOk, resultsOk, addsAmong};
+ghost use Rattle.valid.specs.Tests.{keysOk, nodeOk, opOk, resultOk, nodesOk, opsOk, resultsOk, addsAmong};
 
-fn node_ok(i: usize, r: NodeRecord) -> bool
-    requires { ⌜ i < 64 ⌝ }
+// The keys are compared as bytes: as places, the key that was read would become the next place, and each read would wait for the one before.
+fn node_ok(i: usize, r: NodeRecord, links: bool) -> bool
+    requires { ⌜ (i < 64) × (links ≡ keysOk false (r .links)) ⌝ }
     ensures { λ b. ⌜ b ≡ nodeOk i r ⌝ }
 {
-    let links = r.links;
-    if long(r.key) != i + 1 {
+    let key = (i + 1) as u8;
+    if r.key != key {
         return false;
     }
     if r.spare != 0 {
         return false;
     }
-    keys_ok(false, links)
+    links
 }
 
 // Node keys rise from 1, and each node keeps the limits.
@@ -44,9 +48,13 @@ pub fn nodes_ok(image: &[u8]) -> bool
     ensures { λ b. ⌜ b ≡ nodesOk (view (now (image .entry)) .nodes) ⌝ }
 {
     let n = node_count(image);
+    let least = LEAST;
+    let most = MOST;
     let mut i: usize = 0;
     while i < n {
-        if !node_ok(i, node_at(image, i)) {
+        let at = 21 + 16 * i;
+        let links = keys_ok(false, &image[at..at + 9], &least, &most);
+        if !node_ok(i, node_at(image, i), links) {
             return false;
         }
         i += 1;
@@ -86,7 +94,8 @@ fn follows_ok(prev: u8, o: OpRecord) -> bool
     p != 65
 }
 
-fn op_ok(n: usize, prev: u8, o: OpRecord) -> bool
+fn op_ok(n: usize, prev: u8, o: OpRecord, fit: bool) -> bool
+    requires { ⌜ fit ≡ keysOk true (o .targets) ⌝ }
     ensures { λ b. ⌜ b ≡ opOk n prev o ⌝ }
 {
     let kind = o.kind;
@@ -110,7 +119,7 @@ fn op_ok(n: usize, prev: u8, o: OpRecord) -> bool
     if !targets_ok(kind, targets.count) {
         return false;
     }
-    if !keys_ok(true, targets) {
+    if !fit {
         return false;
     }
     if !labels_ok(most_of(kind), labels) {
@@ -129,11 +138,15 @@ pub fn ops_ok(image: &[u8]) -> bool
 {
     let n = node_count(image);
     let m = op_count(image);
+    let least = LEAST;
+    let most = MOST;
     let mut prev: u8 = 0;
     let mut i: usize = 0;
     while i < m {
         let o = op_at(image, i);
-        if !op_ok(n, prev, o) {
+        let at = 1052 + 32 * i;
+        let fit = keys_ok(true, &image[at..at + 9], &least, &most);
+        if !op_ok(n, prev, o, fit) {
             return false;
         }
         prev = o.station;
@@ -142,17 +155,17 @@ pub fn ops_ok(image: &[u8]) -> bool
     true
 }
 
-fn result_ok(prev: u16, r: ResultRecord) -> bool
+fn result_ok(prev: u16, r: ResultRecord, left: bool) -> bool
+    requires { ⌜ left ≡ keysOk true (r .left) ⌝ }
     ensures { λ b. ⌜ b ≡ resultOk prev r ⌝ }
 {
-    let left = r.left;
     if r.label <= prev {
         return false;
     }
     if r.spare != 0 {
         return false;
     }
-    keys_ok(true, left)
+    left
 }
 
 // Results stand by rising label, and each keeps the limits.
@@ -161,11 +174,15 @@ pub fn results_ok(image: &[u8]) -> bool
     ensures { λ b. ⌜ b ≡ resultsOk (view (now (image .entry)) .results) ⌝ }
 {
     let m = result_count(image);
+    let least = LEAST;
+    let most = MOST;
     let mut prev: u16 = 0;
     let mut i: usize = 0;
     while i < m {
         let r = result_at(image, i);
-        if !result_ok(prev, r) {
+        let at = 3094 + 16 * i;
+        let left = keys_ok(true, &image[at..at + 9], &least, &most);
+        if !result_ok(prev, r, left) {
             return false;
         }
         prev = r.label;

@@ -1,119 +1,125 @@
 -- `fields::keys_ok` meets its contract.
 -- Assumes nothing.
-use mathlib.Core.Path.{_≡_, sym, ap, _∙_}
-use Prim.Native.Nat.{ℕ, _-_, _≤_}
-use lib.ListN.{length, drop}
+use mathlib.Core.Path.{_≡_, refl, sym, ap, _∙_}
+use Prim.Native.Nat.{ℕ, _+_, _-_, _≤_}
+use mathlib.Core.Bool.{Bool, true, false}
+use mathlib.Core.List.{List}
+use lib.ListN.{length, getD, take, drop}
+use lib.Seq.{take-take}
 use borrow.Author.Tests.{le-leb, lt-leb, not-true, not-false}
-use mathlib.Core.Bool.{Bool}
+use Rattle.graph.specs.KeyLists.{rising}
+use Rattle.records.specs.Bytes.{keysAt}
 use Rattle.valid.specs.Tests.{keysOk, keyPlaces}
-use Rattle.valid.proofs.Turns.{key-next, key-not, rest-next, rest-not, key-end}
-use borrow.Author.Needs.{needs}
+use Rattle.valid.proofs.Turns.{rising-keys, rising-places}
+use Rattle.valid.proofs.InPlace.{places-of}
 use native.Mathlib.Omega.{arith}
+use borrow.Author.Needs.{needs}
 use Rattle.valid.proofs.fields.keys_ok.Statement.{statement}
 use Rattle.valid.proofs.fields.keys_ok.Tie as tie
+use Rattle.valid.proofs.fields.keys_ok.Reads as reads
+use Rattle.valid.proofs.fields.keys_ok.Lts as lts
 
-abbrev Inv-loop : tie.InvT-loop
-Inv-loop rise key n low₀ j₀ low j = (length key ≡ 8) × (j ≤ 8) × (keyPlaces rise (n - j) low (drop j key) ≡ keyPlaces rise n 0 key)
+abbrev start : tie.Else1 → tie.Start
+start c = c .before .before .before .before .before .before
 
-abbrev μ-loop : tie.MeasureT-loop
-μ-loop rise key n low₀ j₀ low j = 8 - j
+-- the places, as the slice after the count has them
+abbrev places : tie.Else1 → List ℕ
+places c = take (length (start c .args .x .now) - 1) (drop 1 (start c .args .x .now))
 
--- what the loop says is the answer, where there are at most eight keys
-whole : (c : tie.Else1 Inv-loop μ-loop) {x b : Bool} → x ≡ b → x ≡ keyPlaces (c .before .before .before .args .rise) (c .before .long .result) 0 (c .before .before .before .args .ks .key) → b ≡ keysOk (c .before .before .before .args .rise) (c .before .before .before .args .ks)
+-- the answer for the places is the answer, where there are at most eight keys
+whole : (c : tie.Else1) {b : Bool} → b ≡ keyPlaces (start c .args .rise) (c .before .long .result) 0 (places c) → b ≡ keysOk (start c .args .rise) (keysAt (start c .args .x .now) 0)
 unfolding keysOk
-whole c {x} {b} e f =
-    let ks = c .before .before .before .args .ks in
-    rw (le-leb (ks .count) 8 (omega (arith, c .before .long .ensures)))
-    (sym e ∙ f ∙ ap (λ (n : ℕ). keyPlaces (c .before .before .before .args .rise) n 0 (ks .key)) (c .before .long .ensures))
+whole c {b} e =
+    let x = start c .args .x .now in
+    rw (le-leb (getD x 0 0) 8 (omega (arith, c .before .long .ensures, c .if1 .left)))
+    (e ∙ ap (λ (n : ℕ). keyPlaces (start c .args .rise) n 0 (places c)) (c .before .long .ensures) ∙ ap (keyPlaces (start c .args .rise) (getD x 0 0) 0) (places-of x (start c .pre .0)))
 
-long-requires : tie.Need-long-requires Inv-loop μ-loop
+-- keys that do not stand in their places do not rise in them either
+no-places : (rise : Bool) (n : ℕ) (xs : List ℕ) → keyPlaces false n 0 xs ≡ false → keyPlaces rise n 0 xs ≡ false
+no-places false n xs e = e
+no-places true n xs e = go (keyPlaces true n 0 xs) refl
+  where
+    go : (t : Bool) → keyPlaces true n 0 xs ≡ t → t ≡ false
+    go true q = sym (rising-keys n 0 xs q) ∙ e
+    go false q = refl
+
+shared-slice-read-long : tie.Need-shared-slice-read-long
+shared-slice-read-long c = search needs
+
+long-requires : tie.Need-long-requires
 long-requires c κs = search needs
 
-returns : tie.Need-returns Inv-loop μ-loop
+returns : tie.Need-returns
 unfolding keysOk
-returns c = rw (lt-leb (c .before .before .before .args .ks .count) 8 (omega (arith, c .before .long .ensures)))
+returns c = rw (lt-leb (getD (c .before .before .before .before .before .before .args .x .now) 0 0) 8 (omega (arith, c .before .long .ensures)))
 
-loop-holds : tie.Need-loop-holds Inv-loop μ-loop
-loop-holds c =
-    let n = c .before .long .result in
-    let e : n - 0 ≡ n = omega arith in
-    (search needs, omega arith, ap (λ (k : ℕ). keyPlaces (c .before .before .before .args .rise) k 0 (c .before .before .before .args .ks .key)) e)
+sub-places-ok : tie.Need-sub-places-ok
+sub-places-ok c = search needs
 
-array-read-key-above : tie.Need-array-read-key-above Inv-loop μ-loop
-array-read-key-above c = search needs
+part-places-ok-start : tie.Need-part-places-ok-start
+part-places-ok-start c = search needs
 
-key-above-requires : tie.Need-key-above-requires Inv-loop μ-loop
-key-above-requires c κs = search needs
+part-places-ok-end : tie.Need-part-places-ok-end
+part-places-ok-end c = search needs
 
-returns-2 : tie.Need-returns-2 Inv-loop μ-loop
-unfolding keysOk
+places-ok-requires : tie.Need-places-ok-requires
+places-ok-requires c κs =
+    let r = c .before .before .before .before .before .before .before .pre in
+    (ap length (places-of (c .before .before .before .before .before .before .before .args .x .now) (r .0)), c .before .if1 .left, r .1, r .2)
+
+returns-2 : tie.Need-returns-2
 returns-2 c =
-    whole (c .before .before .before .before .before) (key-not _ _ _ _ _ (omega (arith, c .before .before .before .before .loop .inv .0)) (c .before .before .if2 .taken) (sym (c .before .key-above .ensures) ∙ not-true _ (c .if3 .taken))) (c .before .before .before .before .loop .inv .2)
+    let e = c .before .before .before in
+    whole e (sym (no-places (start e .args .rise) (e .before .long .result) (places e) (sym (c .before .places-ok .ensures) ∙ not-true _ (c .if2 .taken))))
 
-array-read-floor-after : tie.Need-array-read-floor-after Inv-loop μ-loop
-array-read-floor-after c = search needs
+add-rises : tie.Need-add-rises
+add-rises c = search needs
 
-floor-after-requires : tie.Need-floor-after-requires Inv-loop μ-loop
-floor-after-requires c κs = search needs
+sub-rises : tie.Need-sub-rises
+sub-rises c = search needs
 
-add-j : tie.Need-add-j Inv-loop μ-loop
-add-j c = search needs
+part-rises-start : tie.Need-part-rises-start
+part-rises-start c = search needs
 
-loop-less : tie.Need-loop-less Inv-loop μ-loop
-loop-less c = search needs
+part-rises-end : tie.Need-part-rises-end
+part-rises-end c = search needs
 
-loop-again : tie.Need-loop-again Inv-loop μ-loop
-loop-again c =
-    let v = c .before .before .before .before .before .loop .inv in
-    (v .0, omega arith, rw (c .floor-after .ensures) (key-next _ _ _ _ _ (omega (arith, v .0)) (c .before .before .before .if2 .taken) (sym (c .before .before .key-above .ensures) ∙ not-false _ (c .before .if3 .left))) ∙ v .2)
+rises-requires : tie.Need-rises-requires
+rises-requires c κs = search needs
 
-array-read-if4 : tie.Need-array-read-if4 Inv-loop μ-loop
-array-read-if4 c = search needs
-
-returns-3 : tie.Need-returns-3 Inv-loop μ-loop
-unfolding keysOk
+returns-3 : tie.Need-returns-3
 returns-3 c =
-    whole (c .before .before .before .before) (rest-not _ _ _ _ _ (omega (arith, c .before .before .before .loop .inv .0)) (c .before .if2 .left) (c .if4 .taken)) (c .before .before .before .loop .inv .2)
+    let e = c .before .before .before .before .before .before in
+    let n : ℕ = e .before .long .result in
+    let few : n ≤ 8 = e .if1 .left in
+    let q : n + 1 - 1 ≡ n = omega arith in
+    let whole-places : take n (places e) ≡ take n (drop 1 (start e .args .x .now)) = take-take n (length (start e .args .x .now) - 1) (drop 1 (start e .args .x .now)) (omega (arith, start e .pre .0)) in
+    let kept : keyPlaces false n 0 (places e) ≡ true = sym (c .before .before .before .before .places-ok .ensures) ∙ not-false _ (c .before .before .before .if2 .left) in
+    whole e
+    (c .rises .ensures ∙ ap (λ (k : ℕ). rising (take k (drop 1 (start e .args .x .now)))) q ∙ ap rising (sym whole-places) ∙ sym (rising-places n (places e) kept)
+    ∙ ap (λ (r : Bool). keyPlaces r n 0 (places e)) (sym (c .before .before .if3 .taken)))
 
-add-j-2 : tie.Need-add-j-2 Inv-loop μ-loop
-add-j-2 c = search needs
-
-loop-less-2 : tie.Need-loop-less-2 Inv-loop μ-loop
-loop-less-2 c = search needs
-
-loop-again-2 : tie.Need-loop-again-2 Inv-loop μ-loop
-loop-again-2 c =
-    let v = c .before .before .before .loop .inv in
-    (v .0, omega arith, rest-next _ _ _ _ _ (omega (arith, v .0)) (c .before .if2 .left) (c .if4 .left) ∙ v .2)
-
-returns-4 : tie.Need-returns-4 Inv-loop μ-loop
-unfolding keysOk
+returns-4 : tie.Need-returns-4
 returns-4 c =
-    let v = c .before .loop .inv in
-    let a = c .before .before .before .before .before .args in
-    let h : length (a .ks .key) ≤ c .before .loop .j = omega (arith, v .0) in
-    whole (c .before .before) (key-end (a .rise) (a .ks .key) _ _ _ h) (v .2)
+    let e = c .before .before .before .before in
+    whole e (sym (sym (c .before .before .places-ok .ensures) ∙ not-false _ (c .before .if2 .left)) ∙ ap (λ (r : Bool). keyPlaces r (e .before .long .result) 0 (places e)) (sym (c .if3 .left)))
 
 pub keys-ok-spec : {M : Type 1} → statement M
 keys-ok-spec =
     tie.close
     (tie.spec
-    Inv-loop
-    μ-loop
+    shared-slice-read-long
     long-requires
     returns
-    loop-holds
-    array-read-key-above
-    key-above-requires
+    sub-places-ok
+    part-places-ok-start
+    part-places-ok-end
+    places-ok-requires
     returns-2
-    array-read-floor-after
-    floor-after-requires
-    add-j
-    loop-less
-    loop-again
-    array-read-if4
+    add-rises
+    sub-rises
+    part-rises-start
+    part-rises-end
+    rises-requires
     returns-3
-    add-j-2
-    loop-less-2
-    loop-again-2
     returns-4)

@@ -1,45 +1,60 @@
 -- `pool::is_among` meets its contract.
 -- Assumes nothing.
-use mathlib.Core.Path.{_≡_, refl, sym, _∙_}
-use lib.ListN.{length}
+use mathlib.Core.Path.{_≡_, refl, sym, ap, _∙_}
+use Prim.Native.Nat.{ℕ, _+_, _-_, _≤_, _<_}
+use mathlib.Core.Bool.{Bool, _||_}
+use lib.Dec.{eqb}
+use lib.ListN.{length, getD, take, drop}
 use Rattle.graph.specs.KeyLists.{contains}
-use Rattle.valid.proofs.Turns.{shorter, none, among-here, among-rest}
+use Rattle.valid.proofs.Turns.{among-more}
+use Rattle.valid.proofs.pool.same_or.Reads as same-or-reads
 use borrow.Author.Needs.{needs}
+use native.Mathlib.Omega.{arith}
 use Rattle.valid.proofs.pool.is_among.Statement.{statement}
 use Rattle.valid.proofs.pool.is_among.Tie as tie
+use Rattle.valid.proofs.pool.is_among.Reads as reads
+use Rattle.valid.proofs.pool.is_among.Lts as lts
 
 abbrev Inv-loop : tie.InvT-loop
-Inv-loop s x t₀ t = contains x t ≡ contains x s
+Inv-loop s at x found₀ j₀ found j = (j ≤ 64) × (found ≡ contains x (take j (drop at s)))
 
 abbrev μ-loop : tie.MeasureT-loop
-μ-loop s x t₀ t = length t
+μ-loop s at x found₀ j₀ found j = 64 - j
 
 loop-holds : tie.Need-loop-holds Inv-loop μ-loop
-loop-holds c = refl
+loop-holds c = (omega arith, refl)
 
-shared-slice-read-if1 : tie.Need-shared-slice-read-if1 Inv-loop μ-loop
-shared-slice-read-if1 c = search needs
+add-same-or : tie.Need-add-same-or Inv-loop μ-loop
+add-same-or c = search needs
 
-returns : tie.Need-returns Inv-loop μ-loop
-returns c = sym (among-here (c .before .before .before .loop .t .now) (c .before .before .loop-test .taken) _ (c .if1 .taken)) ∙ c .before .before .before .loop .inv
+mul-same-or : tie.Need-mul-same-or Inv-loop μ-loop
+mul-same-or c = search needs
 
-sub-t : tie.Need-sub-t Inv-loop μ-loop
-sub-t c = search needs
+shared-slice-read-same-or : tie.Need-shared-slice-read-same-or Inv-loop μ-loop
+shared-slice-read-same-or c = search needs
 
-part-t-start : tie.Need-part-t-start Inv-loop μ-loop
-part-t-start c = search needs
+same-or-requires : tie.Need-same-or-requires Inv-loop μ-loop
+same-or-requires c κs = search needs
 
-part-t-end : tie.Need-part-t-end Inv-loop μ-loop
-part-t-end c = search needs
+add-j : tie.Need-add-j Inv-loop μ-loop
+add-j c = search needs
 
 loop-less : tie.Need-loop-less Inv-loop μ-loop
-loop-less c = shorter (c .before .before .before .before .loop .t .now) (c .before .before .before .loop-test .taken)
+loop-less c = search needs
 
 loop-again : tie.Need-loop-again Inv-loop μ-loop
-loop-again c = among-rest (c .before .before .before .before .loop .t .now) (c .before .before .before .loop-test .taken) _ (c .before .if1 .left) ∙ c .before .before .before .before .loop .inv
+loop-again c =
+    let l = c .before .before .before .loop in
+    let a = c .before .before .before .before .before .args in
+    let h : a .at + l .j < length (a .s .now) = omega (arith, c .before .before .before .before .before .pre) in
+    (omega arith, c .same-or .ensures ∙ ap (λ (b : Bool). eqb (a .x) (getD (a .s .now) (a .at + l .j) 0) || b) (l .inv .1) ∙ sym (among-more (a .x) (a .s .now) (a .at) (l .j) h))
 
-returns-2 : tie.Need-returns-2 Inv-loop μ-loop
-returns-2 c = sym (none (contains (c .before .before .args .x)) (c .before .loop .t .now) (c .loop-test .left)) ∙ c .before .loop .inv
+returns : tie.Need-returns Inv-loop μ-loop
+returns c =
+    let l = c .before .loop in
+    let a = c .before .before .before .args in
+    let e : l .j ≡ 64 = omega arith in
+    l .inv .1 ∙ ap (λ (n : ℕ). contains (a .x) (take n (drop (a .at) (a .s .now)))) e
 
 pub is-among-spec : {M : Type 1} → statement M
 is-among-spec =
@@ -48,11 +63,11 @@ is-among-spec =
     Inv-loop
     μ-loop
     loop-holds
-    shared-slice-read-if1
-    returns
-    sub-t
-    part-t-start
-    part-t-end
+    add-same-or
+    mul-same-or
+    shared-slice-read-same-or
+    same-or-requires
+    add-j
     loop-less
     loop-again
-    returns-2)
+    returns)

@@ -1,17 +1,24 @@
 -- `pool::labels_live` meets its contract.
 -- Assumes nothing.
-use native.Mathlib.Omega.{arith}
 use mathlib.Core.Path.{sym, ap, _∙_}
 use Prim.Native.Nat.{ℕ, _+_, _-_, _≤_}
 use lib.ListN.{length, take, length-append}
 use mathlib.Core.List.{List, _++_}
 use borrow.Author.Tests.{le-leb, lt-leb}
-use lib.Seq.{length-take-le}
 use Rattle.image.specs.Layout.{view}
 use Rattle.valid.specs.Tests.{opLabels, resultLabels, liveLabels, givenOnce}
+use Rattle.valid.proofs.Turns.{kept, padded}
+use Rattle.image.proofs.read.last_label.Reads as last-label-reads
+use Rattle.valid.proofs.pool.gather_ops.Reads as gather-ops-reads
+use Rattle.valid.proofs.pool.gather_results.Reads as gather-results-reads
+use Rattle.valid.proofs.pool.given_once.Reads as given-once-reads
+use Rattle.valid.proofs.pool.push_zeros.Reads as push-zeros-reads
+use native.Mathlib.Omega.{arith}
 use borrow.Author.Needs.{needs}
 use Rattle.valid.proofs.pool.labels_live.Statement.{statement}
 use Rattle.valid.proofs.pool.labels_live.Tie as tie
+use Rattle.valid.proofs.pool.labels_live.Reads as reads
+use Rattle.valid.proofs.pool.labels_live.Lts as lts
 
 slice-aggregate-gather-ops : tie.Need-slice-aggregate-gather-ops
 slice-aggregate-gather-ops c = search needs
@@ -32,32 +39,34 @@ returns c =
     let b = c .before .before .gather-results .ensures .0 in
     rw (lt-leb (length (liveLabels (view s))) 64 (omega (arith, c .if1 .taken, a .count, b .count, length-append (opLabels (view s .ops)) (resultLabels (view s .results)))))
 
-array-share-prefix-pool : tie.Need-array-share-prefix-pool
-array-share-prefix-pool c = search needs
+slice-aggregate-push-zeros : tie.Need-slice-aggregate-push-zeros
+slice-aggregate-push-zeros c = search needs
+
+push-zeros-requires : tie.Need-push-zeros-requires
+push-zeros-requires c κs =
+    omega (arith, c .before .if1 .left, c .before .before .before .gather-results .ensures .0 .size, c .before .before .before .before .before .before .gather-ops .ensures .0 .size)
 
 slice-aggregate-given-once : tie.Need-slice-aggregate-given-once
-slice-aggregate-given-once c =
-    let ops = c .before .before .before .before .before .before .gather-ops in
-    let results = c .before .before .before .gather-results in
-    sym (length-take-le (results .result) (results .last .1 .0) (omega (arith, results .ensures .1, ops .ensures .1, results .ensures .0 .size, ops .ensures .0 .size)))
+slice-aggregate-given-once c = search needs
 
 last-label-requires : tie.Need-last-label-requires
 last-label-requires c κs = search needs
 
 given-once-requires : tie.Need-given-once-requires
-given-once-requires c κs = search needs
+given-once-requires c κs = padded _ _ _ (c .before .before .before .before .before .if1 .left) (omega (arith, c .before .before .before .before .before .if1 .left, c .before .before .before .before .before .before .before .gather-results .ensures .0 .size, c .before .before .before .before .before .before .before .before .before .before .gather-ops .ensures .0 .size)) (c .before .before .before .push-zeros .ensures)
 
 returns-2 : tie.Need-returns-2
 returns-2 c =
-    let s = c .before .before .before .before .before .before .before .before .before .before .before .args .image .now in
-    let ops = c .before .before .before .before .before .before .before .before .gather-ops .ensures .0 in
-    let results = c .before .before .before .before .before .gather-results in
+    let s = c .before .before .before .before .before .before .before .before .before .before .before .before .before .before .args .image .now in
+    let ops = c .before .before .before .before .before .before .before .before .before .before .before .gather-ops .ensures .0 in
+    let results = c .before .before .before .before .before .before .before .before .gather-results in
     let live : List ℕ = liveLabels (view s) in
-    let few : length live ≤ 64 = omega (arith, c .before .before .before .if1 .left, ops .count, results .ensures .0 .count, length-append (opLabels (view s .ops)) (resultLabels (view s .results))) in
+    let few : length live ≤ 64 = omega (arith, c .before .before .before .before .before .before .if1 .left, ops .count, results .ensures .0 .count, length-append (opLabels (view s .ops)) (resultLabels (view s .results))) in
     rw (le-leb (length live) 64 few)
     (c .given-once .ensures
-    ∙ ap (λ (k : ℕ). givenOnce k (take (results .result) (results .last .1 .0))) (c .before .last-label .ensures)
-    ∙ ap (givenOnce (view s .last)) (results .ensures .0 .front ∙ ap (λ (l : List ℕ). l ++ resultLabels (view s .results)) (ops .front)))
+    ∙ ap (λ (k : ℕ). givenOnce k (take (results .result) (c .before .before .before .before .push-zeros .last .0))) (c .before .last-label .ensures)
+    ∙ ap (givenOnce (view s .last))
+    (kept _ _ _ (omega (arith, c .before .before .before .before .before .before .before .before .gather-results .ensures .0 .size, c .before .before .before .before .before .before .before .before .before .before .before .gather-ops .ensures .0 .size)) (c .before .before .before .before .push-zeros .ensures) ∙ results .ensures .0 .front ∙ ap (λ (l : List ℕ). l ++ resultLabels (view s .results)) (ops .front)))
 
 pub labels-live-spec : {M : Type 1} → statement M
 labels-live-spec =
@@ -68,7 +77,8 @@ labels-live-spec =
     slice-aggregate-gather-results
     gather-results-requires
     returns
-    array-share-prefix-pool
+    slice-aggregate-push-zeros
+    push-zeros-requires
     slice-aggregate-given-once
     last-label-requires
     given-once-requires

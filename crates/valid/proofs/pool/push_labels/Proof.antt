@@ -5,18 +5,18 @@ use Prim.Native.Nat.{ℕ, _+_, _-_, _≤_, _<_}
 use lib.ListN.{length, getD, take, length-set}
 use mathlib.Core.List.{List, _++_, append-nil}
 use native.Mathlib.Numerals.{add-one}
-use lib.Seq.{take-suc, length-take-le}
-use Rattle.valid.proofs.Turns.{push, take-four}
+use lib.Seq.{take-suc, take-all, length-take-le}
+use Rattle.valid.proofs.Turns.{push, shorter, take-four}
 use borrow.Author.Needs.{needs}
 use native.Mathlib.Omega.{arith}
 use Rattle.valid.proofs.pool.push_labels.Statement.{statement}
 use Rattle.valid.proofs.pool.push_labels.Tie as tie
 
 abbrev Inv-loop : tie.InvT-loop
-Inv-loop pool₀ at label n j₀ pool j = (length label ≡ 4) × (j ≤ n) × (length pool ≡ length pool₀) × (take (at + j) pool ≡ take at pool₀ ++ take j label)
+Inv-loop pool₀ at label n j₀ pool j = (length label ≡ 4) × (j ≤ 4) × (length pool ≡ length pool₀) × (take (at + j) pool ≡ take at pool₀ ++ take j label)
 
 abbrev μ-loop : tie.MeasureT-loop
-μ-loop pool₀ at label n j₀ pool j = n - j
+μ-loop pool₀ at label n j₀ pool j = 4 - j
 
 at-most-four-requires : tie.Need-at-most-four-requires Inv-loop μ-loop
 at-most-four-requires c κs = search needs
@@ -72,13 +72,14 @@ returns c =
     let l = c .before .loop in
     let a = c .before .before .before .before .before .args in
     let four = c .before .before .at-most-four in
-    let j : l .j ≡ four .result = omega arith in
-    let most : four .result ≤ length (a .l .label) = omega (arith, four .ensures .1, l .inv .0) in
-    let e : take (four .result) (a .l .label) ≡ take (a .l .count) (a .l .label) = ap (λ (n : ℕ). take n (a .l .label)) (four .ensures .0) ∙ take-four (a .l .count) (a .l .label) (l .inv .0) _ refl in (
+    let j : l .j ≡ 4 = omega arith in
+    let n : ℕ = four .result in
+    let e : take n (a .l .label) ≡ take (a .l .count) (a .l .label) = ap (λ (n : ℕ). take n (a .l .label)) (four .ensures .0) ∙ take-four (a .l .count) (a .l .label) (l .inv .0) _ refl in
+    let whole : take (a .at + 4) (l .pool) ≡ take (a .at) (a .pool .now) ++ a .l .label = ap (λ (n : ℕ). take (a .at + n) (l .pool)) (sym j) ∙ l .inv .3 ∙ ap (λ (x : List ℕ). take (a .at) (a .pool .now) ++ x) (take-all (l .j) (a .l .label) (omega (arith, l .inv .0))) in (
       record {
         size = l .inv .2;
-        count = ap (λ (n : ℕ). a .at + n) (sym (length-take-le (four .result) (a .l .label) most) ∙ ap length e);
-        front = ap (λ (n : ℕ). take (a .at + n) (l .pool)) (sym j) ∙ l .inv .3 ∙ ap (λ (x : List ℕ). take (a .at) (a .pool .now) ++ x) (ap (λ (n : ℕ). take n (a .l .label)) j ∙ e);
+        count = ap (λ (n : ℕ). a .at + n) (sym (length-take-le n (a .l .label) (omega (arith, four .ensures .1, l .inv .0))) ∙ ap length e);
+        front = shorter (l .pool) (a .pool .now) (a .l .label) (a .at) n 4 (four .ensures .1) (omega (arith, c .before .before .before .before .before .pre)) whole ∙ ap (λ (x : List ℕ). take (a .at) (a .pool .now) ++ x) e;
       },
       omega (arith, four .ensures .1),
     )

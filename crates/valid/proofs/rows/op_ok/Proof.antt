@@ -7,6 +7,8 @@ use Rattle.valid.specs.Tests.{opOk, labelsOk}
 use borrow.Author.Needs.{needs}
 use Rattle.valid.proofs.rows.op_ok.Statement.{statement}
 use Rattle.valid.proofs.rows.op_ok.Tie as tie
+use Rattle.valid.proofs.rows.op_ok.Reads as reads
+use Rattle.valid.proofs.rows.op_ok.Lts as lts
 
 place-ok-requires : tie.Need-place-ok-requires
 place-ok-requires c κs = search needs
@@ -47,12 +49,9 @@ returns-6 : tie.Need-returns-6
 unfolding opOk
 returns-6 c = rw (sym (c .before .before .before .before .before .before .before .before .before .before .place-ok .ensures) ∙ not-false _ (c .before .before .before .before .before .before .before .before .before .if1 .left), sym (c .before .before .before .before .before .before .before .before .follows-ok .ensures) ∙ not-false _ (c .before .before .before .before .before .before .before .if2 .left), le-leb (c .before .before .before .before .before .before .before .before .before .before .before .before .before .args .o .kind) 7 (c .before .before .before .before .before .before .if3 .left), sym (c .before .before .before .before .before .operand-ok .ensures) ∙ not-false _ (c .before .before .before .before .if4 .left), sym (c .before .before .before .numbers-ok .ensures) ∙ not-false _ (c .before .before .if5 .left), sym (c .before .targets-ok .ensures) ∙ not-true _ (c .if6 .taken))
 
-keys-ok-requires : tie.Need-keys-ok-requires
-keys-ok-requires c κs = search needs
-
 returns-7 : tie.Need-returns-7
 unfolding opOk
-returns-7 c = rw (sym (c .before .before .before .before .before .before .before .before .before .before .before .before .place-ok .ensures) ∙ not-false _ (c .before .before .before .before .before .before .before .before .before .before .before .if1 .left), sym (c .before .before .before .before .before .before .before .before .before .before .follows-ok .ensures) ∙ not-false _ (c .before .before .before .before .before .before .before .before .before .if2 .left), le-leb (c .before .before .before .before .before .before .before .before .before .before .before .before .before .before .before .args .o .kind) 7 (c .before .before .before .before .before .before .before .before .if3 .left), sym (c .before .before .before .before .before .before .before .operand-ok .ensures) ∙ not-false _ (c .before .before .before .before .before .before .if4 .left), sym (c .before .before .before .before .before .numbers-ok .ensures) ∙ not-false _ (c .before .before .before .before .if5 .left), sym (c .before .before .before .targets-ok .ensures) ∙ not-false _ (c .before .before .if6 .left), sym (c .before .keys-ok .ensures) ∙ not-true _ (c .if7 .taken))
+returns-7 c = rw (sym (c .before .before .before .before .before .before .before .before .before .before .before .place-ok .ensures) ∙ not-false _ (c .before .before .before .before .before .before .before .before .before .before .if1 .left), sym (c .before .before .before .before .before .before .before .before .before .follows-ok .ensures) ∙ not-false _ (c .before .before .before .before .before .before .before .before .if2 .left), le-leb (c .before .before .before .before .before .before .before .before .before .before .before .before .before .before .args .o .kind) 7 (c .before .before .before .before .before .before .before .if3 .left), sym (c .before .before .before .before .before .before .operand-ok .ensures) ∙ not-false _ (c .before .before .before .before .before .if4 .left), sym (c .before .before .before .before .numbers-ok .ensures) ∙ not-false _ (c .before .before .before .if5 .left), sym (c .before .before .targets-ok .ensures) ∙ not-false _ (c .before .if6 .left), sym (c .before .before .before .before .before .before .before .before .before .before .before .before .before .before .pre) ∙ not-true _ (c .if7 .taken))
 
 most-of-requires : tie.Need-most-of-requires
 most-of-requires c κs = search needs
@@ -62,15 +61,15 @@ labels-ok-requires c κs = search needs
 
 returns-8 : tie.Need-returns-8
 unfolding opOk
-returns-8 c = rw (sym (c .before .before .before .before .before .before .before .before .before .before .before .before .before .before .before .place-ok .ensures) ∙ not-false _ (c .before .before .before .before .before .before .before .before .before .before .before .before .before .before .if1 .left), sym (c .before .before .before .before .before .before .before .before .before .before .before .before .before .follows-ok .ensures) ∙ not-false _ (c .before .before .before .before .before .before .before .before .before .before .before .before .if2 .left), le-leb (c .before .before .before .before .before .before .before .before .before .before .before .before .before .before .before .before .before .before .args .o .kind) 7 (c .before .before .before .before .before .before .before .before .before .before .before .if3 .left), sym (c .before .before .before .before .before .before .before .before .before .before .operand-ok .ensures) ∙ not-false _ (c .before .before .before .before .before .before .before .before .before .if4 .left), sym (c .before .before .before .before .before .before .before .before .numbers-ok .ensures) ∙ not-false _ (c .before .before .before .before .before .before .before .if5 .left), sym (c .before .before .before .before .before .before .targets-ok .ensures) ∙ not-false _ (c .before .before .before .before .before .if6 .left), sym (c .before .before .before .before .keys-ok .ensures) ∙ not-false _ (c .before .before .before .if7 .left), sym (c .before .labels-ok .ensures ∙ ap (λ (m : ℕ). labelsOk m (c .before .before .before .before .before .before .before .before .before .before .before .before .before .before .before .before .before .before .args .o .labels)) (c .before .before .most-of .ensures)) ∙ not-true _ (c .if8 .taken))
+returns-8 c = rw (sym (c .before .before .before .before .before .before .before .before .before .before .before .before .before .before .place-ok .ensures) ∙ not-false _ (c .before .before .before .before .before .before .before .before .before .before .before .before .before .if1 .left), sym (c .before .before .before .before .before .before .before .before .before .before .before .before .follows-ok .ensures) ∙ not-false _ (c .before .before .before .before .before .before .before .before .before .before .before .if2 .left), le-leb (c .before .before .before .before .before .before .before .before .before .before .before .before .before .before .before .before .before .args .o .kind) 7 (c .before .before .before .before .before .before .before .before .before .before .if3 .left), sym (c .before .before .before .before .before .before .before .before .before .operand-ok .ensures) ∙ not-false _ (c .before .before .before .before .before .before .before .before .if4 .left), sym (c .before .before .before .before .before .before .before .numbers-ok .ensures) ∙ not-false _ (c .before .before .before .before .before .before .if5 .left), sym (c .before .before .before .before .before .targets-ok .ensures) ∙ not-false _ (c .before .before .before .before .if6 .left), sym (c .before .before .before .before .before .before .before .before .before .before .before .before .before .before .before .before .before .pre) ∙ not-false _ (c .before .before .before .if7 .left), sym (c .before .labels-ok .ensures ∙ ap (λ (m : ℕ). labelsOk m (c .before .before .before .before .before .before .before .before .before .before .before .before .before .before .before .before .before .args .o .labels)) (c .before .before .most-of .ensures)) ∙ not-true _ (c .if8 .taken))
 
 returns-9 : tie.Need-returns-9
 unfolding opOk
-returns-9 c = rw (sym (c .before .before .before .before .before .before .before .before .before .before .before .before .before .before .before .before .before .place-ok .ensures) ∙ not-false _ (c .before .before .before .before .before .before .before .before .before .before .before .before .before .before .before .before .if1 .left), sym (c .before .before .before .before .before .before .before .before .before .before .before .before .before .before .before .follows-ok .ensures) ∙ not-false _ (c .before .before .before .before .before .before .before .before .before .before .before .before .before .before .if2 .left), le-leb (c .before .before .before .before .before .before .before .before .before .before .before .before .before .before .before .before .before .before .before .before .args .o .kind) 7 (c .before .before .before .before .before .before .before .before .before .before .before .before .before .if3 .left), sym (c .before .before .before .before .before .before .before .before .before .before .before .before .operand-ok .ensures) ∙ not-false _ (c .before .before .before .before .before .before .before .before .before .before .before .if4 .left), sym (c .before .before .before .before .before .before .before .before .before .before .numbers-ok .ensures) ∙ not-false _ (c .before .before .before .before .before .before .before .before .before .if5 .left), sym (c .before .before .before .before .before .before .before .before .targets-ok .ensures) ∙ not-false _ (c .before .before .before .before .before .before .before .if6 .left), sym (c .before .before .before .before .before .before .keys-ok .ensures) ∙ not-false _ (c .before .before .before .before .before .if7 .left), sym (c .before .before .before .labels-ok .ensures ∙ ap (λ (m : ℕ). labelsOk m (c .before .before .before .before .before .before .before .before .before .before .before .before .before .before .before .before .before .before .before .before .args .o .labels)) (c .before .before .before .before .most-of .ensures)) ∙ not-false _ (c .before .before .if8 .left), lt-leb (c .before .before .before .before .before .before .before .before .before .before .before .before .before .before .before .before .before .before .before .before .args .o .opens) 1 (c .if9 .taken))
+returns-9 c = rw (sym (c .before .before .before .before .before .before .before .before .before .before .before .before .before .before .before .before .place-ok .ensures) ∙ not-false _ (c .before .before .before .before .before .before .before .before .before .before .before .before .before .before .before .if1 .left), sym (c .before .before .before .before .before .before .before .before .before .before .before .before .before .before .follows-ok .ensures) ∙ not-false _ (c .before .before .before .before .before .before .before .before .before .before .before .before .before .if2 .left), le-leb (c .before .before .before .before .before .before .before .before .before .before .before .before .before .before .before .before .before .before .before .args .o .kind) 7 (c .before .before .before .before .before .before .before .before .before .before .before .before .if3 .left), sym (c .before .before .before .before .before .before .before .before .before .before .before .operand-ok .ensures) ∙ not-false _ (c .before .before .before .before .before .before .before .before .before .before .if4 .left), sym (c .before .before .before .before .before .before .before .before .before .numbers-ok .ensures) ∙ not-false _ (c .before .before .before .before .before .before .before .before .if5 .left), sym (c .before .before .before .before .before .before .before .targets-ok .ensures) ∙ not-false _ (c .before .before .before .before .before .before .if6 .left), sym (c .before .before .before .before .before .before .before .before .before .before .before .before .before .before .before .before .before .before .before .pre) ∙ not-false _ (c .before .before .before .before .before .if7 .left), sym (c .before .before .before .labels-ok .ensures ∙ ap (λ (m : ℕ). labelsOk m (c .before .before .before .before .before .before .before .before .before .before .before .before .before .before .before .before .before .before .before .args .o .labels)) (c .before .before .before .before .most-of .ensures)) ∙ not-false _ (c .before .before .if8 .left), lt-leb (c .before .before .before .before .before .before .before .before .before .before .before .before .before .before .before .before .before .before .before .args .o .opens) 1 (c .if9 .taken))
 
 returns-10 : tie.Need-returns-10
 unfolding opOk
-returns-10 c = rw (sym (c .before .before .before .before .before .before .before .before .before .before .before .before .before .before .before .before .before .before .place-ok .ensures) ∙ not-false _ (c .before .before .before .before .before .before .before .before .before .before .before .before .before .before .before .before .before .if1 .left), sym (c .before .before .before .before .before .before .before .before .before .before .before .before .before .before .before .before .follows-ok .ensures) ∙ not-false _ (c .before .before .before .before .before .before .before .before .before .before .before .before .before .before .before .if2 .left), le-leb (c .before .before .before .before .before .before .before .before .before .before .before .before .before .before .before .before .before .before .before .before .before .args .o .kind) 7 (c .before .before .before .before .before .before .before .before .before .before .before .before .before .before .if3 .left), sym (c .before .before .before .before .before .before .before .before .before .before .before .before .before .operand-ok .ensures) ∙ not-false _ (c .before .before .before .before .before .before .before .before .before .before .before .before .if4 .left), sym (c .before .before .before .before .before .before .before .before .before .before .before .numbers-ok .ensures) ∙ not-false _ (c .before .before .before .before .before .before .before .before .before .before .if5 .left), sym (c .before .before .before .before .before .before .before .before .before .targets-ok .ensures) ∙ not-false _ (c .before .before .before .before .before .before .before .before .if6 .left), sym (c .before .before .before .before .before .before .before .keys-ok .ensures) ∙ not-false _ (c .before .before .before .before .before .before .if7 .left), sym (c .before .before .before .before .labels-ok .ensures ∙ ap (λ (m : ℕ). labelsOk m (c .before .before .before .before .before .before .before .before .before .before .before .before .before .before .before .before .before .before .before .before .before .args .o .labels)) (c .before .before .before .before .before .most-of .ensures)) ∙ not-false _ (c .before .before .before .if8 .left), le-leb (c .before .before .before .before .before .before .before .before .before .before .before .before .before .before .before .before .before .before .before .before .before .args .o .opens) 1 (c .before .if9 .left))
+returns-10 c = rw (sym (c .before .before .before .before .before .before .before .before .before .before .before .before .before .before .before .before .before .place-ok .ensures) ∙ not-false _ (c .before .before .before .before .before .before .before .before .before .before .before .before .before .before .before .before .if1 .left), sym (c .before .before .before .before .before .before .before .before .before .before .before .before .before .before .before .follows-ok .ensures) ∙ not-false _ (c .before .before .before .before .before .before .before .before .before .before .before .before .before .before .if2 .left), le-leb (c .before .before .before .before .before .before .before .before .before .before .before .before .before .before .before .before .before .before .before .before .args .o .kind) 7 (c .before .before .before .before .before .before .before .before .before .before .before .before .before .if3 .left), sym (c .before .before .before .before .before .before .before .before .before .before .before .before .operand-ok .ensures) ∙ not-false _ (c .before .before .before .before .before .before .before .before .before .before .before .if4 .left), sym (c .before .before .before .before .before .before .before .before .before .before .numbers-ok .ensures) ∙ not-false _ (c .before .before .before .before .before .before .before .before .before .if5 .left), sym (c .before .before .before .before .before .before .before .before .targets-ok .ensures) ∙ not-false _ (c .before .before .before .before .before .before .before .if6 .left), sym (c .before .before .before .before .before .before .before .before .before .before .before .before .before .before .before .before .before .before .before .before .pre) ∙ not-false _ (c .before .before .before .before .before .before .if7 .left), sym (c .before .before .before .before .labels-ok .ensures ∙ ap (λ (m : ℕ). labelsOk m (c .before .before .before .before .before .before .before .before .before .before .before .before .before .before .before .before .before .before .before .before .args .o .labels)) (c .before .before .before .before .before .most-of .ensures)) ∙ not-false _ (c .before .before .before .if8 .left), le-leb (c .before .before .before .before .before .before .before .before .before .before .before .before .before .before .before .before .before .before .before .before .args .o .opens) 1 (c .before .if9 .left))
 
 pub op-ok-spec : {M : Type 1} → statement M
 op-ok-spec =
@@ -87,7 +86,6 @@ op-ok-spec =
     returns-5
     targets-ok-requires
     returns-6
-    keys-ok-requires
     returns-7
     most-of-requires
     labels-ok-requires

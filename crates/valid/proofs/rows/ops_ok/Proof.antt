@@ -2,22 +2,26 @@
 -- Assumes nothing.
 use mathlib.Core.Path.{_≡_, refl, sym, ap, _∙_}
 use Prim.Native.Nat.{ℕ, _+_, _-_, _≤_, _<_}
+use mathlib.Core.Bool.{true}
 use lib.ListN.{length, drop}
 use borrow.Author.Tests.{not-true, not-false}
 use Rattle.records.specs.declared.op.OpRecord.{OpRecord}
 use Rattle.image.specs.Layout.{view, blank, opRegion}
-use Rattle.valid.specs.Tests.{walk, opOk, opsOk}
+use Rattle.valid.specs.Tests.{walk, keysOk, opOk, opsOk}
 use Rattle.valid.proofs.Turns.{walk-next, walk-not, walk-end}
+use Rattle.valid.proofs.InPlace.{targets-of}
 use borrow.Author.Needs.{needs}
 use native.Mathlib.Omega.{arith}
 use Rattle.valid.proofs.rows.ops_ok.Statement.{statement}
 use Rattle.valid.proofs.rows.ops_ok.Tie as tie
+use Rattle.valid.proofs.rows.ops_ok.Reads as reads
+use Rattle.valid.proofs.rows.ops_ok.Lts as lts
 
 abbrev Inv-loop : tie.InvT-loop
-Inv-loop image n m prev₀ i₀ prev i = (i ≤ m) × (walk (opOk n) (λ p o. o .station) prev (drop i (view image .ops)) ≡ opsOk n (view image .ops))
+Inv-loop image n m least most prev₀ i₀ prev i = (i ≤ m) × (walk (opOk n) (λ p o. o .station) prev (drop i (view image .ops)) ≡ opsOk n (view image .ops))
 
 abbrev μ-loop : tie.MeasureT-loop
-μ-loop image n m prev₀ i₀ prev i = m - i
+μ-loop image n m least most prev₀ i₀ prev i = m - i
 
 node-count-requires : tie.Need-node-count-requires Inv-loop μ-loop
 node-count-requires c κs = search needs
@@ -31,15 +35,47 @@ loop-holds c = (omega arith, refl)
 op-at-requires : tie.Need-op-at-requires Inv-loop μ-loop
 op-at-requires c κs = search needs
 
+mul-at : tie.Need-mul-at Inv-loop μ-loop
+mul-at c = search needs
+
+add-at : tie.Need-add-at Inv-loop μ-loop
+add-at c = search needs
+
+add-keys-ok : tie.Need-add-keys-ok Inv-loop μ-loop
+add-keys-ok c = search needs
+
+sub-keys-ok : tie.Need-sub-keys-ok Inv-loop μ-loop
+sub-keys-ok c = search needs
+
+part-keys-ok-start : tie.Need-part-keys-ok-start Inv-loop μ-loop
+part-keys-ok-start c = search needs
+
+part-keys-ok-end : tie.Need-part-keys-ok-end Inv-loop μ-loop
+part-keys-ok-end c = search needs
+
+slice-aggregate-keys-ok : tie.Need-slice-aggregate-keys-ok Inv-loop μ-loop
+slice-aggregate-keys-ok c = search needs
+
+slice-aggregate-keys-ok-2 : tie.Need-slice-aggregate-keys-ok-2 Inv-loop μ-loop
+slice-aggregate-keys-ok-2 c = search needs
+
+keys-ok-requires : tie.Need-keys-ok-requires Inv-loop μ-loop
+keys-ok-requires c κs = search needs
+
 op-ok-requires : tie.Need-op-ok-requires Inv-loop μ-loop
-op-ok-requires c κs = search needs
+op-ok-requires c κs =
+    let s = c .before .before .before .before .before .before .before .before .before .before .args .image .now in
+    let i = c .before .before .before .before .before .before .loop .i in
+    let h : i < length (view s .ops) = omega (arith, c .before .before .before .before .before .loop-test .taken, c .before .before .before .before .before .before .before .op-count .ensures) in
+    c .keys-ok .ensures ∙ ap (keysOk true) (targets-of s i h) ∙ ap (λ (o : OpRecord). keysOk true (o .targets)) (sym (c .before .before .before .before .op-at .ensures))
 
 returns : tie.Need-returns Inv-loop μ-loop
 returns c =
-    let xs = view (c .before .before .before .before .before .before .before .before .args .image .now) .ops in
-    let n = c .before .before .before .before .before .before .node-count in
-    let h : c .before .before .before .before .loop .i < length xs = omega (arith, c .before .before .before .before .before .op-count .ensures) in
-    sym (walk-not (opOk (n .result)) (λ p o. o .station) xs (blank opRegion) _ _ h (ap (opOk (n .result) (c .before .before .before .before .loop .prev)) (sym (c .before .before .op-at .ensures)) ∙ sym (c .before .op-ok .ensures) ∙ not-true _ (c .if1 .taken))) ∙ c .before .before .before .before .loop .inv .1 ∙ ap (λ (k : ℕ). opsOk k xs) (n .ensures)
+    let l = c .before .before .before .before .before .before .before .before .loop in
+    let xs = view (c .before .before .before .before .before .before .before .before .before .before .before .before .args .image .now) .ops in
+    let n = c .before .before .before .before .before .before .before .before .before .before .node-count in
+    let h : l .i < length xs = omega (arith, c .before .before .before .before .before .before .before .loop-test .taken, c .before .before .before .before .before .before .before .before .before .op-count .ensures) in
+    sym (walk-not (opOk (n .result)) (λ p o. o .station) xs (blank opRegion) _ _ h (ap (opOk (n .result) (l .prev)) (sym (c .before .before .before .before .before .before .op-at .ensures)) ∙ sym (c .before .op-ok .ensures) ∙ not-true _ (c .if1 .taken))) ∙ l .inv .1 ∙ ap (λ (k : ℕ). opsOk k xs) (n .ensures)
 
 add-i : tie.Need-add-i Inv-loop μ-loop
 add-i c = search needs
@@ -49,12 +85,13 @@ loop-less c = search needs
 
 loop-again : tie.Need-loop-again Inv-loop μ-loop
 loop-again c =
-    let xs = view (c .before .before .before .before .before .before .before .before .args .image .now) .ops in
-    let n = c .before .before .before .before .before .before .node-count in
-    let h : c .before .before .before .before .loop .i < length xs = omega (arith, c .before .before .before .before .before .op-count .ensures) in (
+    let l = c .before .before .before .before .before .before .before .before .loop in
+    let xs = view (c .before .before .before .before .before .before .before .before .before .before .before .before .args .image .now) .ops in
+    let n = c .before .before .before .before .before .before .before .before .before .before .node-count in
+    let h : l .i < length xs = omega (arith, c .before .before .before .before .before .before .before .loop-test .taken, c .before .before .before .before .before .before .before .before .before .op-count .ensures) in (
       omega arith,
-      ap (λ (r : OpRecord). walk (opOk (n .result)) (λ p o. o .station) (r .station) (drop (c .before .before .before .before .loop .i + 1) xs)) (c .before .before .op-at .ensures)
-          ∙ walk-next (opOk (n .result)) (λ p o. o .station) xs (blank opRegion) _ _ h (ap (opOk (n .result) (c .before .before .before .before .loop .prev)) (sym (c .before .before .op-at .ensures)) ∙ sym (c .before .op-ok .ensures) ∙ not-false _ (c .if1 .left)) ∙ c .before .before .before .before .loop .inv .1,
+      ap (λ (r : OpRecord). walk (opOk (n .result)) (λ p o. o .station) (r .station) (drop (l .i + 1) xs)) (c .before .before .before .before .before .before .op-at .ensures)
+          ∙ walk-next (opOk (n .result)) (λ p o. o .station) xs (blank opRegion) _ _ h (ap (opOk (n .result) (l .prev)) (sym (c .before .before .before .before .before .before .op-at .ensures)) ∙ sym (c .before .op-ok .ensures) ∙ not-false _ (c .if1 .left)) ∙ l .inv .1,
     )
 
 returns-2 : tie.Need-returns-2 Inv-loop μ-loop
@@ -74,6 +111,15 @@ ops-ok-spec =
     op-count-requires
     loop-holds
     op-at-requires
+    mul-at
+    add-at
+    add-keys-ok
+    sub-keys-ok
+    part-keys-ok-start
+    part-keys-ok-end
+    slice-aggregate-keys-ok
+    slice-aggregate-keys-ok-2
+    keys-ok-requires
     op-ok-requires
     returns
     add-i

@@ -2,22 +2,26 @@
 -- Assumes nothing.
 use mathlib.Core.Path.{_≡_, refl, sym, ap, _∙_}
 use Prim.Native.Nat.{_+_, _-_, _≤_, _<_}
+use mathlib.Core.Bool.{true}
 use lib.ListN.{length, drop}
 use borrow.Author.Tests.{not-true, not-false}
 use Rattle.records.specs.declared.result.ResultRecord.{ResultRecord}
 use Rattle.image.specs.Layout.{view, blank, resultRegion}
-use Rattle.valid.specs.Tests.{walk, resultOk, resultsOk}
+use Rattle.valid.specs.Tests.{walk, keysOk, resultOk, resultsOk}
 use Rattle.valid.proofs.Turns.{walk-next, walk-not, walk-end}
+use Rattle.valid.proofs.InPlace.{left-of}
 use borrow.Author.Needs.{needs}
 use native.Mathlib.Omega.{arith}
 use Rattle.valid.proofs.rows.results_ok.Statement.{statement}
 use Rattle.valid.proofs.rows.results_ok.Tie as tie
+use Rattle.valid.proofs.rows.results_ok.Reads as reads
+use Rattle.valid.proofs.rows.results_ok.Lts as lts
 
 abbrev Inv-loop : tie.InvT-loop
-Inv-loop image m prev₀ i₀ prev i = (i ≤ m) × (walk resultOk (λ p r. r .label) prev (drop i (view image .results)) ≡ resultsOk (view image .results))
+Inv-loop image m least most prev₀ i₀ prev i = (i ≤ m) × (walk resultOk (λ p r. r .label) prev (drop i (view image .results)) ≡ resultsOk (view image .results))
 
 abbrev μ-loop : tie.MeasureT-loop
-μ-loop image m prev₀ i₀ prev i = m - i
+μ-loop image m least most prev₀ i₀ prev i = m - i
 
 result-count-requires : tie.Need-result-count-requires Inv-loop μ-loop
 result-count-requires c κs = search needs
@@ -28,14 +32,46 @@ loop-holds c = (omega arith, refl)
 result-at-requires : tie.Need-result-at-requires Inv-loop μ-loop
 result-at-requires c κs = search needs
 
+mul-at : tie.Need-mul-at Inv-loop μ-loop
+mul-at c = search needs
+
+add-at : tie.Need-add-at Inv-loop μ-loop
+add-at c = search needs
+
+add-keys-ok : tie.Need-add-keys-ok Inv-loop μ-loop
+add-keys-ok c = search needs
+
+sub-keys-ok : tie.Need-sub-keys-ok Inv-loop μ-loop
+sub-keys-ok c = search needs
+
+part-keys-ok-start : tie.Need-part-keys-ok-start Inv-loop μ-loop
+part-keys-ok-start c = search needs
+
+part-keys-ok-end : tie.Need-part-keys-ok-end Inv-loop μ-loop
+part-keys-ok-end c = search needs
+
+slice-aggregate-keys-ok : tie.Need-slice-aggregate-keys-ok Inv-loop μ-loop
+slice-aggregate-keys-ok c = search needs
+
+slice-aggregate-keys-ok-2 : tie.Need-slice-aggregate-keys-ok-2 Inv-loop μ-loop
+slice-aggregate-keys-ok-2 c = search needs
+
+keys-ok-requires : tie.Need-keys-ok-requires Inv-loop μ-loop
+keys-ok-requires c κs = search needs
+
 result-ok-requires : tie.Need-result-ok-requires Inv-loop μ-loop
-result-ok-requires c κs = search needs
+result-ok-requires c κs =
+    let s = c .before .before .before .before .before .before .before .before .before .args .image .now in
+    let i = c .before .before .before .before .before .before .loop .i in
+    let h : i < length (view s .results) = omega (arith, c .before .before .before .before .before .loop-test .taken, c .before .before .before .before .before .before .before .result-count .ensures) in
+    c .keys-ok .ensures ∙ ap (keysOk true) (left-of s i h) ∙ ap (λ (r : ResultRecord). keysOk true (r .left)) (sym (c .before .before .before .before .result-at .ensures))
 
 returns : tie.Need-returns Inv-loop μ-loop
 returns c =
-    let xs = view (c .before .before .before .before .before .before .before .args .image .now) .results in
-    let h : c .before .before .before .before .loop .i < length xs = omega (arith, c .before .before .before .before .before .result-count .ensures) in
-    sym (walk-not resultOk (λ p r. r .label) xs (blank resultRegion) _ _ h (ap (resultOk (c .before .before .before .before .loop .prev)) (sym (c .before .before .result-at .ensures)) ∙ sym (c .before .result-ok .ensures) ∙ not-true _ (c .if1 .taken))) ∙ c .before .before .before .before .loop .inv .1
+    let l = c .before .before .before .before .before .before .before .before .loop in
+    let xs = view (c .before .before .before .before .before .before .before .before .before .before .before .args .image .now) .results in
+    let h : l .i < length xs = omega (arith, c .before .before .before .before .before .before .before .loop-test .taken, c .before .before .before .before .before .before .before .before .before .result-count .ensures) in
+    sym (walk-not resultOk (λ p r. r .label) xs (blank resultRegion) _ _ h (ap (resultOk (l .prev)) (sym (c .before .before .before .before .before .before .result-at .ensures)) ∙ sym (c .before .result-ok .ensures) ∙ not-true _ (c .if1 .taken))) ∙ l .inv .1
 
 add-i : tie.Need-add-i Inv-loop μ-loop
 add-i c = search needs
@@ -45,11 +81,12 @@ loop-less c = search needs
 
 loop-again : tie.Need-loop-again Inv-loop μ-loop
 loop-again c =
-    let xs = view (c .before .before .before .before .before .before .before .args .image .now) .results in
-    let h : c .before .before .before .before .loop .i < length xs = omega (arith, c .before .before .before .before .before .result-count .ensures) in (
+    let l = c .before .before .before .before .before .before .before .before .loop in
+    let xs = view (c .before .before .before .before .before .before .before .before .before .before .before .args .image .now) .results in
+    let h : l .i < length xs = omega (arith, c .before .before .before .before .before .before .before .loop-test .taken, c .before .before .before .before .before .before .before .before .before .result-count .ensures) in (
       omega arith,
-      ap (λ (r : ResultRecord). walk resultOk (λ p r. r .label) (r .label) (drop (c .before .before .before .before .loop .i + 1) xs)) (c .before .before .result-at .ensures)
-          ∙ walk-next resultOk (λ p r. r .label) xs (blank resultRegion) _ _ h (ap (resultOk (c .before .before .before .before .loop .prev)) (sym (c .before .before .result-at .ensures)) ∙ sym (c .before .result-ok .ensures) ∙ not-false _ (c .if1 .left)) ∙ c .before .before .before .before .loop .inv .1,
+      ap (λ (r : ResultRecord). walk resultOk (λ p r. r .label) (r .label) (drop (l .i + 1) xs)) (c .before .before .before .before .before .before .result-at .ensures)
+          ∙ walk-next resultOk (λ p r. r .label) xs (blank resultRegion) _ _ h (ap (resultOk (l .prev)) (sym (c .before .before .before .before .before .before .result-at .ensures)) ∙ sym (c .before .result-ok .ensures) ∙ not-false _ (c .if1 .left)) ∙ l .inv .1,
     )
 
 returns-2 : tie.Need-returns-2 Inv-loop μ-loop
@@ -67,6 +104,15 @@ results-ok-spec =
     result-count-requires
     loop-holds
     result-at-requires
+    mul-at
+    add-at
+    add-keys-ok
+    sub-keys-ok
+    part-keys-ok-start
+    part-keys-ok-end
+    slice-aggregate-keys-ok
+    slice-aggregate-keys-ok-2
+    keys-ok-requires
     result-ok-requires
     returns
     add-i
