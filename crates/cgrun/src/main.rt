@@ -1,12 +1,20 @@
 // The program cgrun: serves the lines of standard input, prints refusals and claims as they occur, then the listing.
+// What it prints of a line is proved in the crate `program`; here lines are read and what is printed is written.
 use host::lent::cg_open;
-use host::list::cg_list;
 use program::frame::serve_lines;
+use program::serve::serve_end;
 use program::serve::serve_line;
 use text::cut::part_to;
+ghost use mathlib.Core.Path.{_≡_};
+ghost use Prim.Native.Nat.{_+_, _≤_, _<_, _^_};
+ghost use lib.ListN.{length};
+ghost use Rattle.cgrun.specs.Reading.{Fits, Stops};
 
 // A line is 10 from this length on, whatever follows.
 const LONG: usize = 256;
+
+// No input has so many lines: at one each nanosecond they take 146 years. So no line number wraps.
+const LAST: u64 = 4611686018427387904;
 
 // What is left of a frame: its last line, from `at` on, if that has no newline yet; the number of the next line; and
 // whether the frame ended within a line that was refused already for its length.
@@ -31,35 +39,42 @@ fn write(out: &[u8], n: usize) {
 }
 
 // Reads once behind the bytes that are kept; 0 at the end of the input.
-fn read_more(buffer: &mut [u8], kept: usize) -> usize {
+fn read_more(buffer: &mut [u8], kept: usize) -> usize
+    requires { ⌜ kept ≤ length (now buffer) ⌝ }
+    ensures { λ r. ⌜ kept + r ≤ length (now (buffer .entry)) ⌝ }
+{
     let rest = &mut buffer[kept..];
     let got = libc::read(0, rest);
     io::count(got, rest)
 }
 
 // Serves all whole lines, and writes out what is printed.
-fn serve_whole(image: &mut [u8], frame: &[u8], at: usize, line: u64, out: &mut [u8]) -> Rest {
-    let mut rest = Rest {
-        at,
-        line,
-        long: false,
-    };
+fn serve_whole(image: &mut [u8], frame: &[u8], at: usize, line: u64, out: &mut [u8]) -> Rest
+    requires { ⌜ (at ≤ length (now frame)) × Fits (now frame) line (now out) ⌝ }
+    ensures { λ r. ⌜ Stops (now (frame .entry)) line r ⌝ }
+{
+    let mut from = at;
+    let mut number = line;
     loop {
-        let p = serve_lines(image, frame, rest.at, rest.line, out);
+        let p = serve_lines(image, frame, from, number, out);
         write(out, p.used);
-        if p.at == rest.at {
-            return rest;
+        if p.at == from {
+            return Rest {
+                at: from,
+                line: number,
+                long: false,
+            };
         }
-        rest = Rest {
-            at: p.at,
-            line: p.line,
-            long: false,
-        };
+        from = p.at;
+        number = p.line;
     }
 }
 
 // Serves what the frame has of a line that is too long already, or keeps it.
-fn serve_long(image: &mut [u8], frame: &[u8], rest: Rest, out: &mut [u8]) -> Rest {
+fn serve_long(image: &mut [u8], frame: &[u8], rest: Rest, out: &mut [u8]) -> Rest
+    requires { ⌜ (rest .at ≤ length (now frame)) × (rest .line + 1 < 2 ^ 64) × (128 ≤ length (now out)) ⌝ }
+    ensures { λ r. ⌜ r .at ≤ length (now (frame .entry)) ⌝ }
+{
     let at = rest.at;
     if frame.len() - at < LONG {
         return rest;
@@ -73,22 +88,37 @@ fn serve_long(image: &mut [u8], frame: &[u8], rest: Rest, out: &mut [u8]) -> Res
     }
 }
 
-// Serves the lines of a frame. The rest of a line that was refused for its length is passed over.
-fn serve_frame(image: &mut [u8], frame: &[u8], line: u64, long: bool, out: &mut [u8]) -> Rest {
-    let mut at = 0;
-    if long {
-        let n = part_to(frame, 0, b'\n').len();
-        if n == frame.len() {
-            return Rest { at: n, line, long };
-        }
-        at = n + 1;
-    }
+fn serve_from(image: &mut [u8], frame: &[u8], at: usize, line: u64, out: &mut [u8]) -> Rest
+    requires { ⌜ (at ≤ length (now frame)) × Fits (now frame) line (now out) ⌝ }
+    ensures { λ r. ⌜ r .at ≤ length (now (frame .entry)) ⌝ }
+{
     let rest = serve_whole(image, frame, at, line, out);
     serve_long(image, frame, rest, out)
 }
 
-// Moves the bytes from a place on to the start.
-fn keep(buffer: &mut [u8], from: usize, to: usize) {
+// Serves the lines of a frame. The rest of a line that was refused for its length is passed over.
+fn serve_frame(image: &mut [u8], frame: &[u8], line: u64, long: bool, out: &mut [u8]) -> Rest
+    requires { ⌜ Fits (now frame) line (now out) ⌝ }
+    ensures { λ r. ⌜ r .at ≤ length (now (frame .entry)) ⌝ }
+{
+    if !long {
+        return serve_from(image, frame, 0, line, out);
+    }
+    let n = part_to(frame, 0, b'\n').len();
+    if n >= frame.len() {
+        return Rest {
+            at: frame.len(),
+            line,
+            long,
+        };
+    }
+    serve_from(image, frame, n + 1, line, out)
+}
+
+// Moves the bytes between two places to the start.
+fn keep(buffer: &mut [u8], from: usize, to: usize)
+    requires { ⌜ (from ≤ to) × (to ≤ length (now buffer)) ⌝ }
+{
     if from == 0 {
         return;
     }
@@ -99,17 +129,29 @@ fn keep(buffer: &mut [u8], from: usize, to: usize) {
     }
 }
 
+fn closed(s: State) -> State
+    ensures { λ r. ⌜ r .kept ≡ s .kept ⌝ }
+{
+    State {
+        kept: s.kept,
+        line: s.line,
+        long: s.long,
+        open: false,
+    }
+}
+
 // Reads once, and serves what came.
-fn turn(image: &mut [u8], buffer: &mut [u8], s: State, out: &mut [u8]) -> State {
+fn turn(image: &mut [u8], buffer: &mut [u8], s: State, out: &mut [u8]) -> State
+    requires { ⌜ (s .kept ≤ length (now buffer)) × (length (now buffer) ≤ 65536) × (128 ≤ length (now out)) ⌝ }
+    ensures { λ r. ⌜ r .kept ≤ length (now (buffer .exit)) ⌝ }
+{
     let kept = s.kept;
+    if s.line > LAST {
+        return closed(s);
+    }
     let got = read_more(buffer, kept);
     if got == 0 {
-        return State {
-            kept,
-            line: s.line,
-            long: s.long,
-            open: false,
-        };
+        return closed(s);
     }
     let filled = kept + got;
     let rest = serve_frame(image, &buffer[..filled], s.line, s.long, out);
@@ -122,8 +164,11 @@ fn turn(image: &mut [u8], buffer: &mut [u8], s: State, out: &mut [u8]) -> State 
     }
 }
 
-// Reads and serves to the end of the input.
-fn serve_input(image: &mut [u8], buffer: &mut [u8], out: &mut [u8]) -> State {
+// Reads and serves to the end of the input. A loop has to end, and no run uses up the turns.
+fn serve_input(image: &mut [u8], buffer: &mut [u8], out: &mut [u8]) -> State
+    requires { ⌜ (length (now buffer) ≤ 65536) × (128 ≤ length (now out)) ⌝ }
+    ensures { λ r. ⌜ r .kept ≤ length (now (buffer .exit)) ⌝ }
+{
     let mut s = State {
         kept: 0,
         line: 1,
@@ -131,7 +176,11 @@ fn serve_input(image: &mut [u8], buffer: &mut [u8], out: &mut [u8]) -> State {
         open: true,
     };
     let mut turns = u64::MAX;
-    while turns > 0 && s.open {
+    while turns > 0 {
+        let open = s.open;
+        if !open {
+            return s;
+        }
         s = turn(image, buffer, s, out);
         turns -= 1;
     }
@@ -139,18 +188,20 @@ fn serve_input(image: &mut [u8], buffer: &mut [u8], out: &mut [u8]) -> State {
 }
 
 // Serves a last line that has no newline.
-fn serve_last(image: &mut [u8], frame: &[u8], line: u64, out: &mut [u8]) {
+fn serve_last(image: &mut [u8], frame: &[u8], line: u64, out: &mut [u8])
+    requires { ⌜ 128 ≤ length (now out) ⌝ }
+{
     if 0 < frame.len() {
         let n = serve_line(image, frame, 0, line, out);
         write(out, n);
     }
 }
 
-fn print_listing(image: &[u8], out: &mut [u8]) {
-    let n = cg_list(image, out);
-    if 0 <= n {
-        write(out, n as usize);
-    }
+fn print_listing(image: &[u8], out: &mut [u8])
+    requires { ⌜ 16512 ≤ length (now out) ⌝ }
+{
+    let n = serve_end(image, out);
+    write(out, n);
 }
 
 fn main() {

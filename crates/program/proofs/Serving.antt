@@ -19,9 +19,12 @@ use Rattle.graph.specs.Sessions.{Session}
 use Rattle.graph.specs.Acceptance.{Claimed, claim as claimOf}
 use Rattle.print.specs.Printed.{resultText}
 use Rattle.panel.specs.declared.tally.Tally.{Tally}
-use Rattle.host.specs.Entries.{Calls, Steps, ClaimMade, claimRefused, claimServed, Claims, otherLength, otherBytes, otherLine, served}
-use Rattle.program.specs.Lines.{begins, told, shown, Line, step, claim, call}
-use Rattle.program.specs.Frames.{refusalIn, lengthIn, Tells, Served}
+use Rattle.panel.specs.declared.answer.Answer.the-variants.{Refused}
+use Rattle.panel.specs.Answer.{numberOf}
+use Rattle.listing.specs.Listed.{listingOf}
+use Rattle.host.specs.Entries.{Calls, Steps, ClaimMade, claimRefused, claimServed, Claims, Listed, listServed, Lists, otherLength, otherBytes, otherLine, served}
+use Rattle.program.specs.Lines.{begins, told, lengthIn, shown, Line, step, claim, call}
+use Rattle.program.specs.Frames.{refusalIn, Tells, Served, Ended}
 
 told-none : (n : ℕ) (z : ℤ) → 0 ≡ refusalIn z → [] ≡ told n z
 told-none n (pos k) e = refl
@@ -68,23 +71,28 @@ shown-length : (n : ℕ) (z : ℤ) (output : List ℕ) → refusalIn z ≡ 0 →
 shown-length n (pos k) output e = refl
 shown-length n (negsuc k) output e = absurd (omega arith)
 
--- a claim's answer is at most the output's length
+-- what was written lies within the output
+refused-length : (k n : ℕ) → lengthIn (numberOf (Refused k)) ≤ n
+refused-length zero n = omega arith
+refused-length (suc k) n = omega arith
+
+pasted-within : (out text : List ℕ) → length text ≤ length out → length text ≤ length (pasted out 0 text)
+pasted-within out text h =
+    let w : Written out 0 text (pasted out 0 text) (0 + length text) = record { place = refl; bytes = refl } in
+    omega (arith, written-size w (omega arith))
+
 abbrev Within : ClaimMade → Type 0
 Within c = lengthIn (c .answer) ≤ length (c .output)
 
 refused-within : (image out : List ℕ) (k : ℕ) → Within (claimRefused image out k)
-refused-within image out zero = omega arith
-refused-within image out (suc k) = omega arith
+refused-within image out k = refused-length k (length out)
 
 served-within : (image out : List ℕ) (s : Session) (a : Answer Claimed) → Within (claimServed image out s a)
 served-within image out s (refused k) = refused-within image out k
 served-within image out s (done c) = go (leb (length (resultText (c .result))) (length out)) refl
   where
     go : (b : Bool) → leb (length (resultText (c .result))) (length out) ≡ b → Within (claimServed image out s (done c))
-    go true e =
-        let fits : length (resultText (c .result)) ≤ length out = leb-true _ _ e in
-        let w : Written out 0 (resultText (c .result)) (pasted out 0 (resultText (c .result))) (0 + length (resultText (c .result))) = record { place = refl; bytes = refl } in
-        rw e (omega (arith, written-size w (omega arith)))
+    go true e = rw e (pasted-within out (resultText (c .result)) (leb-true _ _ e))
     go false e = rw e (refused-within image out 33)
 
 claim-within : {image line out : List ℕ} {r : ClaimMade} → Claims image line out r → Within r
@@ -104,3 +112,29 @@ module _ {image line out after output : List ℕ} {n : ℕ} {z w : ℤ} (same : 
         within = subst (λ (x : ℕ). x ≤ length output) (sym size) (claim-within h);
         served = claim b out room _ h refl (ap (λ (x : ℤ). shown n x output) (sym same) ∙ shown-length n z output (sym e ∙ q) ∙ ap (λ (x : ℕ). take x output) (sym l));
       }
+
+-- ---- the listing
+
+abbrev Inside : Listed → Type 0
+Inside l = lengthIn (l .answer) ≤ length (l .output)
+
+listed-inside : (out : List ℕ) (s : Session) → Inside (listServed out s)
+listed-inside out s = go (leb (length (listingOf s)) (length out)) refl
+  where
+    go : (b : Bool) → leb (length (listingOf s)) (length out) ≡ b → Inside (listServed out s)
+    go true e = rw e (pasted-within out (listingOf s) (leb-true _ _ e))
+    go false e = rw e (refused-length 33 (length out))
+
+list-inside : {image out : List ℕ} {l : Listed} → Lists image out l → Inside l
+list-inside {image} {out} (otherLength h e) = subst Inside (sym e) (refused-length 1 (length out))
+list-inside {image} {out} (otherBytes l h e) = subst Inside (sym e) (refused-length 2 (length out))
+list-inside {image} {out} (otherLine s h n e) = subst Inside (sym e) (refused-length 10 (length out))
+list-inside {image} {out} (served s h f i e) = subst Inside (sym e) (listed-inside out s)
+
+pub list-ended : {image out output : List ℕ} {z w : ℤ} {r : ℕ} → z ≡ w → 16512 ≤ length out → Lists image out (record { answer = w; output = output }) → r ≡ lengthIn z → Ended image output r
+list-ended {image} {out} {output} {z} {w} {r} same room h e =
+    let size : r ≡ lengthIn w = e ∙ ap lengthIn same in
+    record {
+      within = subst (λ (x : ℕ). x ≤ length output) (sym size) (list-inside h);
+      ends = record { out = out; room = room; listed = record { answer = w; output = output }; lists = h; printed = ap (λ (x : ℕ). take x output) (sym size) };
+    }

@@ -8,18 +8,13 @@ use lib.IntN.{ℤ, pos, negsuc}
 use lib.ListN.{length, take, drop}
 use Rattle.lines.specs.Answers.{lineAt}
 use Rattle.program.specs.Lines.{told, Line}
-use Rattle.program.specs.Transcript.{linesOf, Run}
+use Rattle.program.specs.Transcript.{linesOf, Run, Ends}
 use Rattle.program.specs.declared.frame.Progress.{Progress}
 
 -- the refusal that an answer is, or 0
 abbrev pub refusalIn : ℤ → ℕ
 refusalIn (pos k) = 0
 refusalIn (negsuc k) = suc k
-
--- the length that an answer is, or 0
-abbrev pub lengthIn : ℤ → ℕ
-lengthIn (pos k) = k
-lengthIn (negsuc k) = 0
 
 -- what is printed of an answer is the first r bytes of the output
 pub record Tells (n : ℕ) (answer : ℤ) (out : List ℕ) (r : ℕ) : Type 0 where
@@ -54,3 +49,8 @@ pub record Went (image frame : List ℕ) (at n : ℕ) (after out : List ℕ) (p 
   pub on : at ≤ p .at
   pub inside : p .at ≤ length frame
   pub fewer : p .line + at ≤ n + p .at
+
+-- the listing is the first r bytes of the output
+pub record Ended (image out : List ℕ) (r : ℕ) : Type 0 where
+  pub within : r ≤ length out
+  pub ends : Ends image (take r out)

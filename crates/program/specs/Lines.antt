@@ -11,7 +11,7 @@ use lib.ListN.{length, take}
 use Rattle.text.specs.Text.{ascii}
 use Rattle.print.specs.Printed.{refusalText}
 use Rattle.panel.specs.declared.tally.Tally.{Tally}
-use Rattle.host.specs.Entries.{Called, Calls, Stepped, Steps, ClaimMade, Claims, Listed, Lists}
+use Rattle.host.specs.Entries.{Called, Calls, Stepped, Steps, ClaimMade, Claims}
 
 -- the line begins with this text
 unfoldable pub begins : (text line : List ℕ) → Bool
@@ -23,6 +23,11 @@ begins (c ∷ cs) (x ∷ xs) = cond (eqb x c) (begins cs xs) false
 abbrev pub told : ℕ → ℤ → List ℕ
 told n (pos k) = []
 told n (negsuc k) = refusalText n (suc k)
+
+-- the written length that an answer is, or 0
+abbrev pub lengthIn : ℤ → ℕ
+lengthIn (pos k) = k
+lengthIn (negsuc k) = 0
 
 -- "claims as result lines": the answer is the length of what was written, if no refusal
 abbrev pub shown : ℕ → ℤ → List ℕ → List ℕ

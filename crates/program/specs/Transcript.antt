@@ -6,11 +6,11 @@ use mathlib.Core.Path.{_≡_}
 use mathlib.Core.Bool.{cond}
 use mathlib.Core.List.{List, [], _∷_, _++_}
 use lib.Dec.{eqb}
-use lib.ListN.{length}
+use lib.ListN.{length, take}
 use Rattle.graph.specs.Sessions.{fresh}
 use Rattle.valid.specs.Values.{encode}
 use Rattle.host.specs.Entries.{Listed, Lists}
-use Rattle.program.specs.Lines.{Line, shown}
+use Rattle.program.specs.Lines.{lengthIn, Line}
 
 -- a byte in front of the first line
 abbrev pub onFirst : ℕ → List (List ℕ) → List (List ℕ)
@@ -34,7 +34,7 @@ pub record Ends (image text : List ℕ) : Type 0 where
   pub room : 16512 ≤ length out
   pub listed : Listed
   pub lists : Lists image out listed
-  pub printed : shown 0 (listed .answer) (listed .output) ≡ text
+  pub printed : take (lengthIn (listed .answer)) (listed .output) ≡ text
 
 -- "reads lines from standard input, .. prints [refusals] as they occur (lines from 1), claims as result lines, then the
 -- listing", from the image that opening writes

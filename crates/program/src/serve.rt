@@ -1,6 +1,7 @@
 // One line, served by the function of the host that its beginning names, and what is printed of it.
 use host::call::cg_call;
 use host::claim::cg_claim;
+use host::list::cg_list;
 use host::step::step_by;
 use panel::tally::Tally;
 use print::lines::put_refusal;
@@ -13,8 +14,8 @@ ghost use Prim.Native.Nat.{_≤_};
 ghost use lib.ListN.{length};
 ghost use Rattle.text.specs.Text.{ascii};
 ghost use Rattle.lines.specs.Answers.{lineAt};
-ghost use Rattle.program.specs.Lines.{begins as beginsWith};
-ghost use Rattle.program.specs.Frames.{refusalIn, lengthIn, Tells, Served};
+ghost use Rattle.program.specs.Lines.{begins as beginsWith, lengthIn};
+ghost use Rattle.program.specs.Frames.{refusalIn, Tells, Served, Ended};
 
 // Nothing that is printed shows a tally, so each step is lent a fresh one.
 const ZEROS: Tally = Tally {
@@ -109,4 +110,13 @@ pub fn serve_line(image: &mut [u8], frame: &[u8], at: usize, line: u64, out: &mu
         return serve_claim(image, frame, at, line, out);
     }
     serve_call(image, frame, at, line, out)
+}
+
+// The listing, at the start of `out`; its length is given.
+pub fn serve_end(image: &[u8], out: &mut [u8]) -> usize
+    requires { ⌜ 16512 ≤ length (now out) ⌝ }
+    ensures { λ r. ⌜ Ended (now (image .entry)) (now (out .exit)) r ⌝ }
+{
+    let answer = cg_list(image, out);
+    length_in(answer)
 }
