@@ -23,7 +23,8 @@ count() {
 }
 
 count rt ci
-count sh tests/run.sh
+count sh tests/run.sh target/bin/cgrun
+count bash tests/pipe.sh target/bin/cgrun tests/second/target/release/second
 count sh tests/host.sh
 count cargo run --manifest-path tests/driver/Cargo.toml --release --offline --quiet
 echo "$passed passed, $failed failed"

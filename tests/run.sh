@@ -1,12 +1,13 @@
 #!/bin/sh
-# Builds the second implementation, runs its tests, and compares a program with it:
+# Builds the second implementation, runs its tests, compares it with the scripts, and a
+# program with both:
 #
 #   tests/run.sh [PROGRAM]
 #
-# PROGRAM is to behave like cgrun; without it the second implementation is compared
-# with the scripts. The last line is 'N passed, M failed'.
+# PROGRAM is to behave like cgrun. The last line is 'N passed, M failed'.
 #
-# SEEDS random scripts (20) of SCRIPT_LINES lines (2000) come after those in tests/scripts.
+# For PROGRAM, SEEDS random scripts (20) of SCRIPT_LINES lines (2000) come after those in
+# tests/scripts.
 
 tests=$(cd "$(dirname "$0")" && pwd) || exit 1
 second=$tests/second/target/release/second
@@ -49,47 +50,55 @@ if [ "$unit_status" -ne 0 ] && [ "$unit_failed" -eq 0 ]; then
 fi
 echo "second implementation: $unit_passed tests passed, $unit_failed failed"
 
-program=${1:-$second}
-case $program in
-    */*) ;;
-    *) program=$(command -v "$program" || echo "./$program") ;;
-esac
-if [ ! -x "$program" ]; then
-    fail "no program $program"
-    end
-fi
-
-# compare NAME INPUT EXPECTED: the program's output for the input, byte for byte.
+# compare NAME PROGRAM INPUT EXPECTED: the program's output for the input, byte for byte.
 compare() {
-    if ! "$program" <"$2" >"$work/got"; then
-        fail "$1: the program ends with an error"
-    elif cmp -s "$3" "$work/got"; then
+    if ! "$2" <"$3" >"$work/got"; then
+        fail "$1: $2 ends with an error"
+    elif cmp -s "$4" "$work/got"; then
         pass
     else
-        fail "$1"
-        diff "$3" "$work/got" | head -n 5
+        fail "$1: $2"
+        diff "$4" "$work/got" | head -n 5
     fi
 }
 
-for input in "$tests"/scripts/*.in; do
-    name=${input%.in}
-    compare "$(basename "$name")" "$input" "$name.out"
-done
+# scripts PROGRAM: every script of tests/scripts.
+scripts() {
+    for input in "$tests"/scripts/*.in; do
+        name=${input%.in}
+        compare "$(basename "$name")" "$1" "$input" "$name.out"
+    done
+    for generator in "$tests"/scripts/*.gen; do
+        sh "$generator" in >"$work/in"
+        sh "$generator" out >"$work/out"
+        compare "$(basename "$generator" .gen)" "$1" "$work/in" "$work/out"
+    done
+}
 
-for generator in "$tests"/scripts/*.gen; do
-    sh "$generator" in >"$work/in"
-    sh "$generator" out >"$work/out"
-    compare "$(basename "$generator" .gen)" "$work/in" "$work/out"
-done
-
-if [ "$program" != "$second" ]; then
+# random PROGRAM: scripts that nobody wrote, against the second implementation.
+random() {
     seed=1
     while [ "$seed" -le "${SEEDS:-20}" ]; do
         "$scribe" "$seed" "${SCRIPT_LINES:-2000}" >"$work/in"
         "$second" <"$work/in" >"$work/out"
-        compare "scribe $seed ${SCRIPT_LINES:-2000}" "$work/in" "$work/out"
+        compare "scribe $seed ${SCRIPT_LINES:-2000}" "$1" "$work/in" "$work/out"
         seed=$((seed + 1))
     done
+}
+
+scripts "$second"
+if [ $# -gt 0 ]; then
+    program=$1
+    case $program in
+        */*) ;;
+        *) program=$(command -v "$program" || echo "./$program") ;;
+    esac
+    if [ ! -x "$program" ]; then
+        fail "no program $program"
+        end
+    fi
+    scripts "$program"
+    random "$program"
 fi
 
 end

@@ -84,7 +84,7 @@ fn refused(n: u32, t: Tally) -> Counted
     }
 }
 
-fn step_by(image: &mut [u8], frame: &[u8], at: usize, t: Tally) -> Counted
+pub fn step_by(image: &mut [u8], frame: &[u8], at: usize, t: Tally) -> Counted
     ensures { λ r. ⌜ Steps (now (image .entry)) (lineAt (now (frame .entry)) at) t (record { answer = r .answer; image = now (image .exit); tally = r .tally }) ⌝ }
 {
     let refusal = image_refusal(image);

@@ -1,3 +1,4 @@
 pub mod Entries
 pub mod ReadBack
 pub mod Listing
+pub mod Refusals

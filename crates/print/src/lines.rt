@@ -4,7 +4,7 @@ use crate::keylist::keys_len;
 use crate::keylist::put_keys;
 use graph::keys::Keys;
 use text::number::decimal_len;
-use text::number::put_decimal;
+use text::number::put_wide;
 use text::put::put_bytes;
 ghost use Prim.Native.Nat.{_+_, _≤_};
 ghost use lib.ListN.{length};
@@ -13,13 +13,21 @@ ghost use Rattle.text.specs.Text.{Written};
 ghost use Rattle.print.specs.Printed.{numbered, lineOf, resultText, nodeText, headText, refusalText, resultOf, nodeOf};
 ghost use Rattle.print.specs.Lengths.{LineLength};
 
+// Writes a name and a number of 64 bits.
+fn put_wide_field(out: &mut [u8], at: usize, name: &[u8], v: u64) -> usize
+    requires { ⌜ at + length (numbered (now name) v) ≤ length (now out) ⌝ }
+    ensures { λ r. ⌜ Written (now (out .entry)) at (numbered (now (name .entry)) v) (now (out .exit)) r ⌝ }
+{
+    let p = put_bytes(out, at, name);
+    put_wide(out, p, v)
+}
+
 // Writes a name and a number.
 fn put_field(out: &mut [u8], at: usize, name: &[u8], v: u32) -> usize
     requires { ⌜ at + length (numbered (now name) v) ≤ length (now out) ⌝ }
     ensures { λ r. ⌜ Written (now (out .entry)) at (numbered (now (name .entry)) v) (now (out .exit)) r ⌝ }
 {
-    let p = put_bytes(out, at, name);
-    put_decimal(out, p, v)
+    put_wide_field(out, at, name, v as u64)
 }
 
 // Writes two numbers and a list of keys, each after its name, and a newline.
@@ -79,13 +87,14 @@ pub fn put_head(out: &mut [u8], at: usize, nodes: u32, results: u32, pending: u3
     put_bytes(out, r, b"\n")
 }
 
-// Writes what cgrun prints of a refused line from `at` on, and returns the place after it.
-pub fn put_refusal(out: &mut [u8], at: usize, line: u32, refusal: u32) -> usize
+// Writes what cgrun prints of a refused line from `at` on, and returns the place after it. An input may have more lines
+// than a number of 32 bits counts.
+pub fn put_refusal(out: &mut [u8], at: usize, line: u64, refusal: u64) -> usize
     requires { ⌜ at + length (refusalText line refusal) ≤ length (now out) ⌝ }
     ensures { λ r. ⌜ Written (now (out .entry)) at (refusalText line refusal) (now (out .exit)) r ⌝ }
 {
-    let p = put_field(out, at, b"line=", line);
-    let q = put_field(out, p, b" refused=", refusal);
+    let p = put_wide_field(out, at, b"line=", line);
+    let q = put_wide_field(out, p, b" refused=", refusal);
     put_bytes(out, q, b"\n")
 }
 
@@ -107,10 +116,4 @@ pub fn head_len(nodes: u32, results: u32, pending: u32) -> usize
     ensures { λ r. ⌜ LineLength (headText nodes results pending) r ⌝ }
 {
     25 + decimal_len(nodes) + decimal_len(results) + decimal_len(pending)
-}
-
-pub fn refusal_len(line: u32, refusal: u32) -> usize
-    ensures { λ r. ⌜ LineLength (refusalText line refusal) r ⌝ }
-{
-    15 + decimal_len(line) + decimal_len(refusal)
 }

@@ -207,3 +207,6 @@ len-le (suc k) n h = go (ltb n 10) refl (len-le k (n / 10))
 
 pub len-ten : (n : ℕ) → n < 2 ^ 32 → length (decimal n) ≤ 10
 len-ten n h = len-le 9 n (omega arith)
+
+pub len-twenty : (n : ℕ) → n < 2 ^ 64 → length (decimal n) ≤ 20
+len-twenty n h = len-le 19 n (omega arith)

@@ -1,4 +1,4 @@
-// Decimal numbers of 32 bits: read, measured, written.
+// Decimal numbers: those of 32 bits read, measured and written, those of 64 bits written.
 ghost use mathlib.Core.Path.{_≡_};
 ghost use Prim.Native.Nat.{_+_, _≤_};
 ghost use lib.ListN.{length};
@@ -59,7 +59,7 @@ pub fn decimal_len(v: u32) -> usize
 }
 
 // Writes the decimal of `v` from `at` on, and returns the place after it.
-pub fn put_decimal(out: &mut [u8], at: usize, v: u32) -> usize
+pub fn put_wide(out: &mut [u8], at: usize, v: u64) -> usize
     requires { ⌜ at + length (decimal v) ≤ length (now out) ⌝ }
     ensures { λ r. ⌜ Written (now (out .entry)) at (decimal v) (now (out .exit)) r ⌝ }
 {
@@ -67,7 +67,15 @@ pub fn put_decimal(out: &mut [u8], at: usize, v: u32) -> usize
         out[at] = (48 + v) as u8;
         return at + 1;
     }
-    let n = put_decimal(out, at, v / 10);
+    let n = put_wide(out, at, v / 10);
     out[n] = (48 + v % 10) as u8;
     n + 1
+}
+
+// The same of a number of 32 bits, as all numbers of a session are.
+pub fn put_decimal(out: &mut [u8], at: usize, v: u32) -> usize
+    requires { ⌜ at + length (decimal v) ≤ length (now out) ⌝ }
+    ensures { λ r. ⌜ Written (now (out .entry)) at (decimal v) (now (out .exit)) r ⌝ }
+{
+    put_wide(out, at, v as u64)
 }

@@ -14,7 +14,6 @@ use print::lines::put_head;
 use print::lines::put_node;
 use print::lines::put_refusal;
 use print::lines::put_result;
-use print::lines::refusal_len;
 use print::lines::result_len;
 use text::cut::Place;
 use text::cut::part_to;
@@ -29,10 +28,8 @@ fn send(out: &[u8], n: usize) {
 }
 
 fn show_refusal(line: u32, refusal: u8) {
-    let number = refusal as u32;
-    let n = refusal_len(line, number);
     let mut out = [0u8; 128];
-    put_refusal(&mut out, 0, line, number);
+    let n = put_refusal(&mut out, 0, line as u64, refusal as u64);
     send(&out, n);
 }
 

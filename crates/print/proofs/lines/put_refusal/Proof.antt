@@ -8,12 +8,12 @@ use Rattle.text.proofs.Pasting.{front-fits, written-room, written-then}
 use Rattle.print.proofs.lines.put_refusal.Statement.{statement}
 use Rattle.print.proofs.lines.put_refusal.Tie as tie
 
-slice-aggregate-put-field : tie.Need-slice-aggregate-put-field
-slice-aggregate-put-field c = search needs
+slice-aggregate-put-wide-field : tie.Need-slice-aggregate-put-wide-field
+slice-aggregate-put-wide-field c = search needs
 
-put-field-requires : tie.Need-put-field-requires
+put-wide-field-requires : tie.Need-put-wide-field-requires
 unfolding ascii
-put-field-requires c κs =
+put-wide-field-requires c κs =
     let st = c .before .before .before in
     let a = st .args in
     let f3 = st .pre in
@@ -21,17 +21,17 @@ put-field-requires c κs =
     let f1 = front-fits (a .at) (numbered (ascii "line=") (a .line)) (numbered (ascii " refused=") (a .refusal)) f2 in
     f1
 
-slice-aggregate-put-field-2 : tie.Need-slice-aggregate-put-field-2
-slice-aggregate-put-field-2 c = search needs
+slice-aggregate-put-wide-field-2 : tie.Need-slice-aggregate-put-wide-field-2
+slice-aggregate-put-wide-field-2 c = search needs
 
-put-field-requires-2 : tie.Need-put-field-requires-2
+put-wide-field-requires-2 : tie.Need-put-wide-field-requires-2
 unfolding ascii
-put-field-requires-2 c κs =
+put-wide-field-requires-2 c κs =
     let st = c .before .before .before .before .before .before .before .before in
     let a = st .args in
     let f3 = st .pre in
     let f2 = front-fits (a .at) (numbered (ascii "line=") (a .line) ++ numbered (ascii " refused=") (a .refusal)) (newline) f3 in
-    let w1 = c .before .before .before .before .put-field .ensures in
+    let w1 = c .before .before .before .before .put-wide-field .ensures in
     written-room w1 (numbered (ascii " refused=") (a .refusal)) f2
 
 slice-aggregate-put-bytes : tie.Need-slice-aggregate-put-bytes
@@ -44,8 +44,8 @@ put-bytes-requires c κs =
     let a = st .args in
     let f3 = st .pre in
     let f2 = front-fits (a .at) (numbered (ascii "line=") (a .line) ++ numbered (ascii " refused=") (a .refusal)) (newline) f3 in
-    let w1 = c .before .before .before .before .before .before .before .before .before .put-field .ensures in
-    let w2 = written-then w1 (c .before .before .before .before .put-field2 .ensures) f2 in
+    let w1 = c .before .before .before .before .before .before .before .before .before .put-wide-field .ensures in
+    let w2 = written-then w1 (c .before .before .before .before .put-wide-field2 .ensures) f2 in
     written-room w2 (newline) f3
 
 same-length : tie.Need-same-length
@@ -58,8 +58,8 @@ returns c =
     let a = st .args in
     let f3 = st .pre in
     let f2 = front-fits (a .at) (numbered (ascii "line=") (a .line) ++ numbered (ascii " refused=") (a .refusal)) (newline) f3 in
-    let w1 = c .before .before .before .before .before .before .before .before .before .before .before .before .put-field .ensures in
-    let w2 = written-then w1 (c .before .before .before .before .before .before .before .put-field2 .ensures) f2 in
+    let w1 = c .before .before .before .before .before .before .before .before .before .before .before .before .put-wide-field .ensures in
+    let w2 = written-then w1 (c .before .before .before .before .before .before .before .put-wide-field2 .ensures) f2 in
     let w3 = written-then w2 (c .before .before .put-bytes .ensures) f3 in
     w3
 
@@ -67,10 +67,10 @@ pub put-refusal-spec : {M : Type 1} → statement M
 put-refusal-spec =
     tie.close
     (tie.spec
-    slice-aggregate-put-field
-    put-field-requires
-    slice-aggregate-put-field-2
-    put-field-requires-2
+    slice-aggregate-put-wide-field
+    put-wide-field-requires
+    slice-aggregate-put-wide-field-2
+    put-wide-field-requires-2
     slice-aggregate-put-bytes
     put-bytes-requires
     same-length

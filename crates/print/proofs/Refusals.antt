@@ -1,0 +1,12 @@
+-- A refusal's line is short.
+-- Assumes nothing.
+use Prim.Native.Nat.{ℕ, _<_, _≤_, _^_}
+use native.Mathlib.Omega.{arith}
+use lib.ListN.{length, length-append}
+use Rattle.text.specs.Text.{ascii, decimal}
+use Rattle.text.proofs.Decimals.{len-twenty}
+use Rattle.print.specs.Printed.{refusalText}
+
+pub refusal-fits : (line refusal : ℕ) → line < 2 ^ 64 → refusal < 2 ^ 64 → length (refusalText line refusal) ≤ 55
+unfolding ascii
+refusal-fits line refusal l r = simp length-append (omega (arith, len-twenty line l, len-twenty refusal r))

@@ -1,0 +1,5 @@
+pub mod Signs
+pub mod Beginnings
+pub mod Serving
+pub mod Framing
+pub mod LineCases

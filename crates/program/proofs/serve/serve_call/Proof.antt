@@ -1,0 +1,31 @@
+-- What the host gave is told.
+-- Assumes nothing.
+use mathlib.Core.Path.{_≡_}
+use mir.Syntax.{w64}
+use mir.Val.{toZ, ofZ}
+use Rattle.program.proofs.Serving.{call-served}
+use native.Mathlib.Omega.{arith}
+use borrow.Author.Needs.{needs}
+use Rattle.program.proofs.serve.serve_call.Statement.{statement}
+use Rattle.program.proofs.serve.serve_call.Tie as tie
+
+cg-call-requires : tie.Need-cg-call-requires
+cg-call-requires c κs = search needs
+
+tell-requires : tie.Need-tell-requires
+tell-requires c κs = search needs
+
+same-length : tie.Need-same-length
+same-length c = search needs
+
+same-length-2 : tie.Need-same-length-2
+same-length-2 c = search needs
+
+returns : tie.Need-returns
+returns c =
+    let same : toZ w64 (ofZ w64 (c .before .before .before .before .before .before .cg-call .result)) ≡ c .before .before .before .before .before .before .cg-call .result = search needs in
+    call-served same (c .before .before .before .before .before .before .before .before .before .before .before .pre .1) (c .before .before .before .before .before .before .before .before .before .before .before .pre .2) (c .before .before .before .before .before .before .cg-call .ensures) (c .before .before .tell .ensures)
+
+pub serve-call-spec : {M : Type 1} → statement M
+serve-call-spec =
+    tie.close (tie.spec cg-call-requires tell-requires same-length same-length-2 returns)

@@ -1,0 +1,31 @@
+-- What the host gave is told.
+-- Assumes nothing.
+use mathlib.Core.Path.{_≡_}
+use mir.Syntax.{w64}
+use mir.Val.{toZ, ofZ}
+use Rattle.program.proofs.Serving.{step-served}
+use native.Mathlib.Omega.{arith}
+use borrow.Author.Needs.{needs}
+use Rattle.program.proofs.serve.serve_step.Statement.{statement}
+use Rattle.program.proofs.serve.serve_step.Tie as tie
+
+step-by-requires : tie.Need-step-by-requires
+step-by-requires c κs = search needs
+
+tell-requires : tie.Need-tell-requires
+tell-requires c κs = search needs
+
+same-length : tie.Need-same-length
+same-length c = search needs
+
+same-length-2 : tie.Need-same-length-2
+same-length-2 c = search needs
+
+returns : tie.Need-returns
+returns c =
+    let same : toZ w64 (ofZ w64 (c .before .before .before .before .before .before .before .step-by .result .answer)) ≡ c .before .before .before .before .before .before .before .step-by .result .answer = search needs in
+    step-served same (c .before .before .before .before .before .before .before .before .before .before .before .before .pre .1) (c .before .before .before .before .before .before .before .step-by .ensures) (c .before .before .tell .ensures)
+
+pub serve-step-spec : {M : Type 1} → statement M
+serve-step-spec =
+    tie.close (tie.spec step-by-requires tell-requires same-length same-length-2 returns)

@@ -1,0 +1,56 @@
+-- What serving a line, and the lines of a frame, gives and leaves.
+-- Assumes nothing.
+use Prim.Native.Nat.{ℕ, suc, _+_, _≤_, _<_}
+use mathlib.Core.Bool.{Bool, true, false}
+use mathlib.Core.Path.{_≡_}
+use mathlib.Core.List.{List, _++_}
+use lib.IntN.{ℤ, pos, negsuc}
+use lib.ListN.{length, take, drop}
+use Rattle.lines.specs.Answers.{lineAt}
+use Rattle.program.specs.Lines.{told, Line}
+use Rattle.program.specs.Transcript.{linesOf, Run, Ends}
+use Rattle.program.specs.declared.frame.Progress.{Progress}
+
+-- the refusal that an answer is, or 0
+abbrev pub refusalIn : ℤ → ℕ
+refusalIn (pos k) = 0
+refusalIn (negsuc k) = suc k
+
+-- what is printed of an answer is the first r bytes of the output
+pub record Tells (n : ℕ) (answer : ℤ) (out : List ℕ) (r : ℕ) : Type 0 where
+  pub within : r ≤ length out
+  pub text : take r out ≡ told n answer
+
+-- what is printed of the line is the first r bytes of the output
+pub record Served (image line : List ℕ) (n : ℕ) (after out : List ℕ) (r : ℕ) : Type 0 where
+  pub within : r ≤ length out
+  pub served : Line image line n after (take r out)
+
+-- a whole line stands next, and the output has room for what is printed of it
+abbrev pub Ready : (frame : List ℕ) → Progress → (out : List ℕ) → Bool → Type 0
+Ready frame p out true = (p .at + length (lineAt frame (p .at)) < length frame) × (p .used + 128 ≤ length out)
+Ready frame p out false = Unit {0}
+
+-- the line that stands next was served, and what is printed of it stands behind what was there
+pub record Next (image frame : List ℕ) (p : Progress) (out after written : List ℕ) (q : Progress) : Type 0 where
+  pub text : List ℕ
+  pub served : Line image (lineAt frame (p .at)) (p .line) after text
+  pub bytes : take (q .used) written ≡ take (p .used) out ++ text
+  pub fits : q .used ≤ length written
+  pub past : q .at ≡ p .at + length (lineAt frame (p .at)) + 1
+  pub number : q .line ≡ p .line + 1
+
+-- the lines of the frame from `at` on were served as far as p says, and what is printed of them is the first bytes of the output
+pub record Went (image frame : List ℕ) (at n : ℕ) (after out : List ℕ) (p : Progress) : Type 0 where
+  pub lines : List (List ℕ)
+  pub runs : Run image n lines after (p .line) (take (p .used) out)
+  pub parts : linesOf (drop at frame) ≡ lines ++ linesOf (drop (p .at) frame)
+  pub fits : p .used ≤ length out
+  pub on : at ≤ p .at
+  pub inside : p .at ≤ length frame
+  pub fewer : p .line + at ≤ n + p .at
+
+-- the listing is the first r bytes of the output
+pub record Ended (image out : List ℕ) (r : ℕ) : Type 0 where
+  pub within : r ≤ length out
+  pub ends : Ends image (take r out)

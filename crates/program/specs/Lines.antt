@@ -1,0 +1,43 @@
+-- What the program does with one line: document 01, section 'Host, panel and program'. It is a host, so a line's step is what
+-- one of the host's functions gives and leaves, and what is printed goes by the answer.
+-- Assumes nothing.
+use Prim.Native.Nat.{ℕ, suc, _≤_}
+use mathlib.Core.Path.{_≡_}
+use mathlib.Core.Bool.{Bool, true, false, cond}
+use mathlib.Core.List.{List, [], _∷_}
+use lib.Dec.{eqb}
+use lib.IntN.{ℤ, pos, negsuc}
+use lib.ListN.{length, take}
+use Rattle.text.specs.Text.{ascii}
+use Rattle.print.specs.Printed.{refusalText}
+use Rattle.panel.specs.declared.tally.Tally.{Tally}
+use Rattle.host.specs.Entries.{Called, Calls, Stepped, Steps, ClaimMade, Claims}
+
+-- the line begins with this text
+unfoldable pub begins : (text line : List ℕ) → Bool
+begins [] line = true
+begins (c ∷ cs) [] = false
+begins (c ∷ cs) (x ∷ xs) = cond (eqb x c) (begins cs xs) false
+
+-- "prints `line=3 refused=12` as they occur": what is printed of a call or a step, by the line's number and the answer
+abbrev pub told : ℕ → ℤ → List ℕ
+told n (pos k) = []
+told n (negsuc k) = refusalText n (suc k)
+
+-- the written length that an answer is, or 0
+abbrev pub lengthIn : ℤ → ℕ
+lengthIn (pos k) = k
+lengthIn (negsuc k) = 0
+
+-- "claims as result lines": the answer is the length of what was written, if no refusal
+abbrev pub shown : ℕ → ℤ → List ℕ → List ℕ
+shown n (pos k) output = take k output
+shown n (negsuc k) output = refusalText n (suc k)
+
+-- the line, with its number n, makes the image `after` of the image and prints the text. The output that a claim is lent has
+-- room for every result line, so that none is refused for it.
+pub data Line (image line : List ℕ) (n : ℕ) (after text : List ℕ) : Type 0 where
+  step : begins (ascii "step=") line ≡ true → (t : Tally) (r : Stepped) → Steps image line t r → r .image ≡ after → told n (r .answer) ≡ text → Line image line n after text
+  claim : begins (ascii "claim=") line ≡ true → (out : List ℕ) → 128 ≤ length out → (r : ClaimMade) → Claims image line out r → r .image ≡ after → shown n (r .answer) (r .output) ≡ text
+      → Line image line n after text
+  call : begins (ascii "step=") line ≡ false → begins (ascii "claim=") line ≡ false → (r : Called) → Calls image line r → r .image ≡ after → told n (r .answer) ≡ text → Line image line n after text

@@ -1,0 +1,122 @@
+// One line, served by the function of the host that its beginning names, and what is printed of it.
+use host::call::cg_call;
+use host::claim::cg_claim;
+use host::list::cg_list;
+use host::step::step_by;
+use panel::tally::Tally;
+use print::lines::put_refusal;
+use text::cut::Place;
+use text::cut::part_to;
+use text::cut::past;
+ghost use mathlib.Core.Bool.{true, false};
+ghost use mathlib.Core.Path.{_≡_};
+ghost use Prim.Native.Nat.{_≤_};
+ghost use lib.ListN.{length};
+ghost use Rattle.text.specs.Text.{ascii};
+ghost use Rattle.lines.specs.Answers.{lineAt};
+ghost use Rattle.program.specs.Lines.{begins as beginsWith, lengthIn};
+ghost use Rattle.program.specs.Frames.{refusalIn, Tells, Served, Ended};
+
+// Nothing that is printed shows a tally, so each step is lent a fresh one.
+const ZEROS: Tally = Tally {
+    admit: 0,
+    realise: 0,
+    move_on: 0,
+    finish: 0,
+    join: 0,
+    split: 0,
+    swap: 0,
+    fuse: 0,
+};
+
+fn begins(line: &[u8], literal: &[u8]) -> bool
+    ensures { λ r. ⌜ r ≡ beginsWith (now (literal .entry)) (now (line .entry)) ⌝ }
+{
+    let Place::At(_) = past(line, 0, literal) else {
+        return false;
+    };
+    true
+}
+
+// The refusal that an answer of the host is, or 0.
+fn refusal_in(answer: i64) -> u64
+    ensures { λ r. ⌜ r ≡ refusalIn answer ⌝ }
+{
+    if answer >= 0 {
+        return 0;
+    }
+    (-1 - answer) as u64 + 1
+}
+
+// The written length that an answer of the host is, or 0.
+fn length_in(answer: i64) -> usize
+    ensures { λ r. ⌜ r ≡ lengthIn answer ⌝ }
+{
+    if answer < 0 {
+        return 0;
+    }
+    answer as usize
+}
+
+// Writes the refusal of a line, where the answer is one, and gives the length of what it wrote.
+fn tell(out: &mut [u8], line: u64, answer: i64) -> usize
+    requires { ⌜ 128 ≤ length (now out) ⌝ }
+    ensures { λ r. ⌜ Tells line answer (now (out .exit)) r ⌝ }
+{
+    let refusal = refusal_in(answer);
+    if refusal == 0 {
+        return 0;
+    }
+    put_refusal(out, 0, line, refusal)
+}
+
+fn serve_call(image: &mut [u8], frame: &[u8], at: usize, line: u64, out: &mut [u8]) -> usize
+    requires { ⌜ (128 ≤ length (now out)) × (beginsWith (ascii "step=") (lineAt (now frame) at) ≡ false) × (beginsWith (ascii "claim=") (lineAt (now frame) at) ≡ false) ⌝ }
+    ensures { λ r. ⌜ Served (now (image .entry)) (lineAt (now (frame .entry)) at) line (now (image .exit)) (now (out .exit)) r ⌝ }
+{
+    let answer = cg_call(image, frame, at);
+    tell(out, line, answer)
+}
+
+fn serve_step(image: &mut [u8], frame: &[u8], at: usize, line: u64, out: &mut [u8]) -> usize
+    requires { ⌜ (128 ≤ length (now out)) × (beginsWith (ascii "step=") (lineAt (now frame) at) ≡ true) ⌝ }
+    ensures { λ r. ⌜ Served (now (image .entry)) (lineAt (now (frame .entry)) at) line (now (image .exit)) (now (out .exit)) r ⌝ }
+{
+    let s = step_by(image, frame, at, ZEROS);
+    tell(out, line, s.answer)
+}
+
+fn serve_claim(image: &mut [u8], frame: &[u8], at: usize, line: u64, out: &mut [u8]) -> usize
+    requires { ⌜ (128 ≤ length (now out)) × (beginsWith (ascii "claim=") (lineAt (now frame) at) ≡ true) ⌝ }
+    ensures { λ r. ⌜ Served (now (image .entry)) (lineAt (now (frame .entry)) at) line (now (image .exit)) (now (out .exit)) r ⌝ }
+{
+    let answer = cg_claim(image, frame, at, out);
+    if refusal_in(answer) != 0 {
+        return tell(out, line, answer);
+    }
+    length_in(answer)
+}
+
+// Serves the line at a place of the frame. What is printed of it stands at the start of `out`, and its length is given.
+pub fn serve_line(image: &mut [u8], frame: &[u8], at: usize, line: u64, out: &mut [u8]) -> usize
+    requires { ⌜ 128 ≤ length (now out) ⌝ }
+    ensures { λ r. ⌜ Served (now (image .entry)) (lineAt (now (frame .entry)) at) line (now (image .exit)) (now (out .exit)) r ⌝ }
+{
+    let text = part_to(frame, at, b'\n');
+    if begins(text, b"step=") {
+        return serve_step(image, frame, at, line, out);
+    }
+    if begins(text, b"claim=") {
+        return serve_claim(image, frame, at, line, out);
+    }
+    serve_call(image, frame, at, line, out)
+}
+
+// The listing, at the start of `out`; its length is given.
+pub fn serve_end(image: &[u8], out: &mut [u8]) -> usize
+    requires { ⌜ 16512 ≤ length (now out) ⌝ }
+    ensures { λ r. ⌜ Ended (now (image .entry)) (now (out .exit)) r ⌝ }
+{
+    let answer = cg_list(image, out);
+    length_in(answer)
+}
