@@ -4,9 +4,16 @@
 PREFIX ?= /usr/local
 SECONDS ?= 600
 
-run:
-	@echo "The program cgrun is not built yet. What is here: the definitions, and their proof (docs/PROMISES.md)."
-	@rt check
+sources := crates.txt $(shell find crates -path '*/must-fail' -prune -o -type f -print)
+
+# Proves and builds cgrun, unless nothing of it changed, and runs the example that README.md explains.
+run: target/bin/cgrun
+	@echo "examples/scene.txt, through cgrun:"
+	@target/bin/cgrun <examples/scene.txt
+
+target/bin/cgrun: $(sources)
+	@rt check cgrun
+	@touch $@
 
 test:
 	@tests/gate.sh
@@ -18,7 +25,7 @@ fmt:
 lib: build/libcg.a build/libcg.so build/cg.pc
 
 # Proves the host crate and all below it, unless nothing of it changed.
-target/staticlib/libhost.a: crates.txt $(shell find crates -path '*/must-fail' -prune -o -type f -print)
+target/staticlib/libhost.a: $(sources)
 	@rt staticlib host
 
 build/libcg.a: target/staticlib/libhost.a

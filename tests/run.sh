@@ -62,8 +62,9 @@ compare() {
     fi
 }
 
-# scripts PROGRAM: every script of tests/scripts.
+# scripts PROGRAM: the example that README.md explains, and every script of tests/scripts.
 scripts() {
+    compare "the example scene" "$1" "$tests/../examples/scene.txt" "$tests/../examples/scene.out"
     for input in "$tests"/scripts/*.in; do
         name=${input%.in}
         compare "$(basename "$name")" "$1" "$input" "$name.out"
