@@ -68,16 +68,20 @@ pub fn keys_ok(rise: bool, x: &[u8], least: &[u8], most: &[u8]) -> bool
     if rise { rises(&x[1..n + 1]) } else { true }
 }
 
-// The labels from place n on are zero.
+// The labels from place n on are zero. The loop begins at 0, since a place that depends on n would have the array written to memory.
 fn unused_zero(label: [u16; 4], n: usize) -> bool
     ensures { λ r. ⌜ r ≡ allZero (drop n label) ⌝ }
 {
-    let mut j = n;
+    let mut j: usize = 0;
     while j < 4 {
-        if label[j] != 0 {
-            return false;
+        if n <= j {
+            if label[j] != 0 {
+                return false;
+            }
+            j += 1;
+        } else {
+            j += 1;
         }
-        j += 1;
     }
     true
 }
