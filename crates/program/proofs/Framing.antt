@@ -2,6 +2,7 @@
 -- Assumes nothing.
 use mathlib.Core.Path.{_≡_, refl, sym, ap, subst, _∙_}
 use mathlib.Core.Bool.{Bool, true, false, cond}
+use mathlib.Core.Logic.{inl}
 use mathlib.Core.List.{List, [], _∷_, _++_, append-assoc, append-nil}
 use Prim.Native.Nat.{ℕ, zero, suc, _+_, _-_, _≤_, _<_}
 use native.Mathlib.Omega.{arith}
@@ -70,7 +71,7 @@ whole-by at len line part e h = ap (λ (x : List ℕ). ltb (length x) (len - at)
 
 pub ready-by : (frame : List ℕ) (p : Progress) (out : List ℕ) (b : Bool) → b ≡ ltb (p .at + length (lineAt frame (p .at))) (length frame) → 128 ≤ length out - p .used → Ready frame p out b
 ready-by frame p out true e h = (ltb-true _ _ (sym e), omega arith)
-ready-by frame p out false e h = tt
+ready-by frame p out false e h = inl (ltb-false _ _ (sym e))
 
 pub next-served : {image frame out after part : List ℕ} {p : Progress} {n r : ℕ} → Ready frame p out true → n ≡ length (lineAt frame (p .at)) → length part ≡ length (midOf (p .used) (length out - p .used) out)
     → Served image (lineAt frame (p .at)) (p .line) after part r
