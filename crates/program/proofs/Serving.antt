@@ -35,7 +35,7 @@ told-refusal n (pos k) r e ne = absurd (ne e)
 told-refusal n (negsuc k) r e ne = ap (refusalText n) e
 
 -- what was written at the start of a buffer
-take-pasted : (s text : List ℕ) → take (0 + length text) (pasted s 0 text) ≡ text
+pub take-pasted : (s text : List ℕ) → take (0 + length text) (pasted s 0 text) ≡ text
 unfolding pasted
 take-pasted s text = let e : length text ≡ 0 + length text = omega arith in take-at text (drop (0 + length text) s) (0 + length text) e
 
