@@ -5,7 +5,7 @@ use mathlib.Core.Bool.{Bool, true, false, _&&_, true≢false}
 use mathlib.Core.List.{List, [], _∷_, _++_}
 use Prim.Native.Nat.{ℕ, zero, suc, _+_, _≤_, _<_, _^_}
 use native.Mathlib.Omega.{arith}
-use lib.Dec.{eqb, leb, ltb}
+use lib.Dec.{eqb, ltb}
 use lib.ListN.{length, take}
 use borrow.Author.Tests.{eqb-true, le-leb, ltb-true}
 use Rattle.graph.specs.Refusals.{Answer, refused, done, unless}
@@ -15,15 +15,15 @@ use Rattle.graph.specs.Runs.{andThen}
 use Rattle.graph.specs.Acceptance.{Claimed, claim as claimOf}
 use Rattle.text.specs.Text.{ascii, pasted}
 use Rattle.lines.specs.Forms.{StepForm, work, drain}
-use Rattle.lines.specs.Answers.{IsCall, IsStep, IsClaim, stepFormTests}
+use Rattle.lines.specs.Answers.{IsClaim, stepFormTests}
 use Rattle.lines.proofs.Calls.{call-unique}
 use Rattle.lines.proofs.Claims.{claim-unique}
 use Rattle.lines.proofs.Steps.{step-unique}
 use Rattle.panel.specs.declared.tally.Tally.{Tally}
 use Rattle.print.specs.Printed.{resultText}
-use Rattle.valid.specs.Values.{encode, sessionOf}
+use Rattle.valid.specs.Values.{sessionOf}
 use Rattle.valid.proofs.Exactness.{valid-passes, valid-back}
-use Rattle.host.specs.Entries.{ImageOf, Enters, otherLength, otherBytes, otherLine, served, Called, Calls, Stepped, stepRefused, stepServed, stepMade, Steps, ClaimMade, claimRefused, claimServed, Claims}
+use Rattle.host.specs.Entries.{ImageOf, Enters, otherLength, otherBytes, otherLine, served, Called, Calls, Stepped, stepServed, stepMade, Steps, ClaimMade, claimRefused, claimServed, Claims}
 use Rattle.program.specs.Lines.{begins, told, shown, Line, step, claim, call}
 use Rattle.program.specs.Transcript.{Run, none, next}
 use Rattle.program.proofs.Serving.{take-pasted}

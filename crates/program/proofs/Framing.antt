@@ -1,10 +1,10 @@
 -- The lines of a frame, one after the other.
 -- Assumes nothing.
 use mathlib.Core.Path.{_≡_, refl, sym, ap, subst, _∙_}
-use mathlib.Core.Bool.{Bool, true, false, cond}
+use mathlib.Core.Bool.{Bool, true, false}
 use mathlib.Core.Logic.{inl}
 use mathlib.Core.List.{List, [], _∷_, _++_, append-assoc, append-nil}
-use Prim.Native.Nat.{ℕ, zero, suc, _+_, _-_, _≤_, _<_}
+use Prim.Native.Nat.{ℕ, suc, _+_, _-_, _≤_, _<_}
 use native.Mathlib.Omega.{arith}
 use native.Mathlib.Numerals.{add-one}
 use lib.Dec.{eqb, ltb}
@@ -15,7 +15,7 @@ use borrow.Rule.Slice.PartMut.{midOf, postOf, putMid, mid-len, same-len-mid}
 use Rattle.text.specs.Text.{upTo}
 use Rattle.lines.specs.Answers.{lineAt}
 use Rattle.program.specs.Lines.{Line}
-use Rattle.program.specs.Transcript.{onFirst, linesOf, Run, none, next}
+use Rattle.program.specs.Transcript.{linesOf, Run, none, next}
 use Rattle.program.specs.Frames.{Ready, Served, Next, Went}
 use Rattle.program.specs.declared.frame.Progress.{Progress}
 

@@ -1,14 +1,13 @@
 -- A claim that is lent 128 bytes is never refused for want of room.
 -- Assumes nothing.
-use mathlib.Core.Path.{_≡_, refl, sym, ap, subst, _∙_}
+use mathlib.Core.Path.{_≡_, refl}
 use mathlib.Core.Bool.{Bool, true, false, cond, _&&_}
-use mathlib.Core.List.{List, [], _∷_, _++_}
-use Prim.Native.Nat.{ℕ, zero, suc, _+_, _*_, _≤_, _<_, _^_}
+use mathlib.Core.List.{List, [], _∷_}
+use Prim.Native.Nat.{ℕ, _*_, _≤_, _<_, _^_}
 use native.Mathlib.Omega.{arith}
 use lib.Dec.{eqb, leb}
-use lib.IntN.{ℤ, natAbs}
 use lib.ListN.{length, length-append}
-use borrow.Author.Tests.{eqb-true, le-leb}
+use borrow.Author.Tests.{eqb-true}
 use Rattle.text.specs.Text.{ascii, decimal, further, commas}
 use Rattle.text.proofs.Decimals.{len-ten}
 use Rattle.graph.specs.KeyLists.{contains}
@@ -16,7 +15,7 @@ use Rattle.graph.specs.Nodes.{Result}
 use Rattle.graph.specs.Refusals.{Answer, refused, done, mapDone}
 use Rattle.graph.specs.Sessions.{Session, pending}
 use Rattle.graph.specs.Acceptance.{Claimed, takeResult, claim}
-use Rattle.graph.specs.Valid.{Each, Key, ValidTargets, ValidResult, Valid}
+use Rattle.graph.specs.Valid.{Each, Key, ValidResult, Valid}
 use Rattle.print.specs.Printed.{resultText}
 
 -- ---- result lines are short
