@@ -1,9 +1,10 @@
 -- The lines of a frame, one after the other.
 -- Assumes nothing.
 use mathlib.Core.Path.{_≡_, refl, sym, ap, subst, _∙_}
-use mathlib.Core.Bool.{Bool, true, false, cond}
+use mathlib.Core.Bool.{Bool, true, false}
+use mathlib.Core.Logic.{inl}
 use mathlib.Core.List.{List, [], _∷_, _++_, append-assoc, append-nil}
-use Prim.Native.Nat.{ℕ, zero, suc, _+_, _-_, _≤_, _<_}
+use Prim.Native.Nat.{ℕ, suc, _+_, _-_, _≤_, _<_}
 use native.Mathlib.Omega.{arith}
 use native.Mathlib.Numerals.{add-one}
 use lib.Dec.{eqb, ltb}
@@ -14,7 +15,7 @@ use borrow.Rule.Slice.PartMut.{midOf, postOf, putMid, mid-len, same-len-mid}
 use Rattle.text.specs.Text.{upTo}
 use Rattle.lines.specs.Answers.{lineAt}
 use Rattle.program.specs.Lines.{Line}
-use Rattle.program.specs.Transcript.{onFirst, linesOf, Run, none, next}
+use Rattle.program.specs.Transcript.{linesOf, Run, none, next}
 use Rattle.program.specs.Frames.{Ready, Served, Next, Went}
 use Rattle.program.specs.declared.frame.Progress.{Progress}
 
@@ -70,7 +71,7 @@ whole-by at len line part e h = ap (λ (x : List ℕ). ltb (length x) (len - at)
 
 pub ready-by : (frame : List ℕ) (p : Progress) (out : List ℕ) (b : Bool) → b ≡ ltb (p .at + length (lineAt frame (p .at))) (length frame) → 128 ≤ length out - p .used → Ready frame p out b
 ready-by frame p out true e h = (ltb-true _ _ (sym e), omega arith)
-ready-by frame p out false e h = tt
+ready-by frame p out false e h = inl (ltb-false _ _ (sym e))
 
 pub next-served : {image frame out after part : List ℕ} {p : Progress} {n r : ℕ} → Ready frame p out true → n ≡ length (lineAt frame (p .at)) → length part ≡ length (midOf (p .used) (length out - p .used) out)
     → Served image (lineAt frame (p .at)) (p .line) after part r

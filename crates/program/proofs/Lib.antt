@@ -3,3 +3,5 @@ pub mod Beginnings
 pub mod Serving
 pub mod Framing
 pub mod LineCases
+pub mod Rooms
+pub mod Determined

@@ -2,8 +2,7 @@
 -- lines count.
 -- Assumes nothing.
 use mathlib.Core.Path.{_≡_, refl}
-use mathlib.Core.List.{List, [], _∷_}
-use Prim.Native.Nat.{ℕ}
+use mathlib.Core.List.{[], _∷_}
 use Rattle.program.specs.Transcript.{linesOf}
 
 pub record Cases : Type 0 where

@@ -1,13 +1,13 @@
 -- From what the host's functions give to what is printed.
 -- Assumes nothing.
 use mathlib.Core.Path.{_≡_, refl, sym, ap, subst, _∙_}
-use mathlib.Core.Bool.{Bool, true, false, cond}
-use mathlib.Core.List.{List, [], _∷_, _++_}
+use mathlib.Core.Bool.{Bool, true, false}
+use mathlib.Core.List.{List, []}
 use Prim.Native.Nat.{ℕ, zero, suc, _+_, _≤_, _<_, _^_}
 use native.Mathlib.Omega.{arith}
 use lib.Dec.{leb}
 use lib.IntN.{ℤ, pos, negsuc}
-use lib.ListN.{length, take, drop, length-append}
+use lib.ListN.{length, take, drop}
 use lib.Seq.{take-at}
 use borrow.Author.Tests.{leb-true}
 use Rattle.text.specs.Text.{ascii, pasted, Written}
@@ -23,7 +23,7 @@ use Rattle.panel.specs.declared.answer.Answer.the-variants.{Refused}
 use Rattle.panel.specs.Answer.{numberOf}
 use Rattle.listing.specs.Listed.{listingOf}
 use Rattle.host.specs.Entries.{Calls, Steps, ClaimMade, claimRefused, claimServed, Claims, Listed, listServed, Lists, otherLength, otherBytes, otherLine, served}
-use Rattle.program.specs.Lines.{begins, told, lengthIn, shown, Line, step, claim, call}
+use Rattle.program.specs.Lines.{begins, told, lengthIn, shown, step, claim, call}
 use Rattle.program.specs.Frames.{refusalIn, Tells, Served, Ended}
 
 told-none : (n : ℕ) (z : ℤ) → 0 ≡ refusalIn z → [] ≡ told n z
@@ -35,7 +35,7 @@ told-refusal n (pos k) r e ne = absurd (ne e)
 told-refusal n (negsuc k) r e ne = ap (refusalText n) e
 
 -- what was written at the start of a buffer
-take-pasted : (s text : List ℕ) → take (0 + length text) (pasted s 0 text) ≡ text
+pub take-pasted : (s text : List ℕ) → take (0 + length text) (pasted s 0 text) ≡ text
 unfolding pasted
 take-pasted s text = let e : length text ≡ 0 + length text = omega arith in take-at text (drop (0 + length text) s) (0 + length text) e
 

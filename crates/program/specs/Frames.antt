@@ -2,6 +2,7 @@
 -- Assumes nothing.
 use Prim.Native.Nat.{ℕ, suc, _+_, _≤_, _<_}
 use mathlib.Core.Bool.{Bool, true, false}
+use mathlib.Core.Logic.{_⊎_}
 use mathlib.Core.Path.{_≡_}
 use mathlib.Core.List.{List, _++_}
 use lib.IntN.{ℤ, pos, negsuc}
@@ -26,10 +27,10 @@ pub record Served (image line : List ℕ) (n : ℕ) (after out : List ℕ) (r : 
   pub within : r ≤ length out
   pub served : Line image line n after (take r out)
 
--- a whole line stands next, and the output has room for what is printed of it
+-- a whole line stands next, and the output has room for what is printed of it; or one of the two is not so
 abbrev pub Ready : (frame : List ℕ) → Progress → (out : List ℕ) → Bool → Type 0
 Ready frame p out true = (p .at + length (lineAt frame (p .at)) < length frame) × (p .used + 128 ≤ length out)
-Ready frame p out false = Unit {0}
+Ready frame p out false = (length frame ≤ p .at + length (lineAt frame (p .at))) ⊎ (length out < p .used + 128)
 
 -- the line that stands next was served, and what is printed of it stands behind what was there
 pub record Next (image frame : List ℕ) (p : Progress) (out after written : List ℕ) (q : Progress) : Type 0 where

@@ -34,12 +34,12 @@ returns c = record { within = c .before .before .before .before .before .before 
 
 loop-less : tie.Need-loop-less Inv-loop μ-loop
 loop-less c =
-    let w = c .before .before .before .before .before .before .before .before .serve-lines .ensures in
+    let w = c .before .before .before .before .before .before .before .before .serve-lines .ensures .0 in
     omega (arith, w .on, w .inside, c .if1 .left)
 
 loop-again : tie.Need-loop-again Inv-loop μ-loop
 loop-again c =
-    let w = c .before .before .before .before .before .before .before .before .serve-lines .ensures in
+    let w = c .before .before .before .before .before .before .before .before .serve-lines .ensures .0 in
     let i = c .before .before .before .before .before .before .before .before .before .before .before .loop .inv in
     (omega (arith, w .on, i .0), w .inside, omega (arith, w .fewer, i .2), search needs, search needs)
 

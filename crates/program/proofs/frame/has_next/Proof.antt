@@ -1,5 +1,6 @@
 -- A whole line, and room.
 -- Assumes nothing.
+use mathlib.Core.Logic.{inr}
 use Rattle.program.proofs.Framing.{ready-by}
 use native.Mathlib.Omega.{arith}
 use borrow.Author.Needs.{needs}
@@ -10,7 +11,7 @@ sub-if1 : tie.Need-sub-if1
 sub-if1 c = search needs
 
 returns : tie.Need-returns
-returns c = search needs
+returns c = inr (omega (arith, c .if1 .taken))
 
 is-whole-requires : tie.Need-is-whole-requires
 is-whole-requires c κs = search needs

@@ -1,7 +1,6 @@
 -- The line ends before the frame does.
 -- Assumes nothing.
 use Rattle.program.proofs.Framing.{whole-by}
-use native.Mathlib.Omega.{arith}
 use borrow.Author.Needs.{needs}
 use Rattle.program.proofs.frame.is_whole.Statement.{statement}
 use Rattle.program.proofs.frame.is_whole.Tie as tie

@@ -44,7 +44,7 @@ same-length-2 : tie.Need-same-length-2 Inv-loop μ-loop
 same-length-2 c = search needs
 
 returns : tie.Need-returns Inv-loop μ-loop
-returns c = c .before .before .before .loop .inv .0
+returns c = (c .before .before .before .loop .inv .0, rw (c .if1 .left) at (c .before .has-next .ensures))
 
 pub serve-lines-spec : {M : Type 1} → statement M
 serve-lines-spec =

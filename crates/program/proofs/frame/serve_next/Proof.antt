@@ -3,7 +3,6 @@
 use mathlib.Core.Path.{ap}
 use lib.ListN.{length}
 use Rattle.program.proofs.Framing.{next-served}
-use native.Mathlib.Omega.{arith}
 use borrow.Author.Needs.{needs}
 use Rattle.program.proofs.frame.serve_next.Statement.{statement}
 use Rattle.program.proofs.frame.serve_next.Tie as tie

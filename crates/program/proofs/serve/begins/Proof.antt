@@ -2,7 +2,6 @@
 -- Assumes nothing.
 use Rattle.program.proofs.Beginnings.{begins-yes, begins-no}
 use Rattle.program.proofs.Beginnings.{begins-yes, begins-no}
-use native.Mathlib.Omega.{arith}
 use borrow.Author.Needs.{needs}
 use Rattle.program.proofs.serve.begins.Statement.{statement}
 use Rattle.program.proofs.serve.begins.Tie as tie

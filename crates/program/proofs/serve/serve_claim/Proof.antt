@@ -4,7 +4,6 @@ use mathlib.Core.Path.{_≡_}
 use mir.Syntax.{w64}
 use mir.Val.{toZ, ofZ}
 use Rattle.program.proofs.Serving.{claim-told, claim-shown}
-use native.Mathlib.Omega.{arith}
 use borrow.Author.Needs.{needs}
 use Rattle.program.proofs.serve.serve_claim.Statement.{statement}
 use Rattle.program.proofs.serve.serve_claim.Tie as tie

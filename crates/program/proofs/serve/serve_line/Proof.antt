@@ -2,7 +2,6 @@
 -- Assumes nothing.
 use Rattle.text.specs.Text.{ascii}
 use Rattle.program.proofs.Beginnings.{begins-line}
-use native.Mathlib.Omega.{arith}
 use borrow.Author.Needs.{needs}
 use Rattle.program.proofs.serve.serve_line.Statement.{statement}
 use Rattle.program.proofs.serve.serve_line.Tie as tie

@@ -4,7 +4,6 @@ use mathlib.Core.Path.{_≡_}
 use mir.Syntax.{w64}
 use mir.Val.{toZ, ofZ}
 use Rattle.program.proofs.Serving.{step-served}
-use native.Mathlib.Omega.{arith}
 use borrow.Author.Needs.{needs}
 use Rattle.program.proofs.serve.serve_step.Statement.{statement}
 use Rattle.program.proofs.serve.serve_step.Tie as tie

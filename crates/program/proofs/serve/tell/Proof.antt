@@ -4,7 +4,6 @@ use mathlib.Core.Path.{ap, _∙_}
 use mir.Facts.{toZ-ofZ}
 use Rattle.program.specs.Frames.{refusalIn}
 use Rattle.program.proofs.Serving.{tells-none, tells-room, tells-written}
-use native.Mathlib.Omega.{arith}
 use borrow.Author.Needs.{needs}
 use Rattle.program.proofs.serve.tell.Statement.{statement}
 use Rattle.program.proofs.serve.tell.Tie as tie
