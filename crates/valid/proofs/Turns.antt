@@ -12,10 +12,11 @@ use lib.Seq.{drop-cons, take-suc, take-all, take-suc-set, take-add, take-take, t
 use borrow.Author.Tests.{ne-eqb, le-leb, lt-leb, lt-ltb, le-ltb, leb-true, leb-false, ltb-true, ltb-false}
 use Rattle.graph.specs.KeyLists.{contains, above, rising}
 use Rattle.queue.proofs.Places.{and-left, and-right}
+use Rattle.records.specs.declared.node.NodeRecord.{NodeRecord}
 use Rattle.records.specs.declared.op.OpRecord.{OpRecord}
 use Rattle.records.specs.declared.result.ResultRecord.{ResultRecord}
 use Rattle.valid.specs.Values.{labelsOf}
-use Rattle.valid.specs.Tests.{walk, eightAndZeros, keyAbove, keyPlaces, isAdd, addsAmong, opLabels, resultLabels, givenOnce, four, Gathers, Padded}
+use Rattle.valid.specs.Tests.{walk, eightAndZeros, keyAbove, keyPlaces, keysOk, nodeOk, opOk, resultOk, isAdd, addsAmong, opLabels, resultLabels, givenOnce, four, Gathers, Padded}
 
 -- WALKS
 module _ {S A : Type 0} (ok : S → A → Bool) (next : S → A → S) (xs : List A) (d : A) (i : ℕ) (st : S) where
@@ -176,6 +177,19 @@ rising-keys (suc n) low (x ∷ xs) e =
     (and-both (ltb low x) (leb x 64) (ltb 0 x) (leb x 64) (λ h. lt-ltb 0 x (omega (arith, ltb-true low x h))) (λ h. h))
     (rising-keys n x xs)
     e
+
+-- RECORDS whose keys are refused
+pub node-keys : (i : ℕ) (r : NodeRecord) → keysOk false (r .links) ≡ false → nodeOk i r ≡ false
+unfolding nodeOk
+node-keys i r e = simp (e, and-false)
+
+pub op-keys : (n prev : ℕ) (o : OpRecord) → keysOk true (o .targets) ≡ false → opOk n prev o ≡ false
+unfolding opOk
+op-keys n prev o e = simp (e, and-false)
+
+pub result-keys : (prev : ℕ) (r : ResultRecord) → keysOk true (r .left) ≡ false → resultOk prev r ≡ false
+unfolding resultOk
+result-keys prev r e = simp (e, and-false)
 
 -- ADDS
 module _ (os : List OpRecord) (d : OpRecord) (i : ℕ) where

@@ -28,18 +28,15 @@ ghost use Rattle.valid.specs.Values.{taggedOf};
 ghost use Rattle.valid.specs.Tests.{keysOk, nodeOk, opOk, resultOk, nodesOk, opsOk, resultsOk, addsAmong};
 
 // The keys are compared as bytes: as places, the key that was read would become the next place, and each read would wait for the one before.
-fn node_ok(i: usize, r: NodeRecord, links: bool) -> bool
-    requires { ⌜ (i < 64) × (links ≡ keysOk false (r .links)) ⌝ }
+fn node_ok(i: usize, r: NodeRecord) -> bool
+    requires { ⌜ (i < 64) × (keysOk false (r .links) ≡ true) ⌝ }
     ensures { λ b. ⌜ b ≡ nodeOk i r ⌝ }
 {
     let key = (i + 1) as u8;
     if r.key != key {
         return false;
     }
-    if r.spare != 0 {
-        return false;
-    }
-    links
+    r.spare == 0
 }
 
 // Node keys rise from 1, and each node keeps the limits.
@@ -52,9 +49,11 @@ pub fn nodes_ok(image: &[u8]) -> bool
     let most = MOST;
     let mut i: usize = 0;
     while i < n {
-        let at = 21 + 16 * i;
-        let links = keys_ok(false, &image[at..at + 9], &least, &most);
-        if !node_ok(i, node_at(image, i), links) {
+        let links = 21 + 16 * i;
+        if !keys_ok(false, &image[links..links + 9], &least, &most) {
+            return false;
+        }
+        if !node_ok(i, node_at(image, i)) {
             return false;
         }
         i += 1;
@@ -94,8 +93,8 @@ fn follows_ok(prev: u8, o: OpRecord) -> bool
     p != 65
 }
 
-fn op_ok(n: usize, prev: u8, o: OpRecord, fit: bool) -> bool
-    requires { ⌜ fit ≡ keysOk true (o .targets) ⌝ }
+fn op_ok(n: usize, prev: u8, o: OpRecord) -> bool
+    requires { ⌜ keysOk true (o .targets) ≡ true ⌝ }
     ensures { λ b. ⌜ b ≡ opOk n prev o ⌝ }
 {
     let kind = o.kind;
@@ -117,9 +116,6 @@ fn op_ok(n: usize, prev: u8, o: OpRecord, fit: bool) -> bool
         return false;
     }
     if !targets_ok(kind, targets.count) {
-        return false;
-    }
-    if !fit {
         return false;
     }
     if !labels_ok(most_of(kind), labels) {
@@ -144,9 +140,11 @@ pub fn ops_ok(image: &[u8]) -> bool
     let mut i: usize = 0;
     while i < m {
         let o = op_at(image, i);
-        let at = 1052 + 32 * i;
-        let fit = keys_ok(true, &image[at..at + 9], &least, &most);
-        if !op_ok(n, prev, o, fit) {
+        let targets = 1052 + 32 * i;
+        if !keys_ok(true, &image[targets..targets + 9], &least, &most) {
+            return false;
+        }
+        if !op_ok(n, prev, o) {
             return false;
         }
         prev = o.station;
@@ -155,17 +153,14 @@ pub fn ops_ok(image: &[u8]) -> bool
     true
 }
 
-fn result_ok(prev: u16, r: ResultRecord, left: bool) -> bool
-    requires { ⌜ left ≡ keysOk true (r .left) ⌝ }
+fn result_ok(prev: u16, r: ResultRecord) -> bool
+    requires { ⌜ keysOk true (r .left) ≡ true ⌝ }
     ensures { λ b. ⌜ b ≡ resultOk prev r ⌝ }
 {
     if r.label <= prev {
         return false;
     }
-    if r.spare != 0 {
-        return false;
-    }
-    left
+    r.spare == 0
 }
 
 // Results stand by rising label, and each keeps the limits.
@@ -180,9 +175,11 @@ pub fn results_ok(image: &[u8]) -> bool
     let mut i: usize = 0;
     while i < m {
         let r = result_at(image, i);
-        let at = 3094 + 16 * i;
-        let left = keys_ok(true, &image[at..at + 9], &least, &most);
-        if !result_ok(prev, r, left) {
+        let left = 3094 + 16 * i;
+        if !keys_ok(true, &image[left..left + 9], &least, &most) {
+            return false;
+        }
+        if !result_ok(prev, r) {
             return false;
         }
         prev = r.label;

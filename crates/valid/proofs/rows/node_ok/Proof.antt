@@ -1,6 +1,9 @@
 -- `rows::node_ok` meets its contract.
 -- Assumes nothing.
+use mathlib.Core.Path.{sym}
 use Prim.Native.Nat.{_+_, _-_}
+use mathlib.Core.Bool.{and-true}
+use lib.Dec.{eqb}
 use borrow.Author.Tests.{eq-eqb, ne-eqb}
 use Rattle.valid.specs.Tests.{nodeOk}
 use borrow.Author.Needs.{needs}
@@ -24,14 +27,8 @@ returns c =
 returns-2 : tie.Need-returns-2
 unfolding nodeOk
 returns-2 c =
-    let a = c .before .before .before .before .args in
-    rw (eq-eqb (a .r .key) (a .i + 1) (c .before .before .if1 .left), ne-eqb (a .r .spare) 0 (c .if2 .taken))
-
-returns-3 : tie.Need-returns-3
-unfolding nodeOk
-returns-3 c =
-    let a = c .before .before .before .before .args in
-    rw (eq-eqb (a .r .key) (a .i + 1) (c .before .before .if1 .left), eq-eqb (a .r .spare) 0 (c .if2 .left)) (c .before .before .before .before .pre .1)
+    let a = c .before .before .before .args in
+    rw (eq-eqb (a .r .key) (a .i + 1) (c .before .if1 .left), c .before .before .before .pre .1) (sym (and-true (eqb (a .r .spare) 0)))
 
 pub node-ok-spec : {M : Type 1} → statement M
-node-ok-spec = tie.close (tie.spec add-key cast-key returns returns-2 returns-3)
+node-ok-spec = tie.close (tie.spec add-key cast-key returns returns-2)

@@ -2,13 +2,13 @@
 -- Assumes nothing.
 use mathlib.Core.Path.{_≡_, refl, sym, ap, _∙_}
 use Prim.Native.Nat.{_+_, _-_, _≤_, _<_}
-use mathlib.Core.Bool.{false}
-use lib.ListN.{length, drop}
+use mathlib.Core.Bool.{true, false}
+use lib.ListN.{length, getD, drop}
 use borrow.Author.Tests.{not-true, not-false}
 use Rattle.records.specs.declared.node.NodeRecord.{NodeRecord}
 use Rattle.image.specs.Layout.{view, blank, nodeRegion}
 use Rattle.valid.specs.Tests.{walk, keysOk, nodeOk, nodesOk}
-use Rattle.valid.proofs.Turns.{walk-next, walk-not, walk-end}
+use Rattle.valid.proofs.Turns.{walk-next, walk-not, walk-end, node-keys}
 use Rattle.valid.proofs.InPlace.{links-of}
 use borrow.Author.Needs.{needs}
 use native.Mathlib.Omega.{arith}
@@ -29,11 +29,11 @@ node-count-requires c κs = search needs
 loop-holds : tie.Need-loop-holds Inv-loop μ-loop
 loop-holds c = (omega arith, refl)
 
-mul-at : tie.Need-mul-at Inv-loop μ-loop
-mul-at c = search needs
+mul-links : tie.Need-mul-links Inv-loop μ-loop
+mul-links c = search needs
 
-add-at : tie.Need-add-at Inv-loop μ-loop
-add-at c = search needs
+add-links : tie.Need-add-links Inv-loop μ-loop
+add-links c = search needs
 
 add-keys-ok : tie.Need-add-keys-ok Inv-loop μ-loop
 add-keys-ok c = search needs
@@ -56,24 +56,33 @@ slice-aggregate-keys-ok-2 c = search needs
 keys-ok-requires : tie.Need-keys-ok-requires Inv-loop μ-loop
 keys-ok-requires c κs = search needs
 
+returns : tie.Need-returns Inv-loop μ-loop
+returns c =
+    let l = c .before .before .before .before .before .before .loop in
+    let s = c .before .before .before .before .before .before .before .before .before .args .image .now in
+    let xs = view s .nodes in
+    let h : l .i < length xs = omega (arith, c .before .before .before .before .before .loop-test .taken, c .before .before .before .before .before .before .before .node-count .ensures) in
+    let e : keysOk false (getD xs (l .i) (blank nodeRegion) .links) ≡ false = sym (c .before .keys-ok .ensures ∙ ap (keysOk false) (links-of s (l .i) h)) ∙ not-true _ (c .if1 .taken) in
+    sym (walk-not nodeOk (λ k r. k + 1) xs (blank nodeRegion) _ _ h (node-keys _ _ e)) ∙ l .inv .1
+
 node-at-requires : tie.Need-node-at-requires Inv-loop μ-loop
 node-at-requires c κs = search needs
 
 node-ok-requires : tie.Need-node-ok-requires Inv-loop μ-loop
 node-ok-requires c κs =
-    let s = c .before .before .before .before .before .before .before .before .before .args .image .now in
-    let i = c .before .before .before .before .before .before .loop .i in
-    let h : i < length (view s .nodes) = omega (arith, c .before .before .before .before .before .loop-test .taken, c .before .before .before .before .before .before .before .node-count .ensures) in (
-      omega (arith, h, c .before .before .before .before .before .before .before .before .before .pre .nodes),
-      c .before .keys-ok .ensures ∙ ap (keysOk false) (links-of s i h) ∙ ap (λ (r : NodeRecord). keysOk false (r .links)) (sym (c .node-at .ensures)),
-    )
+    let l = c .before .before .before .before .before .before .before .loop in
+    let s = c .before .before .before .before .before .before .before .before .before .before .args .image .now in
+    let xs = view s .nodes in
+    let h : l .i < length xs = omega (arith, c .before .before .before .before .before .before .loop-test .taken, c .before .before .before .before .before .before .before .before .node-count .ensures) in
+    (omega (arith, h, c .before .before .before .before .before .before .before .before .before .before .pre .nodes), ap (λ (r : NodeRecord). keysOk false (r .links)) (c .node-at .ensures) ∙ sym (c .before .before .keys-ok .ensures ∙ ap (keysOk false) (links-of s (l .i) h)) ∙ not-false _ (c .before .if1 .left))
 
-returns : tie.Need-returns Inv-loop μ-loop
-returns c =
-    let l = c .before .before .before .before .before .before .before .before .loop in
-    let xs = view (c .before .before .before .before .before .before .before .before .before .before .before .args .image .now) .nodes in
-    let h : l .i < length xs = omega (arith, c .before .before .before .before .before .before .before .loop-test .taken, c .before .before .before .before .before .before .before .before .before .node-count .ensures) in
-    sym (walk-not nodeOk (λ k r. k + 1) xs (blank nodeRegion) _ _ h (ap (nodeOk (l .i)) (sym (c .before .before .node-at .ensures)) ∙ sym (c .before .node-ok .ensures) ∙ not-true _ (c .if1 .taken))) ∙ l .inv .1
+returns-2 : tie.Need-returns-2 Inv-loop μ-loop
+returns-2 c =
+    let l = c .before .before .before .before .before .before .before .before .before .loop in
+    let s = c .before .before .before .before .before .before .before .before .before .before .before .before .args .image .now in
+    let xs = view s .nodes in
+    let h : l .i < length xs = omega (arith, c .before .before .before .before .before .before .before .before .loop-test .taken, c .before .before .before .before .before .before .before .before .before .before .node-count .ensures) in
+    sym (walk-not nodeOk (λ k r. k + 1) xs (blank nodeRegion) _ _ h (ap (nodeOk (l .i)) (sym (c .before .before .node-at .ensures)) ∙ sym (c .before .node-ok .ensures) ∙ not-true _ (c .if2 .taken))) ∙ l .inv .1
 
 add-i : tie.Need-add-i Inv-loop μ-loop
 add-i c = search needs
@@ -83,16 +92,18 @@ loop-less c = search needs
 
 loop-again : tie.Need-loop-again Inv-loop μ-loop
 loop-again c =
-    let l = c .before .before .before .before .before .before .before .before .loop in
-    let xs = view (c .before .before .before .before .before .before .before .before .before .before .before .args .image .now) .nodes in
-    let h : l .i < length xs = omega (arith, c .before .before .before .before .before .before .before .loop-test .taken, c .before .before .before .before .before .before .before .before .before .node-count .ensures) in
-    (omega arith, walk-next nodeOk (λ k r. k + 1) xs (blank nodeRegion) _ _ h (ap (nodeOk (l .i)) (sym (c .before .before .node-at .ensures)) ∙ sym (c .before .node-ok .ensures) ∙ not-false _ (c .if1 .left)) ∙ l .inv .1)
+    let l = c .before .before .before .before .before .before .before .before .before .loop in
+    let s = c .before .before .before .before .before .before .before .before .before .before .before .before .args .image .now in
+    let xs = view s .nodes in
+    let h : l .i < length xs = omega (arith, c .before .before .before .before .before .before .before .before .loop-test .taken, c .before .before .before .before .before .before .before .before .before .before .node-count .ensures) in
+    (omega arith, walk-next nodeOk (λ k r. k + 1) xs (blank nodeRegion) _ _ h (ap (nodeOk (l .i)) (sym (c .before .before .node-at .ensures)) ∙ sym (c .before .node-ok .ensures) ∙ not-false _ (c .if2 .left)) ∙ l .inv .1)
 
-returns-2 : tie.Need-returns-2 Inv-loop μ-loop
-returns-2 c =
+returns-3 : tie.Need-returns-3 Inv-loop μ-loop
+returns-3 c =
+    let l = c .before .loop in
     let xs = view (c .before .before .before .before .args .image .now) .nodes in
-    let h : length xs ≤ c .before .loop .i = omega (arith, c .before .before .node-count .ensures) in
-    sym (walk-end nodeOk (λ k r. k + 1) xs (blank nodeRegion) _ _ h) ∙ c .before .loop .inv .1
+    let h : length xs ≤ l .i = omega (arith, c .before .before .node-count .ensures) in
+    sym (walk-end nodeOk (λ k r. k + 1) xs (blank nodeRegion) _ _ h) ∙ l .inv .1
 
 pub nodes-ok-spec : {M : Type 1} → statement M
 nodes-ok-spec =
@@ -102,8 +113,8 @@ nodes-ok-spec =
     μ-loop
     node-count-requires
     loop-holds
-    mul-at
-    add-at
+    mul-links
+    add-links
     add-keys-ok
     sub-keys-ok
     part-keys-ok-start
@@ -111,10 +122,11 @@ nodes-ok-spec =
     slice-aggregate-keys-ok
     slice-aggregate-keys-ok-2
     keys-ok-requires
+    returns
     node-at-requires
     node-ok-requires
-    returns
+    returns-2
     add-i
     loop-less
     loop-again
-    returns-2)
+    returns-3)

@@ -49,27 +49,23 @@ returns-6 : tie.Need-returns-6
 unfolding opOk
 returns-6 c = rw (sym (c .before .before .before .before .before .before .before .before .before .before .place-ok .ensures) ∙ not-false _ (c .before .before .before .before .before .before .before .before .before .if1 .left), sym (c .before .before .before .before .before .before .before .before .follows-ok .ensures) ∙ not-false _ (c .before .before .before .before .before .before .before .if2 .left), le-leb (c .before .before .before .before .before .before .before .before .before .before .before .before .before .args .o .kind) 7 (c .before .before .before .before .before .before .if3 .left), sym (c .before .before .before .before .before .operand-ok .ensures) ∙ not-false _ (c .before .before .before .before .if4 .left), sym (c .before .before .before .numbers-ok .ensures) ∙ not-false _ (c .before .before .if5 .left), sym (c .before .targets-ok .ensures) ∙ not-true _ (c .if6 .taken))
 
-returns-7 : tie.Need-returns-7
-unfolding opOk
-returns-7 c = rw (sym (c .before .before .before .before .before .before .before .before .before .before .before .place-ok .ensures) ∙ not-false _ (c .before .before .before .before .before .before .before .before .before .before .if1 .left), sym (c .before .before .before .before .before .before .before .before .before .follows-ok .ensures) ∙ not-false _ (c .before .before .before .before .before .before .before .before .if2 .left), le-leb (c .before .before .before .before .before .before .before .before .before .before .before .before .before .before .args .o .kind) 7 (c .before .before .before .before .before .before .before .if3 .left), sym (c .before .before .before .before .before .before .operand-ok .ensures) ∙ not-false _ (c .before .before .before .before .before .if4 .left), sym (c .before .before .before .before .numbers-ok .ensures) ∙ not-false _ (c .before .before .before .if5 .left), sym (c .before .before .targets-ok .ensures) ∙ not-false _ (c .before .if6 .left), sym (c .before .before .before .before .before .before .before .before .before .before .before .before .before .before .pre) ∙ not-true _ (c .if7 .taken))
-
 most-of-requires : tie.Need-most-of-requires
 most-of-requires c κs = search needs
 
 labels-ok-requires : tie.Need-labels-ok-requires
 labels-ok-requires c κs = search needs
 
+returns-7 : tie.Need-returns-7
+unfolding opOk
+returns-7 c = rw (sym (c .before .before .before .before .before .before .before .before .before .before .before .before .before .place-ok .ensures) ∙ not-false _ (c .before .before .before .before .before .before .before .before .before .before .before .before .if1 .left), sym (c .before .before .before .before .before .before .before .before .before .before .before .follows-ok .ensures) ∙ not-false _ (c .before .before .before .before .before .before .before .before .before .before .if2 .left), le-leb (c .before .before .before .before .before .before .before .before .before .before .before .before .before .before .before .before .args .o .kind) 7 (c .before .before .before .before .before .before .before .before .before .if3 .left), sym (c .before .before .before .before .before .before .before .before .operand-ok .ensures) ∙ not-false _ (c .before .before .before .before .before .before .before .if4 .left), sym (c .before .before .before .before .before .before .numbers-ok .ensures) ∙ not-false _ (c .before .before .before .before .before .if5 .left), sym (c .before .before .before .before .targets-ok .ensures) ∙ not-false _ (c .before .before .before .if6 .left), c .before .before .before .before .before .before .before .before .before .before .before .before .before .before .before .before .pre, sym (c .before .labels-ok .ensures ∙ ap (λ (m : ℕ). labelsOk m (c .before .before .before .before .before .before .before .before .before .before .before .before .before .before .before .before .args .o .labels)) (c .before .before .most-of .ensures)) ∙ not-true _ (c .if7 .taken))
+
 returns-8 : tie.Need-returns-8
 unfolding opOk
-returns-8 c = rw (sym (c .before .before .before .before .before .before .before .before .before .before .before .before .before .before .place-ok .ensures) ∙ not-false _ (c .before .before .before .before .before .before .before .before .before .before .before .before .before .if1 .left), sym (c .before .before .before .before .before .before .before .before .before .before .before .before .follows-ok .ensures) ∙ not-false _ (c .before .before .before .before .before .before .before .before .before .before .before .if2 .left), le-leb (c .before .before .before .before .before .before .before .before .before .before .before .before .before .before .before .before .before .args .o .kind) 7 (c .before .before .before .before .before .before .before .before .before .before .if3 .left), sym (c .before .before .before .before .before .before .before .before .before .operand-ok .ensures) ∙ not-false _ (c .before .before .before .before .before .before .before .before .if4 .left), sym (c .before .before .before .before .before .before .before .numbers-ok .ensures) ∙ not-false _ (c .before .before .before .before .before .before .if5 .left), sym (c .before .before .before .before .before .targets-ok .ensures) ∙ not-false _ (c .before .before .before .before .if6 .left), sym (c .before .before .before .before .before .before .before .before .before .before .before .before .before .before .before .before .before .pre) ∙ not-false _ (c .before .before .before .if7 .left), sym (c .before .labels-ok .ensures ∙ ap (λ (m : ℕ). labelsOk m (c .before .before .before .before .before .before .before .before .before .before .before .before .before .before .before .before .before .args .o .labels)) (c .before .before .most-of .ensures)) ∙ not-true _ (c .if8 .taken))
+returns-8 c = rw (sym (c .before .before .before .before .before .before .before .before .before .before .before .before .before .before .before .place-ok .ensures) ∙ not-false _ (c .before .before .before .before .before .before .before .before .before .before .before .before .before .before .if1 .left), sym (c .before .before .before .before .before .before .before .before .before .before .before .before .before .follows-ok .ensures) ∙ not-false _ (c .before .before .before .before .before .before .before .before .before .before .before .before .if2 .left), le-leb (c .before .before .before .before .before .before .before .before .before .before .before .before .before .before .before .before .before .before .args .o .kind) 7 (c .before .before .before .before .before .before .before .before .before .before .before .if3 .left), sym (c .before .before .before .before .before .before .before .before .before .before .operand-ok .ensures) ∙ not-false _ (c .before .before .before .before .before .before .before .before .before .if4 .left), sym (c .before .before .before .before .before .before .before .before .numbers-ok .ensures) ∙ not-false _ (c .before .before .before .before .before .before .before .if5 .left), sym (c .before .before .before .before .before .before .targets-ok .ensures) ∙ not-false _ (c .before .before .before .before .before .if6 .left), c .before .before .before .before .before .before .before .before .before .before .before .before .before .before .before .before .before .before .pre, sym (c .before .before .before .labels-ok .ensures ∙ ap (λ (m : ℕ). labelsOk m (c .before .before .before .before .before .before .before .before .before .before .before .before .before .before .before .before .before .before .args .o .labels)) (c .before .before .before .before .most-of .ensures)) ∙ not-false _ (c .before .before .if7 .left), lt-leb (c .before .before .before .before .before .before .before .before .before .before .before .before .before .before .before .before .before .before .args .o .opens) 1 (c .if8 .taken))
 
 returns-9 : tie.Need-returns-9
 unfolding opOk
-returns-9 c = rw (sym (c .before .before .before .before .before .before .before .before .before .before .before .before .before .before .before .before .place-ok .ensures) ∙ not-false _ (c .before .before .before .before .before .before .before .before .before .before .before .before .before .before .before .if1 .left), sym (c .before .before .before .before .before .before .before .before .before .before .before .before .before .before .follows-ok .ensures) ∙ not-false _ (c .before .before .before .before .before .before .before .before .before .before .before .before .before .if2 .left), le-leb (c .before .before .before .before .before .before .before .before .before .before .before .before .before .before .before .before .before .before .before .args .o .kind) 7 (c .before .before .before .before .before .before .before .before .before .before .before .before .if3 .left), sym (c .before .before .before .before .before .before .before .before .before .before .before .operand-ok .ensures) ∙ not-false _ (c .before .before .before .before .before .before .before .before .before .before .if4 .left), sym (c .before .before .before .before .before .before .before .before .before .numbers-ok .ensures) ∙ not-false _ (c .before .before .before .before .before .before .before .before .if5 .left), sym (c .before .before .before .before .before .before .before .targets-ok .ensures) ∙ not-false _ (c .before .before .before .before .before .before .if6 .left), sym (c .before .before .before .before .before .before .before .before .before .before .before .before .before .before .before .before .before .before .before .pre) ∙ not-false _ (c .before .before .before .before .before .if7 .left), sym (c .before .before .before .labels-ok .ensures ∙ ap (λ (m : ℕ). labelsOk m (c .before .before .before .before .before .before .before .before .before .before .before .before .before .before .before .before .before .before .before .args .o .labels)) (c .before .before .before .before .most-of .ensures)) ∙ not-false _ (c .before .before .if8 .left), lt-leb (c .before .before .before .before .before .before .before .before .before .before .before .before .before .before .before .before .before .before .before .args .o .opens) 1 (c .if9 .taken))
-
-returns-10 : tie.Need-returns-10
-unfolding opOk
-returns-10 c = rw (sym (c .before .before .before .before .before .before .before .before .before .before .before .before .before .before .before .before .before .place-ok .ensures) ∙ not-false _ (c .before .before .before .before .before .before .before .before .before .before .before .before .before .before .before .before .if1 .left), sym (c .before .before .before .before .before .before .before .before .before .before .before .before .before .before .before .follows-ok .ensures) ∙ not-false _ (c .before .before .before .before .before .before .before .before .before .before .before .before .before .before .if2 .left), le-leb (c .before .before .before .before .before .before .before .before .before .before .before .before .before .before .before .before .before .before .before .before .args .o .kind) 7 (c .before .before .before .before .before .before .before .before .before .before .before .before .before .if3 .left), sym (c .before .before .before .before .before .before .before .before .before .before .before .before .operand-ok .ensures) ∙ not-false _ (c .before .before .before .before .before .before .before .before .before .before .before .if4 .left), sym (c .before .before .before .before .before .before .before .before .before .before .numbers-ok .ensures) ∙ not-false _ (c .before .before .before .before .before .before .before .before .before .if5 .left), sym (c .before .before .before .before .before .before .before .before .targets-ok .ensures) ∙ not-false _ (c .before .before .before .before .before .before .before .if6 .left), sym (c .before .before .before .before .before .before .before .before .before .before .before .before .before .before .before .before .before .before .before .before .pre) ∙ not-false _ (c .before .before .before .before .before .before .if7 .left), sym (c .before .before .before .before .labels-ok .ensures ∙ ap (λ (m : ℕ). labelsOk m (c .before .before .before .before .before .before .before .before .before .before .before .before .before .before .before .before .before .before .before .before .args .o .labels)) (c .before .before .before .before .before .most-of .ensures)) ∙ not-false _ (c .before .before .before .if8 .left), le-leb (c .before .before .before .before .before .before .before .before .before .before .before .before .before .before .before .before .before .before .before .before .args .o .opens) 1 (c .before .if9 .left))
+returns-9 c = rw (sym (c .before .before .before .before .before .before .before .before .before .before .before .before .before .before .before .before .place-ok .ensures) ∙ not-false _ (c .before .before .before .before .before .before .before .before .before .before .before .before .before .before .before .if1 .left), sym (c .before .before .before .before .before .before .before .before .before .before .before .before .before .before .follows-ok .ensures) ∙ not-false _ (c .before .before .before .before .before .before .before .before .before .before .before .before .before .if2 .left), le-leb (c .before .before .before .before .before .before .before .before .before .before .before .before .before .before .before .before .before .before .before .args .o .kind) 7 (c .before .before .before .before .before .before .before .before .before .before .before .before .if3 .left), sym (c .before .before .before .before .before .before .before .before .before .before .before .operand-ok .ensures) ∙ not-false _ (c .before .before .before .before .before .before .before .before .before .before .if4 .left), sym (c .before .before .before .before .before .before .before .before .before .numbers-ok .ensures) ∙ not-false _ (c .before .before .before .before .before .before .before .before .if5 .left), sym (c .before .before .before .before .before .before .before .targets-ok .ensures) ∙ not-false _ (c .before .before .before .before .before .before .if6 .left), c .before .before .before .before .before .before .before .before .before .before .before .before .before .before .before .before .before .before .before .pre, sym (c .before .before .before .before .labels-ok .ensures ∙ ap (λ (m : ℕ). labelsOk m (c .before .before .before .before .before .before .before .before .before .before .before .before .before .before .before .before .before .before .before .args .o .labels)) (c .before .before .before .before .before .most-of .ensures)) ∙ not-false _ (c .before .before .before .if7 .left), le-leb (c .before .before .before .before .before .before .before .before .before .before .before .before .before .before .before .before .before .before .before .args .o .opens) 1 (c .before .if8 .left))
 
 pub op-ok-spec : {M : Type 1} → statement M
 op-ok-spec =
@@ -86,9 +82,8 @@ op-ok-spec =
     returns-5
     targets-ok-requires
     returns-6
-    returns-7
     most-of-requires
     labels-ok-requires
+    returns-7
     returns-8
-    returns-9
-    returns-10)
+    returns-9)

@@ -2,13 +2,13 @@
 -- Assumes nothing.
 use mathlib.Core.Path.{_≡_, refl, sym, ap, _∙_}
 use Prim.Native.Nat.{ℕ, _+_, _-_, _≤_, _<_}
-use mathlib.Core.Bool.{true}
-use lib.ListN.{length, drop}
+use mathlib.Core.Bool.{true, false}
+use lib.ListN.{length, getD, drop}
 use borrow.Author.Tests.{not-true, not-false}
 use Rattle.records.specs.declared.op.OpRecord.{OpRecord}
 use Rattle.image.specs.Layout.{view, blank, opRegion}
 use Rattle.valid.specs.Tests.{walk, keysOk, opOk, opsOk}
-use Rattle.valid.proofs.Turns.{walk-next, walk-not, walk-end}
+use Rattle.valid.proofs.Turns.{walk-next, walk-not, walk-end, op-keys}
 use Rattle.valid.proofs.InPlace.{targets-of}
 use borrow.Author.Needs.{needs}
 use native.Mathlib.Omega.{arith}
@@ -35,11 +35,11 @@ loop-holds c = (omega arith, refl)
 op-at-requires : tie.Need-op-at-requires Inv-loop μ-loop
 op-at-requires c κs = search needs
 
-mul-at : tie.Need-mul-at Inv-loop μ-loop
-mul-at c = search needs
+mul-targets : tie.Need-mul-targets Inv-loop μ-loop
+mul-targets c = search needs
 
-add-at : tie.Need-add-at Inv-loop μ-loop
-add-at c = search needs
+add-targets : tie.Need-add-targets Inv-loop μ-loop
+add-targets c = search needs
 
 add-keys-ok : tie.Need-add-keys-ok Inv-loop μ-loop
 add-keys-ok c = search needs
@@ -62,20 +62,32 @@ slice-aggregate-keys-ok-2 c = search needs
 keys-ok-requires : tie.Need-keys-ok-requires Inv-loop μ-loop
 keys-ok-requires c κs = search needs
 
-op-ok-requires : tie.Need-op-ok-requires Inv-loop μ-loop
-op-ok-requires c κs =
-    let s = c .before .before .before .before .before .before .before .before .before .before .args .image .now in
-    let i = c .before .before .before .before .before .before .loop .i in
-    let h : i < length (view s .ops) = omega (arith, c .before .before .before .before .before .loop-test .taken, c .before .before .before .before .before .before .before .op-count .ensures) in
-    c .keys-ok .ensures ∙ ap (keysOk true) (targets-of s i h) ∙ ap (λ (o : OpRecord). keysOk true (o .targets)) (sym (c .before .before .before .before .op-at .ensures))
-
 returns : tie.Need-returns Inv-loop μ-loop
 returns c =
-    let l = c .before .before .before .before .before .before .before .before .loop in
-    let xs = view (c .before .before .before .before .before .before .before .before .before .before .before .before .args .image .now) .ops in
-    let n = c .before .before .before .before .before .before .before .before .before .before .node-count in
-    let h : l .i < length xs = omega (arith, c .before .before .before .before .before .before .before .loop-test .taken, c .before .before .before .before .before .before .before .before .before .op-count .ensures) in
-    sym (walk-not (opOk (n .result)) (λ p o. o .station) xs (blank opRegion) _ _ h (ap (opOk (n .result) (l .prev)) (sym (c .before .before .before .before .before .before .op-at .ensures)) ∙ sym (c .before .op-ok .ensures) ∙ not-true _ (c .if1 .taken))) ∙ l .inv .1 ∙ ap (λ (k : ℕ). opsOk k xs) (n .ensures)
+    let l = c .before .before .before .before .before .before .before .loop in
+    let s = c .before .before .before .before .before .before .before .before .before .before .before .args .image .now in
+    let xs = view s .ops in
+    let n = c .before .before .before .before .before .before .before .before .before .node-count in
+    let h : l .i < length xs = omega (arith, c .before .before .before .before .before .before .loop-test .taken, c .before .before .before .before .before .before .before .before .op-count .ensures) in
+    let e : keysOk true (getD xs (l .i) (blank opRegion) .targets) ≡ false = sym (c .before .keys-ok .ensures ∙ ap (keysOk true) (targets-of s (l .i) h)) ∙ not-true _ (c .if1 .taken) in
+    sym (walk-not (opOk (n .result)) (λ p o. o .station) xs (blank opRegion) _ _ h (op-keys _ _ _ e)) ∙ l .inv .1 ∙ ap (λ (k : ℕ). opsOk k xs) (n .ensures)
+
+op-ok-requires : tie.Need-op-ok-requires Inv-loop μ-loop
+op-ok-requires c κs =
+    let l = c .before .before .before .before .before .before .before .loop in
+    let s = c .before .before .before .before .before .before .before .before .before .before .before .args .image .now in
+    let xs = view s .ops in
+    let h : l .i < length xs = omega (arith, c .before .before .before .before .before .before .loop-test .taken, c .before .before .before .before .before .before .before .before .op-count .ensures) in
+    ap (λ (r : OpRecord). keysOk true (r .targets)) (c .before .before .before .before .before .op-at .ensures) ∙ sym (c .before .keys-ok .ensures ∙ ap (keysOk true) (targets-of s (l .i) h)) ∙ not-false _ (c .if1 .left)
+
+returns-2 : tie.Need-returns-2 Inv-loop μ-loop
+returns-2 c =
+    let l = c .before .before .before .before .before .before .before .before .before .loop in
+    let s = c .before .before .before .before .before .before .before .before .before .before .before .before .before .args .image .now in
+    let xs = view s .ops in
+    let n = c .before .before .before .before .before .before .before .before .before .before .before .node-count in
+    let h : l .i < length xs = omega (arith, c .before .before .before .before .before .before .before .before .loop-test .taken, c .before .before .before .before .before .before .before .before .before .before .op-count .ensures) in
+    sym (walk-not (opOk (n .result)) (λ p o. o .station) xs (blank opRegion) _ _ h (ap (opOk (n .result) (l .prev)) (sym (c .before .before .before .before .before .before .before .op-at .ensures)) ∙ sym (c .before .op-ok .ensures) ∙ not-true _ (c .if2 .taken))) ∙ l .inv .1 ∙ ap (λ (k : ℕ). opsOk k xs) (n .ensures)
 
 add-i : tie.Need-add-i Inv-loop μ-loop
 add-i c = search needs
@@ -85,21 +97,23 @@ loop-less c = search needs
 
 loop-again : tie.Need-loop-again Inv-loop μ-loop
 loop-again c =
-    let l = c .before .before .before .before .before .before .before .before .loop in
-    let xs = view (c .before .before .before .before .before .before .before .before .before .before .before .before .args .image .now) .ops in
-    let n = c .before .before .before .before .before .before .before .before .before .before .node-count in
-    let h : l .i < length xs = omega (arith, c .before .before .before .before .before .before .before .loop-test .taken, c .before .before .before .before .before .before .before .before .before .op-count .ensures) in (
+    let l = c .before .before .before .before .before .before .before .before .before .loop in
+    let s = c .before .before .before .before .before .before .before .before .before .before .before .before .before .args .image .now in
+    let xs = view s .ops in
+    let n = c .before .before .before .before .before .before .before .before .before .before .before .node-count in
+    let h : l .i < length xs = omega (arith, c .before .before .before .before .before .before .before .before .loop-test .taken, c .before .before .before .before .before .before .before .before .before .before .op-count .ensures) in (
       omega arith,
-      ap (λ (r : OpRecord). walk (opOk (n .result)) (λ p o. o .station) (r .station) (drop (l .i + 1) xs)) (c .before .before .before .before .before .before .op-at .ensures)
-          ∙ walk-next (opOk (n .result)) (λ p o. o .station) xs (blank opRegion) _ _ h (ap (opOk (n .result) (l .prev)) (sym (c .before .before .before .before .before .before .op-at .ensures)) ∙ sym (c .before .op-ok .ensures) ∙ not-false _ (c .if1 .left)) ∙ l .inv .1,
+      ap (λ (r : OpRecord). walk (opOk (n .result)) (λ p o. o .station) (r .station) (drop (l .i + 1) xs)) (c .before .before .before .before .before .before .before .op-at .ensures)
+          ∙ walk-next (opOk (n .result)) (λ p o. o .station) xs (blank opRegion) _ _ h (ap (opOk (n .result) (l .prev)) (sym (c .before .before .before .before .before .before .before .op-at .ensures)) ∙ sym (c .before .op-ok .ensures) ∙ not-false _ (c .if2 .left)) ∙ l .inv .1,
     )
 
-returns-2 : tie.Need-returns-2 Inv-loop μ-loop
-returns-2 c =
+returns-3 : tie.Need-returns-3 Inv-loop μ-loop
+returns-3 c =
+    let l = c .before .loop in
     let xs = view (c .before .before .before .before .before .args .image .now) .ops in
     let n = c .before .before .before .node-count in
-    let h : length xs ≤ c .before .loop .i = omega (arith, c .before .before .op-count .ensures) in
-    sym (walk-end (opOk (n .result)) (λ p o. o .station) xs (blank opRegion) _ _ h) ∙ c .before .loop .inv .1 ∙ ap (λ (k : ℕ). opsOk k xs) (n .ensures)
+    let h : length xs ≤ l .i = omega (arith, c .before .before .op-count .ensures) in
+    sym (walk-end (opOk (n .result)) (λ p o. o .station) xs (blank opRegion) _ _ h) ∙ l .inv .1 ∙ ap (λ (k : ℕ). opsOk k xs) (n .ensures)
 
 pub ops-ok-spec : {M : Type 1} → statement M
 ops-ok-spec =
@@ -111,8 +125,8 @@ ops-ok-spec =
     op-count-requires
     loop-holds
     op-at-requires
-    mul-at
-    add-at
+    mul-targets
+    add-targets
     add-keys-ok
     sub-keys-ok
     part-keys-ok-start
@@ -120,9 +134,10 @@ ops-ok-spec =
     slice-aggregate-keys-ok
     slice-aggregate-keys-ok-2
     keys-ok-requires
-    op-ok-requires
     returns
+    op-ok-requires
+    returns-2
     add-i
     loop-less
     loop-again
-    returns-2)
+    returns-3)

@@ -1,6 +1,9 @@
 -- `rows::result_ok` meets its contract.
 -- Assumes nothing.
-use borrow.Author.Tests.{eq-eqb, ne-eqb, lt-ltb, le-ltb}
+use mathlib.Core.Path.{sym}
+use mathlib.Core.Bool.{and-true}
+use lib.Dec.{eqb}
+use borrow.Author.Tests.{lt-ltb, le-ltb}
 use Rattle.valid.specs.Tests.{resultOk}
 use Rattle.valid.proofs.rows.result_ok.Statement.{statement}
 use Rattle.valid.proofs.rows.result_ok.Tie as tie
@@ -13,11 +16,9 @@ returns c = simp (le-ltb _ _ (c .if1 .taken))
 
 returns-2 : tie.Need-returns-2
 unfolding resultOk
-returns-2 c = simp (lt-ltb _ _ (c .before .before .if1 .left), ne-eqb _ _ (c .if2 .taken))
-
-returns-3 : tie.Need-returns-3
-unfolding resultOk
-returns-3 c = rw (lt-ltb _ _ (c .before .before .if1 .left), eq-eqb _ _ (c .if2 .left)) (c .before .before .before .before .pre)
+returns-2 c =
+    let r = c .before .before .before .args .r in
+    rw (lt-ltb _ _ (c .before .if1 .left), c .before .before .before .pre) (sym (and-true (eqb (r .spare) 0)))
 
 pub result-ok-spec : {M : Type 1} → statement M
-result-ok-spec = tie.close (tie.spec returns returns-2 returns-3)
+result-ok-spec = tie.close (tie.spec returns returns-2)

@@ -2,13 +2,13 @@
 -- Assumes nothing.
 use mathlib.Core.Path.{_≡_, refl, sym, ap, _∙_}
 use Prim.Native.Nat.{_+_, _-_, _≤_, _<_}
-use mathlib.Core.Bool.{true}
-use lib.ListN.{length, drop}
+use mathlib.Core.Bool.{true, false}
+use lib.ListN.{length, getD, drop}
 use borrow.Author.Tests.{not-true, not-false}
 use Rattle.records.specs.declared.result.ResultRecord.{ResultRecord}
 use Rattle.image.specs.Layout.{view, blank, resultRegion}
 use Rattle.valid.specs.Tests.{walk, keysOk, resultOk, resultsOk}
-use Rattle.valid.proofs.Turns.{walk-next, walk-not, walk-end}
+use Rattle.valid.proofs.Turns.{walk-next, walk-not, walk-end, result-keys}
 use Rattle.valid.proofs.InPlace.{left-of}
 use borrow.Author.Needs.{needs}
 use native.Mathlib.Omega.{arith}
@@ -32,11 +32,11 @@ loop-holds c = (omega arith, refl)
 result-at-requires : tie.Need-result-at-requires Inv-loop μ-loop
 result-at-requires c κs = search needs
 
-mul-at : tie.Need-mul-at Inv-loop μ-loop
-mul-at c = search needs
+mul-left : tie.Need-mul-left Inv-loop μ-loop
+mul-left c = search needs
 
-add-at : tie.Need-add-at Inv-loop μ-loop
-add-at c = search needs
+add-left : tie.Need-add-left Inv-loop μ-loop
+add-left c = search needs
 
 add-keys-ok : tie.Need-add-keys-ok Inv-loop μ-loop
 add-keys-ok c = search needs
@@ -59,19 +59,30 @@ slice-aggregate-keys-ok-2 c = search needs
 keys-ok-requires : tie.Need-keys-ok-requires Inv-loop μ-loop
 keys-ok-requires c κs = search needs
 
-result-ok-requires : tie.Need-result-ok-requires Inv-loop μ-loop
-result-ok-requires c κs =
-    let s = c .before .before .before .before .before .before .before .before .before .args .image .now in
-    let i = c .before .before .before .before .before .before .loop .i in
-    let h : i < length (view s .results) = omega (arith, c .before .before .before .before .before .loop-test .taken, c .before .before .before .before .before .before .before .result-count .ensures) in
-    c .keys-ok .ensures ∙ ap (keysOk true) (left-of s i h) ∙ ap (λ (r : ResultRecord). keysOk true (r .left)) (sym (c .before .before .before .before .result-at .ensures))
-
 returns : tie.Need-returns Inv-loop μ-loop
 returns c =
-    let l = c .before .before .before .before .before .before .before .before .loop in
-    let xs = view (c .before .before .before .before .before .before .before .before .before .before .before .args .image .now) .results in
-    let h : l .i < length xs = omega (arith, c .before .before .before .before .before .before .before .loop-test .taken, c .before .before .before .before .before .before .before .before .before .result-count .ensures) in
-    sym (walk-not resultOk (λ p r. r .label) xs (blank resultRegion) _ _ h (ap (resultOk (l .prev)) (sym (c .before .before .before .before .before .before .result-at .ensures)) ∙ sym (c .before .result-ok .ensures) ∙ not-true _ (c .if1 .taken))) ∙ l .inv .1
+    let l = c .before .before .before .before .before .before .before .loop in
+    let s = c .before .before .before .before .before .before .before .before .before .before .args .image .now in
+    let xs = view s .results in
+    let h : l .i < length xs = omega (arith, c .before .before .before .before .before .before .loop-test .taken, c .before .before .before .before .before .before .before .before .result-count .ensures) in
+    let e : keysOk true (getD xs (l .i) (blank resultRegion) .left) ≡ false = sym (c .before .keys-ok .ensures ∙ ap (keysOk true) (left-of s (l .i) h)) ∙ not-true _ (c .if1 .taken) in
+    sym (walk-not resultOk (λ p r. r .label) xs (blank resultRegion) _ _ h (result-keys _ _ e)) ∙ l .inv .1
+
+result-ok-requires : tie.Need-result-ok-requires Inv-loop μ-loop
+result-ok-requires c κs =
+    let l = c .before .before .before .before .before .before .before .loop in
+    let s = c .before .before .before .before .before .before .before .before .before .before .args .image .now in
+    let xs = view s .results in
+    let h : l .i < length xs = omega (arith, c .before .before .before .before .before .before .loop-test .taken, c .before .before .before .before .before .before .before .before .result-count .ensures) in
+    ap (λ (r : ResultRecord). keysOk true (r .left)) (c .before .before .before .before .before .result-at .ensures) ∙ sym (c .before .keys-ok .ensures ∙ ap (keysOk true) (left-of s (l .i) h)) ∙ not-false _ (c .if1 .left)
+
+returns-2 : tie.Need-returns-2 Inv-loop μ-loop
+returns-2 c =
+    let l = c .before .before .before .before .before .before .before .before .before .loop in
+    let s = c .before .before .before .before .before .before .before .before .before .before .before .before .args .image .now in
+    let xs = view s .results in
+    let h : l .i < length xs = omega (arith, c .before .before .before .before .before .before .before .before .loop-test .taken, c .before .before .before .before .before .before .before .before .before .before .result-count .ensures) in
+    sym (walk-not resultOk (λ p r. r .label) xs (blank resultRegion) _ _ h (ap (resultOk (l .prev)) (sym (c .before .before .before .before .before .before .before .result-at .ensures)) ∙ sym (c .before .result-ok .ensures) ∙ not-true _ (c .if2 .taken))) ∙ l .inv .1
 
 add-i : tie.Need-add-i Inv-loop μ-loop
 add-i c = search needs
@@ -81,19 +92,21 @@ loop-less c = search needs
 
 loop-again : tie.Need-loop-again Inv-loop μ-loop
 loop-again c =
-    let l = c .before .before .before .before .before .before .before .before .loop in
-    let xs = view (c .before .before .before .before .before .before .before .before .before .before .before .args .image .now) .results in
-    let h : l .i < length xs = omega (arith, c .before .before .before .before .before .before .before .loop-test .taken, c .before .before .before .before .before .before .before .before .before .result-count .ensures) in (
+    let l = c .before .before .before .before .before .before .before .before .before .loop in
+    let s = c .before .before .before .before .before .before .before .before .before .before .before .before .args .image .now in
+    let xs = view s .results in
+    let h : l .i < length xs = omega (arith, c .before .before .before .before .before .before .before .before .loop-test .taken, c .before .before .before .before .before .before .before .before .before .before .result-count .ensures) in (
       omega arith,
-      ap (λ (r : ResultRecord). walk resultOk (λ p r. r .label) (r .label) (drop (l .i + 1) xs)) (c .before .before .before .before .before .before .result-at .ensures)
-          ∙ walk-next resultOk (λ p r. r .label) xs (blank resultRegion) _ _ h (ap (resultOk (l .prev)) (sym (c .before .before .before .before .before .before .result-at .ensures)) ∙ sym (c .before .result-ok .ensures) ∙ not-false _ (c .if1 .left)) ∙ l .inv .1,
+      ap (λ (r : ResultRecord). walk resultOk (λ p r. r .label) (r .label) (drop (l .i + 1) xs)) (c .before .before .before .before .before .before .before .result-at .ensures)
+          ∙ walk-next resultOk (λ p r. r .label) xs (blank resultRegion) _ _ h (ap (resultOk (l .prev)) (sym (c .before .before .before .before .before .before .before .result-at .ensures)) ∙ sym (c .before .result-ok .ensures) ∙ not-false _ (c .if2 .left)) ∙ l .inv .1,
     )
 
-returns-2 : tie.Need-returns-2 Inv-loop μ-loop
-returns-2 c =
+returns-3 : tie.Need-returns-3 Inv-loop μ-loop
+returns-3 c =
+    let l = c .before .loop in
     let xs = view (c .before .before .before .before .args .image .now) .results in
-    let h : length xs ≤ c .before .loop .i = omega (arith, c .before .before .result-count .ensures) in
-    sym (walk-end resultOk (λ p r. r .label) xs (blank resultRegion) _ _ h) ∙ c .before .loop .inv .1
+    let h : length xs ≤ l .i = omega (arith, c .before .before .result-count .ensures) in
+    sym (walk-end resultOk (λ p r. r .label) xs (blank resultRegion) _ _ h) ∙ l .inv .1
 
 pub results-ok-spec : {M : Type 1} → statement M
 results-ok-spec =
@@ -104,8 +117,8 @@ results-ok-spec =
     result-count-requires
     loop-holds
     result-at-requires
-    mul-at
-    add-at
+    mul-left
+    add-left
     add-keys-ok
     sub-keys-ok
     part-keys-ok-start
@@ -113,9 +126,10 @@ results-ok-spec =
     slice-aggregate-keys-ok
     slice-aggregate-keys-ok-2
     keys-ok-requires
-    result-ok-requires
     returns
+    result-ok-requires
+    returns-2
     add-i
     loop-less
     loop-again
-    returns-2)
+    returns-3)
