@@ -1,18 +1,25 @@
 -- Numbers and key lists in bytes, least significant byte first, and parts of a list of bytes.
 -- Assumes nothing.
 use Prim.Native.Nat.{ℕ, zero, suc, _+_, _*_, _/_, _%_}
-use mathlib.Core.Bool.{Bool, true, false, _&&_}
+use mathlib.Core.Bool.{Bool, true, _&&_}
 use mathlib.Core.List.{List, [], _∷_, _++_}
 use lib.Dec.{eqb}
 use lib.ListN.{length, getD, take, drop}
 use Rattle.graph.specs.declared.keys.Keys.{Keys}
 
--- the number in the two bytes at `at`, and in the four
+-- the number in the two bytes at `at`, in the four, and in the eight
 abbrev pub le16 : List ℕ → ℕ → ℕ
 le16 s at = getD s at 0 + getD s (at + 1) 0 * 256
 
 abbrev pub le32 : List ℕ → ℕ → ℕ
 le32 s at = getD s at 0 + (getD s (at + 1) 0 + (getD s (at + 2) 0 + getD s (at + 3) 0 * 256) * 256) * 256
+
+abbrev pub le64 : List ℕ → ℕ → ℕ
+le64 s at =
+    getD s at 0
+    + (getD s (at + 1) 0
+    + (getD s (at + 2) 0
+    + (getD s (at + 3) 0 + (getD s (at + 4) 0 + (getD s (at + 5) 0 + (getD s (at + 6) 0 + getD s (at + 7) 0 * 256) * 256) * 256) * 256) * 256) * 256) * 256
 
 -- the two bytes of a number, and the four
 abbrev pub bytes16 : ℕ → List ℕ

@@ -1,3 +1,4 @@
+pub mod Digits
 pub mod Turns
 pub mod InPlace
 pub mod Unused

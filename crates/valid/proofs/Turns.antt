@@ -1,22 +1,41 @@
 -- One turn of each loop of the tests: the answer for the whole is the answer for what is left.
 -- Assumes nothing.
-use mathlib.Core.Path.{_≡_, refl, sym, ap, subst, _∙_}
-use Prim.Native.Nat.{ℕ, zero, suc, _+_, _-_, _≤_, _<_}
+use mathlib.Core.Path.{_≡_, refl, sym, ap, _∙_}
+use Prim.Native.Nat.{ℕ, zero, suc, _+_, _-_, _%_, _≤_, _<_}
 use native.Mathlib.Numerals.{add-one}
 use native.Mathlib.Omega.{arith}
-use mathlib.Core.Bool.{Bool, true, false, cond, not, _&&_, _||_, or-false, and-true, and-false, true≢false}
+use mathlib.Core.Bool.{Bool, true, false, cond, not, _&&_, _||_, or-false, true≢false}
 use mathlib.Core.List.{List, [], _∷_, _++_, append-assoc, append-nil}
-use lib.Dec.{eqb, leb, ltb, leb·suc-suc}
-use lib.ListN.{length, getD, set, take, drop, replicate, drop-of-length-le, length-drop, getD-replicate, List·getD-append}
-use lib.Seq.{drop-cons, take-suc, take-all, take-suc-set, take-add, take-take, take-append-add, take-at, drop-at, drop-append-le, length-take-le, getD-take, getD-drop, getD-append-add}
-use borrow.Author.Tests.{ne-eqb, le-leb, lt-leb, lt-ltb, le-ltb, leb-true, leb-false, ltb-true, ltb-false}
-use Rattle.graph.specs.KeyLists.{contains, above, rising}
-use Rattle.queue.proofs.Places.{and-left, and-right}
-use Rattle.records.specs.declared.node.NodeRecord.{NodeRecord}
+use lib.Dec.{eqb, leb, ltb}
+use lib.ListN.{length, getD, set, take, drop, replicate, drop-of-length-le, length-drop, length-set}
+use lib.Seq.{drop-cons, take-suc, take-all, take-suc-set, take-add, take-take, take-append-add, take-at, drop-at, drop-append-le, length-take-le, getD-drop, getD-set-same, getD-set-other}
+use borrow.Author.Tests.{eq-eqb, eqb-true, eqb-false, ne-eqb, le-leb, lt-leb, ltb-false}
+use Rattle.graph.specs.KeyLists.{contains}
+use Rattle.queue.proofs.Places.{and-right}
 use Rattle.records.specs.declared.op.OpRecord.{OpRecord}
 use Rattle.records.specs.declared.result.ResultRecord.{ResultRecord}
 use Rattle.valid.specs.Values.{labelsOf}
-use Rattle.valid.specs.Tests.{walk, eightAndZeros, keyAbove, keyPlaces, keysOk, nodeOk, opOk, resultOk, isAdd, addsAmong, opLabels, resultLabels, givenOnce, four, Gathers, Padded}
+use Rattle.valid.specs.Tests.{walk, isAdd, addsAmong, opLabels, resultLabels, givenOnce, Gathers, Padded}
+
+-- TESTS one after the other
+abbrev pub allOf : List Bool → Bool
+allOf [] = true
+allOf (t ∷ []) = t
+allOf (t ∷ u ∷ us) = t && allOf (u ∷ us)
+
+and-none : (a b : Bool) → b ≡ false → (a && b) ≡ false
+and-none true b e = e
+and-none false b e = refl
+
+pub none-at : (ts : List Bool) (k : ℕ) → getD ts k true ≡ false → false ≡ allOf ts
+none-at [] k e = absurd (true≢false e)
+none-at (t ∷ []) zero e = sym e
+none-at (t ∷ []) (suc k) e = absurd (true≢false e)
+none-at (t ∷ u ∷ us) zero e = sym (ap (λ (x : Bool). x && allOf (u ∷ us)) e)
+none-at (t ∷ u ∷ us) (suc k) e = sym (and-none t (allOf (u ∷ us)) (sym (none-at (u ∷ us) k e)))
+
+pub yes-test : {a b c : Bool} → a ≡ true → c ≡ b → c ≡ (a && b)
+yes-test {a} {b} {c} e q = q ∙ sym (ap (λ (x : Bool). x && b) e)
 
 -- WALKS
 module _ {S A : Type 0} (ok : S → A → Bool) (next : S → A → S) (xs : List A) (d : A) (i : ℕ) (st : S) where
@@ -31,165 +50,6 @@ module _ {S A : Type 0} (ok : S → A → Bool) (next : S → A → S) (xs : Lis
   pub walk-end : length xs ≤ i → walk ok next st (drop i xs) ≡ true
   unfolding walk
   walk-end h = rw (drop-of-length-le xs h)
-
--- KEYS
--- the first j places, of lists that need not rise: each is tested by itself
-abbrev pub outside : Bool → ℕ → Bool
-outside used x = ltb (cond used 64 0) x || ltb x (cond used 1 0)
-
-not-below : (a b : ℕ) → not (ltb a b) ≡ leb b a
-not-below a b = go (leb b a) refl
-  where
-    go : (t : Bool) → leb b a ≡ t → not (ltb a b) ≡ t
-    go true e = rw (le-ltb a b (leb-true b a e))
-    go false e = rw (lt-ltb a b (leb-false b a e))
-
-and-assoc : (a b c : Bool) → (a && (b && c)) ≡ ((a && b) && c)
-and-assoc true b c = refl
-and-assoc false b c = refl
-
-unused-place : (x : ℕ) → eqb x 0 ≡ not (outside false x)
-unused-place zero = refl
-unused-place (suc x) = rw (ne-eqb (suc x) 0 (λ e. omega arith), lt-ltb 0 (suc x) (omega arith))
-
-used-place : (x : ℕ) → keyAbove 0 x ≡ not (outside true x)
-used-place x = go (leb x 64) refl
-  where
-    go : (t : Bool) → leb x 64 ≡ t → (ltb 0 x && t) ≡ not (ltb 64 x || ltb x 1)
-    go true e = rw (le-ltb 64 x (leb-true x 64 e), not-below x 1) (and-true (ltb 0 x))
-    go false e = rw (lt-ltb 64 x (leb-false x 64 e)) (and-false (ltb 0 x))
-
-places-snoc : (n : ℕ) (xs : List ℕ) (x : ℕ) → keyPlaces false n 0 (xs ++ (x ∷ [])) ≡ (keyPlaces false n 0 xs && not (outside (ltb (length xs) n) x))
-unfolding keyPlaces
-places-snoc zero [] x = and-true (eqb x 0) ∙ unused-place x
-places-snoc (suc n) [] x = rw (lt-ltb 0 (suc n) (omega arith)) (and-true (keyAbove 0 x) ∙ used-place x)
-places-snoc zero (y ∷ ys) x =
-    rw (le-ltb (suc (length ys)) 0 (omega arith))
-    (ap (λ (b : Bool). eqb y 0 && b) (places-snoc zero ys x ∙ rw (le-ltb (length ys) 0 (omega arith))) ∙ and-assoc (eqb y 0) (keyPlaces false zero 0 ys) (not (outside false x)))
-places-snoc (suc n) (y ∷ ys) x =
-    rw (leb·suc-suc (suc (length ys)) n)
-    (ap (λ (b : Bool). keyAbove 0 y && b) (places-snoc n ys x) ∙ and-assoc (keyAbove 0 y) (keyPlaces false n 0 ys) (not (outside (ltb (length ys) n) x)))
-
-worse : (m l p : Bool) → (m || (l || not p)) ≡ not (p && not (m || l))
-worse true l true = refl
-worse true l false = refl
-worse false true true = refl
-worse false true false = refl
-worse false false true = refl
-worse false false false = refl
-
--- the bounds of place j stand at 8 - n + j
-in-table : (n j : ℕ) → n ≤ 8 → ltb (8 - n + j) 8 ≡ ltb j n
-in-table n j h = go (ltb j n) refl
-  where
-    go : (t : Bool) → ltb j n ≡ t → ltb (8 - n + j) 8 ≡ t
-    go true e = lt-ltb (8 - n + j) 8 (omega (arith, ltb-true j n e))
-    go false e = le-ltb (8 - n + j) 8 (omega (arith, ltb-false j n e))
-
-pub places-next : (xs : List ℕ) (n j : ℕ) → n ≤ 8 → j < length xs → {bad mid : Bool} {least most : ℕ}
-    → bad ≡ not (keyPlaces false n 0 (take j xs)) → least ≡ cond (ltb (8 - n + j) 8) 1 0 → most ≡ cond (ltb (8 - n + j) 8) 64 0 → mid ≡ (ltb (getD xs j 0) least || bad)
-    → (ltb most (getD xs j 0) || mid) ≡ not (keyPlaces false n 0 (take (j + 1) xs))
-places-next xs n j h i {bad} {mid} {least} {most} e l m q =
-    let x : ℕ = getD xs j 0 in
-    let used : Bool = ltb j n in
-    let size : length (take j xs) ≡ j = length-take-le j xs (omega arith) in
-    let l′ : least ≡ cond used 1 0 = l ∙ ap (λ (b : Bool). cond b 1 0) (in-table n j h) in
-    let m′ : most ≡ cond used 64 0 = m ∙ ap (λ (b : Bool). cond b 64 0) (in-table n j h) in
-    (λ k. ltb (m′ k) x || q k) ∙ (λ k. ltb (cond used 64 0) x || (ltb x (l′ k) || e k))
-    ∙ worse (ltb (cond used 64 0) x) (ltb x (cond used 1 0)) (keyPlaces false n 0 (take j xs))
-    ∙ ap not
-    (sym
-    (ap (λ (k : ℕ). keyPlaces false n 0 (take k xs)) (add-one j) ∙ ap (keyPlaces false n 0) (take-suc xs j 0 i) ∙ places-snoc n (take j xs) x
-    ∙ ap (λ (k : ℕ). keyPlaces false n 0 (take j xs) && not (outside (ltb k n) x)) size))
-
--- an entry of a table of eight and eight
-halves : (a b k : ℕ) → k < 16 → getD (replicate 8 a ++ replicate 8 b) k 0 ≡ cond (ltb k 8) a b
-halves a b k h = go (ltb k 8) refl
-  where
-    go : (t : Bool) → ltb k 8 ≡ t → getD (replicate 8 a ++ replicate 8 b) k 0 ≡ cond t a b
-    go true e = List·getD-append (replicate 8 a) (replicate 8 b) 0 k (ltb-true k 8 e) ∙ getD-replicate 8 k a 0 (ltb-true k 8 e)
-    go false e =
-        let q : k ≡ 8 + (k - 8) = omega (arith, ltb-false k 8 e) in
-        ap (λ (i : ℕ). getD (replicate 8 a ++ replicate 8 b) i 0) q ∙ getD-append-add (replicate 8 a) (replicate 8 b) (k - 8) 0 ∙ getD-replicate 8 (k - 8) b 0 (omega (arith, ltb-false k 8 e))
-
--- the same from k on, as a slice has it
-pub part-size : (k j : ℕ) (t : List ℕ) → length t ≡ 16 → k + j < 16 → j < length (take (length t - k) (drop k t))
-part-size k j t n h =
-    let q : length (take (length t - k) (drop k t)) ≡ length t - k = length-take-le (length t - k) (drop k t) (omega (arith, length-drop k t)) in
-    omega arith
-
-pub bound : (a k j : ℕ) (t : List ℕ) → t ≡ eightAndZeros a → k + j < 16 → getD (take (length t - k) (drop k t)) j 0 ≡ cond (ltb (k + j) 8) a 0
-bound a k j t e h =
-    let n : length t ≡ 16 = ap length e in
-    getD-take (length t - k) (drop k t) j 0 (omega arith) ∙ getD-drop k t j 0 ∙ ap (λ (l : List ℕ). getD l (k + j) 0) e ∙ halves a 0 (k + j) h
-
--- after the keys it does not matter whether they were to rise
-pub places-zero : (r q : Bool) (a b : ℕ) (xs : List ℕ) → keyPlaces r 0 a xs ≡ keyPlaces q 0 b xs
-unfolding keyPlaces
-places-zero r q a b [] = refl
-places-zero r q a b (x ∷ xs) = ap (λ (t : Bool). eqb x 0 && t) (places-zero r q a b xs)
-
--- keys in their places rise where their list does
-pub rising-above : (n low : ℕ) (xs : List ℕ) → keyPlaces false n 0 xs ≡ true → keyPlaces true n low xs ≡ above low (take n xs)
-unfolding keyPlaces
-rising-above zero low xs e = places-zero true false low 0 xs ∙ e
-rising-above (suc n) low [] e = refl
-rising-above (suc n) low (x ∷ xs) e =
-    let k : keyAbove 0 x ≡ true = and-left (keyAbove 0 x) (keyPlaces false n 0 xs) e in
-    rw (and-right (ltb 0 x) (leb x 64) k, and-true (ltb low x)) (ap (λ (b : Bool). ltb low x && b) (rising-above n x xs (and-right (keyAbove 0 x) (keyPlaces false n 0 xs) e)))
-
-pub rising-places : (n : ℕ) (xs : List ℕ) → keyPlaces false n 0 xs ≡ true → keyPlaces true n 0 xs ≡ rising (take n xs)
-unfolding keyPlaces
-rising-places zero xs e = places-zero true false 0 0 xs ∙ e
-rising-places (suc n) [] e = refl
-rising-places (suc n) (x ∷ xs) e =
-    rising-above (suc n) 0 (x ∷ xs) e
-    ∙ ap (λ (b : Bool). b && above x (take n xs)) (and-left (ltb 0 x) (leb x 64) (and-left (keyAbove 0 x) (keyPlaces false n 0 xs) e))
-
--- RISING: j keys are behind us
-pub rise-start : (xs : List ℕ) → above (getD xs 0 0) (drop 1 xs) ≡ rising xs
-rise-start [] = refl
-rise-start (x ∷ xs) = refl
-
-module _ (xs : List ℕ) (d j : ℕ) (h : j < length xs) where
-  pub rise-next : d < getD xs j 0 → above (getD xs j 0) (drop (j + 1) xs) ≡ above d (drop j xs)
-  rise-next l = rw (add-one, drop-cons xs j 0 h, lt-ltb d (getD xs j 0) l)
-
-  pub rise-not : getD xs j 0 ≤ d → above d (drop j xs) ≡ false
-  rise-not l = rw (drop-cons xs j 0 h, le-ltb d (getD xs j 0) l)
-
--- keys that rise are keys
-and-both : (a b c d : Bool) → (a ≡ true → c ≡ true) → (b ≡ true → d ≡ true) → (a && b) ≡ true → (c && d) ≡ true
-and-both true true c d f g e = rw (f refl, g refl)
-and-both true false c d f g e = absurd (true≢false (sym e))
-and-both false b c d f g e = absurd (true≢false (sym e))
-
-pub rising-keys : (n low : ℕ) (xs : List ℕ) → keyPlaces true n low xs ≡ true → keyPlaces false n 0 xs ≡ true
-unfolding keyPlaces
-rising-keys zero low [] e = refl
-rising-keys (suc n) low [] e = refl
-rising-keys zero low (x ∷ xs) e = e′ e
-  where
-    e′ : (eqb x 0 && keyPlaces true zero low xs) ≡ true → (eqb x 0 && keyPlaces false zero 0 xs) ≡ true
-    e′ h = sym (ap (λ (t : Bool). eqb x 0 && t) (places-zero true false low 0 xs)) ∙ h
-rising-keys (suc n) low (x ∷ xs) e =
-    and-both (keyAbove low x) (keyPlaces true n x xs) (keyAbove 0 x) (keyPlaces false n 0 xs)
-    (and-both (ltb low x) (leb x 64) (ltb 0 x) (leb x 64) (λ h. lt-ltb 0 x (omega (arith, ltb-true low x h))) (λ h. h))
-    (rising-keys n x xs)
-    e
-
--- RECORDS whose keys are refused
-pub node-keys : (i : ℕ) (r : NodeRecord) → keysOk false (r .links) ≡ false → nodeOk i r ≡ false
-unfolding nodeOk
-node-keys i r e = simp (e, and-false)
-
-pub op-keys : (n prev : ℕ) (o : OpRecord) → keysOk true (o .targets) ≡ false → opOk n prev o ≡ false
-unfolding opOk
-op-keys n prev o e = simp (e, and-false)
-
-pub result-keys : (prev : ℕ) (r : ResultRecord) → keysOk true (r .left) ≡ false → resultOk prev r ≡ false
-unfolding resultOk
-result-keys prev r e = simp (e, and-false)
 
 -- ADDS
 module _ (os : List OpRecord) (d : OpRecord) (i : ℕ) where
@@ -326,3 +186,49 @@ module _ (last : ℕ) (l : List ℕ) (i x : ℕ) (h : i < length l) (e : getD l 
 pub given-end : (last : ℕ) (l : List ℕ) (i : ℕ) → length l ≤ i → givenOnce last (drop i l) ≡ true
 unfolding givenOnce
 given-end last l i h = rw (drop-of-length-le l h)
+
+-- a label that fails is one too many for all
+given-drop : (last k : ℕ) (l : List ℕ) → givenOnce last l ≡ true → givenOnce last (drop k l) ≡ true
+unfolding givenOnce
+given-drop last zero l e = e
+given-drop last (suc k) [] e = refl
+given-drop last (suc k) (x ∷ l) e = given-drop last k l (and-right (not (contains x l)) _ (and-right (leb x last) _ (and-right (leb 1 x) _ e)))
+
+pub given-none : (last k : ℕ) (l : List ℕ) → givenOnce last (drop k l) ≡ false → false ≡ givenOnce last l
+given-none last k l e = go (givenOnce last l) refl
+  where
+    go : (b : Bool) → givenOnce last l ≡ b → false ≡ b
+    go true q = sym e ∙ given-drop last k l q
+    go false q = refl
+
+-- SEEN: the lower bytes of the labels from i on are marked
+pub record Seen (l : List ℕ) (i : ℕ) (seen : List ℕ) : Type 0 where
+  pub size : length seen ≡ 256
+  pub marked : (y : ℕ) → contains y (drop i l) ≡ true → getD seen (y % 256) 0 ≡ 1
+
+pub none-seen : (l : List ℕ) (i : ℕ) (seen : List ℕ) → length l ≤ i → length seen ≡ 256 → Seen l i seen
+none-seen l i seen h e = record { size = e; marked = λ y t. absurd (true≢false (sym t ∙ ap (contains y) (drop-of-length-le l h))) }
+
+module _ (l : List ℕ) (k : ℕ) (seen : List ℕ) (S : Seen l (k + 1) seen) (x : ℕ) where
+  -- where the lower byte is not marked, the label is not there
+  pub searched : (found : Bool) → found ≡ contains x (drop (k + 1) l) → (eqb (getD seen (x % 256) 0) 1 && found) ≡ contains x (drop (k + 1) l)
+  searched found e = go (eqb (getD seen (x % 256) 0) 1) refl (contains x (drop (k + 1) l)) refl
+    where
+      go : (m : Bool) → eqb (getD seen (x % 256) 0) 1 ≡ m → (t : Bool) → contains x (drop (k + 1) l) ≡ t → (m && found) ≡ t
+      go true a t b = e ∙ b
+      go false a true b = absurd (true≢false (sym (eq-eqb (getD seen (x % 256) 0) 1 (S .marked x b)) ∙ a))
+      go false a false b = refl
+
+  pub one-seen : k < length l → getD l k 0 ≡ x → Seen l k (set seen (x % 256) 1)
+  one-seen h e = record { size = length-set seen (x % 256) 1 ∙ S .size; marked = λ y t. go y (eqb y x) refl (sym (rest y) ∙ t) }
+    where
+      rest : (y : ℕ) → contains y (drop k l) ≡ (eqb y x || contains y (drop (k + 1) l))
+      rest y = ap (contains y) (drop-cons l k 0 h ∙ ap (λ (z : ℕ). z ∷ drop (suc k) l) e ∙ ap (λ (n : ℕ). x ∷ drop n l) (sym (add-one k)))
+
+      at : (y : ℕ) (b : Bool) → eqb (x % 256) (y % 256) ≡ b → getD seen (y % 256) 0 ≡ 1 → getD (set seen (x % 256) 1) (y % 256) 0 ≡ 1
+      at y true q m = ap (λ (n : ℕ). getD (set seen (x % 256) 1) n 0) (sym (eqb-true (x % 256) (y % 256) q)) ∙ getD-set-same seen (x % 256) 1 0 (omega (arith, S .size))
+      at y false q m = getD-set-other seen (x % 256) (y % 256) 1 0 (λ r. eqb-false (x % 256) (y % 256) q (sym r)) ∙ m
+
+      go : (y : ℕ) (b : Bool) → eqb y x ≡ b → (b || contains y (drop (k + 1) l)) ≡ true → getD (set seen (x % 256) 1) (y % 256) 0 ≡ 1
+      go y true q t = ap (λ (n : ℕ). getD (set seen (x % 256) 1) (n % 256) 0) (eqb-true y x q) ∙ getD-set-same seen (x % 256) 1 0 (omega (arith, S .size))
+      go y false q t = at y (eqb (x % 256) (y % 256)) refl (S .marked y t)

@@ -36,10 +36,6 @@ keyPlaces rise n low [] = true
 keyPlaces rise zero low (x ∷ xs) = eqb x 0 && keyPlaces rise zero low xs
 keyPlaces rise (suc n) low (x ∷ xs) = keyAbove low x && keyPlaces rise n (floorAfter rise x) xs
 
--- eight of one number, and eight zeros
-abbrev pub eightAndZeros : ℕ → List ℕ
-eightAndZeros x = replicate 8 x ++ replicate 8 0
-
 unfoldable pub keysOk : Bool → Keys → Bool
 keysOk rise ks = leb (ks .count) 8 && keyPlaces rise (ks .count) 0 (ks .key)
 

@@ -1,104 +1,82 @@
 // Tests of the parts of a record.
-use records::bytes::long;
-use records::labels::Labels;
+use records::bytes::u64_at;
 ghost use mathlib.Core.Path.{_≡_};
-ghost use mathlib.Core.Bool.{false, _||_};
-ghost use Prim.Native.Nat.{_≤_};
-ghost use lib.Dec.{ltb};
-ghost use lib.ListN.{length, drop};
-ghost use Rattle.graph.specs.KeyLists.{rising};
-ghost use Rattle.records.specs.Bytes.{allZero, keysAt};
-ghost use Rattle.valid.specs.Tests.{eightAndZeros, keyPlaces, keysOk, labelsOk, takesKey, operandOk, numbersOk, mostOf, targetsOk};
+ghost use mathlib.Core.Bool.{cond};
+ghost use Prim.Native.Nat.{_+_, _*_, _%_, _^_, _≤_};
+ghost use lib.ListN.{length};
+ghost use Rattle.records.specs.Bytes.{keysAt};
+ghost use Rattle.records.specs.Records.{labelsAt};
+ghost use Rattle.valid.specs.Tests.{keysOk, labelsOk, takesKey, operandOk, numbersOk, mostOf, targetsOk};
 
-fn below_or(bad: bool, x: u8, y: u8) -> bool
-    ensures { λ r. ⌜ r ≡ (ltb x y || bad) ⌝ }
+// The greatest number of n bytes.
+fn most_in(n: u8) -> u64
+    requires { ⌜ n ≤ 8 ⌝ }
+    ensures { λ r. ⌜ r + 1 ≡ 256 ^ n ⌝ }
 {
-    if x < y { true } else { bad }
-}
-
-// The least and the most that a place may hold: eight places with a key, then eight without. n keys look at the eight from 8 - n on.
-pub const LEAST: [u8; 16] = [1, 1, 1, 1, 1, 1, 1, 1, 0, 0, 0, 0, 0, 0, 0, 0];
-
-pub const MOST: [u8; 16] = [64, 64, 64, 64, 64, 64, 64, 64, 0, 0, 0, 0, 0, 0, 0, 0];
-
-// Keys in the first n places, zeros after them. The loop has no exit on the way, so that all eight places are compared at once.
-fn places_ok(x: &[u8], n: usize, least: &[u8], most: &[u8]) -> bool
-    requires { ⌜ (length (now x) ≡ 8) × (n ≤ 8) × (now least ≡ eightAndZeros 1) × (now most ≡ eightAndZeros 64) ⌝ }
-    ensures { λ r. ⌜ r ≡ keyPlaces false n 0 (now (x .entry)) ⌝ }
-{
-    let low = &least[8 - n..];
-    let high = &most[8 - n..];
-    let mut bad = false;
-    let mut j: usize = 0;
-    while j < x.len() {
-        bad = below_or(bad, x[j], low[j]);
-        bad = below_or(bad, high[j], x[j]);
-        j += 1;
+    match n {
+        0 => 0,
+        1 => 0xFF,
+        2 => 0xFFFF,
+        3 => 0xFFFFFF,
+        4 => 0xFFFFFFFF,
+        5 => 0xFFFFFFFFFF,
+        6 => 0xFFFFFFFFFFFF,
+        7 => 0xFFFFFFFFFFFFFF,
+        _ => 0xFFFFFFFFFFFFFFFF,
     }
-    !bad
 }
 
-// Whether the keys rise strictly.
-fn rises(x: &[u8]) -> bool
-    ensures { λ r. ⌜ r ≡ rising (now (x .entry)) ⌝ }
+// The highest bit of each of eight bytes.
+const TOPS: u64 = 0x8080808080808080;
+
+// What each key has to be above, as one number: the key before it where they are to rise, else 0.
+fn floors(rise: bool, keys: u64) -> u64
+    ensures { λ r. ⌜ r ≡ cond rise (keys % 2 ^ 56 * 256) 0 ⌝ }
 {
-    let mut j: usize = 1;
-    while j < x.len() {
-        if x[j] <= x[j - 1] {
-            return false;
-        }
-        j += 1;
+    if rise {
+        keys % 0x100000000000000 * 256
+    } else {
+        0
     }
-    true
 }
 
-// At most eight keys, strictly rising where `rise` says so, and zeros after them: x has their count and their eight places. The tables are
-// the caller's, which fills them once for all of its records.
-pub fn keys_ok(rise: bool, x: &[u8], least: &[u8], most: &[u8]) -> bool
-    requires { ⌜ (length (now x) ≡ 9) × (now least ≡ eightAndZeros 1) × (now most ≡ eightAndZeros 64) ⌝ }
-    ensures { λ r. ⌜ r ≡ keysOk rise (keysAt (now (x .entry)) 0) ⌝ }
+// At most eight keys, strictly rising where `rise` says so, and zeros after them: their count is at `at`, and their eight places are one
+// number. A byte of at most 127 is above 64 where adding 63 sets its highest bit; and x is above y where adding 127 - y sets x's.
+pub fn keys_ok(rise: bool, s: &[u8], at: usize) -> bool
+    requires { ⌜ at + 9 ≤ length (now s) ⌝ }
+    ensures { λ r. ⌜ r ≡ keysOk rise (keysAt (now (s .entry)) at) ⌝ }
 {
-    let n = long(x[0]);
+    let n = s[at];
     if 8 < n {
         return false;
     }
-    if !places_ok(&x[1..], n, least, most) {
+    let keys = u64_at(s, at + 1);
+    let most = most_in(n);
+    if most < keys {
         return false;
     }
-    if rise { rises(&x[1..n + 1]) } else { true }
-}
-
-// The labels from place n on are zero. The loop begins at 0, since a place that depends on n would have the array written to memory.
-fn unused_zero(label: [u16; 4], n: usize) -> bool
-    ensures { λ r. ⌜ r ≡ allZero (drop n label) ⌝ }
-{
-    let mut j: usize = 0;
-    while j < 4 {
-        if n <= j {
-            if label[j] != 0 {
-                return false;
-            }
-            j += 1;
-        } else {
-            j += 1;
-        }
+    if keys & TOPS != 0 {
+        return false;
     }
-    true
+    if (keys + 0x3F3F3F3F3F3F3F3F) & TOPS != 0 {
+        return false;
+    }
+    (keys + 0x7F7F7F7F7F7F7F7F - floors(rise, keys)) & TOPS == most & TOPS
 }
 
-// From one to `most` labels, and zeros after them.
-pub fn labels_ok(most: u8, l: Labels) -> bool
-    ensures { λ r. ⌜ r ≡ labelsOk most l ⌝ }
+// From one to `most` labels, and zeros after them: their count is at `at`, and their four places are one number.
+pub fn labels_ok(most: u8, s: &[u8], at: usize) -> bool
+    requires { ⌜ (at + 9 ≤ length (now s)) × (most ≤ 4) ⌝ }
+    ensures { λ r. ⌜ r ≡ labelsOk most (labelsAt (now (s .entry)) at) ⌝ }
 {
-    let n = l.count;
-    let label = l.label;
+    let n = s[at];
     if n < 1 {
         return false;
     }
     if most < n {
         return false;
     }
-    unused_zero(label, long(n))
+    u64_at(s, at + 1) <= most_in(2 * n)
 }
 
 fn takes_key(kind: u8) -> bool

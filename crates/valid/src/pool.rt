@@ -100,13 +100,24 @@ fn is_among(s: &[u16], at: usize, x: u16) -> bool
     found
 }
 
-// Each of the first n labels is from 1 to `last`, and stands once among them.
+// The same, but searched only where `seen` says that a label with x's lower byte is there.
+fn is_again(s: &[u16], at: usize, x: u16, seen: u8) -> bool
+    requires { ⌜ at + 64 ≤ length (now s) ⌝ }
+    ensures { λ r. ⌜ r ≡ (eqb seen 1 && contains x (take 64 (drop at (now (s .entry))))) ⌝ }
+{
+    if seen == 1 { is_among(s, at, x) } else { false }
+}
+
+// Each of the first n labels is from 1 to `last`, and stands once among them. They are looked at from the last one on, and `seen` keeps
+// their lower bytes: labels are as good as never 256 apart, and so hardly ever compared.
 fn given_once(s: &[u16], n: usize, last: u16) -> bool
     requires { ⌜ Padded n (now s) ⌝ }
     ensures { λ r. ⌜ r ≡ givenOnce last (take n (now (s .entry))) ⌝ }
 {
-    let mut i: usize = 0;
-    while i < n {
+    let mut seen = [0u8; 256];
+    let mut i = n;
+    while 0 < i {
+        i -= 1;
         let x = s[i];
         if x < 1 {
             return false;
@@ -114,10 +125,11 @@ fn given_once(s: &[u16], n: usize, last: u16) -> bool
         if last < x {
             return false;
         }
-        if is_among(s, i + 1, x) {
+        let low = (x % 256) as usize;
+        if is_again(s, i + 1, x, seen[low]) {
             return false;
         }
-        i += 1;
+        seen[low] = 1;
     }
     true
 }

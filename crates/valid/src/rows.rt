@@ -1,6 +1,4 @@
-// Tests of whole records, and of every record of a region.
-use crate::fields::LEAST;
-use crate::fields::MOST;
+// Tests of whole records, in place, and of every record of a region.
 use crate::fields::keys_ok;
 use crate::fields::labels_ok;
 use crate::fields::most_of;
@@ -8,35 +6,38 @@ use crate::fields::numbers_ok;
 use crate::fields::operand_ok;
 use crate::fields::targets_ok;
 use image::read::kind_at;
-use image::read::node_at;
+use image::read::label_at;
 use image::read::node_count;
-use image::read::op_at;
 use image::read::op_count;
-use image::read::result_at;
 use image::read::result_count;
+use image::read::station_at;
 use records::bytes::long;
-use records::node::NodeRecord;
-use records::op::OpRecord;
-use records::result::ResultRecord;
+use records::bytes::u16_at;
+use records::bytes::u32_at;
 ghost use mathlib.Core.Path.{_≡_};
-ghost use mathlib.Core.Bool.{true, false};
-ghost use Prim.Native.Nat.{_<_, _≤_};
+ghost use mathlib.Core.Bool.{_&&_};
+ghost use Prim.Native.Nat.{_+_, _<_};
+ghost use lib.Dec.{leb};
 ghost use lib.ListN.{length};
 ghost use Rattle.image.specs.Layout.{Sound, view};
 ghost use Rattle.queue.specs.Flat.{placed, follows};
+ghost use Rattle.records.specs.Records.{decodeNode, decodeOp, decodeResult};
 ghost use Rattle.valid.specs.Values.{taggedOf};
-ghost use Rattle.valid.specs.Tests.{keysOk, nodeOk, opOk, resultOk, nodesOk, opsOk, resultsOk, addsAmong};
+ghost use Rattle.valid.specs.Tests.{nodeOk, opOk, resultOk, nodesOk, opsOk, resultsOk, addsAmong};
 
 // The keys are compared as bytes: as places, the key that was read would become the next place, and each read would wait for the one before.
-fn node_ok(i: usize, r: NodeRecord) -> bool
-    requires { ⌜ (i < 64) × (keysOk false (r .links) ≡ true) ⌝ }
-    ensures { λ b. ⌜ b ≡ nodeOk i r ⌝ }
+fn node_ok(i: usize, r: &[u8]) -> bool
+    requires { ⌜ (i < 64) × (length (now r) ≡ 16) ⌝ }
+    ensures { λ b. ⌜ b ≡ nodeOk i (decodeNode (now (r .entry))) ⌝ }
 {
     let key = (i + 1) as u8;
-    if r.key != key {
+    if r[4] != key {
         return false;
     }
-    r.spare == 0
+    if u16_at(r, 14) != 0 {
+        return false;
+    }
+    keys_ok(false, r, 5)
 }
 
 // Node keys rise from 1, and each node keeps the limits.
@@ -45,15 +46,10 @@ pub fn nodes_ok(image: &[u8]) -> bool
     ensures { λ b. ⌜ b ≡ nodesOk (view (now (image .entry)) .nodes) ⌝ }
 {
     let n = node_count(image);
-    let least = LEAST;
-    let most = MOST;
     let mut i: usize = 0;
     while i < n {
-        let links = 21 + 16 * i;
-        if !keys_ok(false, &image[links..links + 9], &least, &most) {
-            return false;
-        }
-        if !node_ok(i, node_at(image, i)) {
+        let at = 16 + 16 * i;
+        if !node_ok(i, &image[at..at + 16]) {
             return false;
         }
         i += 1;
@@ -61,14 +57,15 @@ pub fn nodes_ok(image: &[u8]) -> bool
     true
 }
 
-fn place_ok(n: usize, o: OpRecord) -> bool
-    ensures { λ b. ⌜ b ≡ placed n (taggedOf o) ⌝ }
+fn place_ok(n: usize, r: &[u8]) -> bool
+    requires { ⌜ length (now r) ≡ 32 ⌝ }
+    ensures { λ b. ⌜ b ≡ placed n (taggedOf (decodeOp (now (r .entry)))) ⌝ }
 {
-    let p = long(o.station);
+    let p = long(r[0]);
     if p == 65 {
         return true;
     }
-    if o.kind == 0 {
+    if r[2] == 0 {
         return false;
     }
     if p < 1 {
@@ -77,14 +74,15 @@ fn place_ok(n: usize, o: OpRecord) -> bool
     p <= n
 }
 
-fn follows_ok(prev: u8, o: OpRecord) -> bool
-    ensures { λ b. ⌜ b ≡ follows prev (taggedOf o) ⌝ }
+fn follows_ok(prev: u8, r: &[u8]) -> bool
+    requires { ⌜ length (now r) ≡ 32 ⌝ }
+    ensures { λ b. ⌜ b ≡ follows prev (taggedOf (decodeOp (now (r .entry)))) ⌝ }
 {
-    let p = o.station;
+    let p = r[0];
     if p < prev {
         return false;
     }
-    if o.opens == 1 {
+    if r[1] == 1 {
         return true;
     }
     if p != prev {
@@ -93,74 +91,76 @@ fn follows_ok(prev: u8, o: OpRecord) -> bool
     p != 65
 }
 
-fn op_ok(n: usize, prev: u8, o: OpRecord) -> bool
-    requires { ⌜ keysOk true (o .targets) ≡ true ⌝ }
-    ensures { λ b. ⌜ b ≡ opOk n prev o ⌝ }
+fn op_ok(n: usize, prev: u8, r: &[u8]) -> bool
+    requires { ⌜ length (now r) ≡ 32 ⌝ }
+    ensures { λ b. ⌜ b ≡ opOk n prev (decodeOp (now (r .entry))) ⌝ }
 {
-    let kind = o.kind;
-    let targets = o.targets;
-    let labels = o.labels;
-    if !place_ok(n, o) {
+    let kind = r[2];
+    if !place_ok(n, r) {
         return false;
     }
-    if !follows_ok(prev, o) {
+    if !follows_ok(prev, r) {
         return false;
     }
     if 7 < kind {
         return false;
     }
-    if !operand_ok(kind, o.key) {
+    if !operand_ok(kind, r[3]) {
         return false;
     }
-    if !numbers_ok(kind, o.a, o.b) {
+    if !numbers_ok(kind, u32_at(r, 4), u32_at(r, 8)) {
         return false;
     }
-    if !targets_ok(kind, targets.count) {
+    if !targets_ok(kind, r[12]) {
         return false;
     }
-    if !labels_ok(most_of(kind), labels) {
+    if !keys_ok(true, r, 12) {
         return false;
     }
-    if 1 < o.opens {
+    if !labels_ok(most_of(kind), r, 21) {
         return false;
     }
-    o.spare == 0
+    if 1 < r[1] {
+        return false;
+    }
+    u16_at(r, 30) == 0
 }
 
-// The queue stands in order, and each operation keeps the limits.
+// The queue stands in order, each operation keeps the limits, and the waiting adds have room.
 pub fn ops_ok(image: &[u8]) -> bool
     requires { ⌜ Sound (now image) ⌝ }
-    ensures { λ b. ⌜ b ≡ opsOk (length (view (now (image .entry)) .nodes)) (view (now (image .entry)) .ops) ⌝ }
+    ensures { λ b. ⌜ b ≡ opsOk (length (view (now (image .entry)) .nodes)) (view (now (image .entry)) .ops) && leb (length (view (now (image .entry)) .nodes) + addsAmong (view (now (image .entry)) .ops)) 64 ⌝ }
 {
     let n = node_count(image);
     let m = op_count(image);
-    let least = LEAST;
-    let most = MOST;
     let mut prev: u8 = 0;
+    let mut adds: usize = 0;
     let mut i: usize = 0;
     while i < m {
-        let o = op_at(image, i);
-        let targets = 1052 + 32 * i;
-        if !keys_ok(true, &image[targets..targets + 9], &least, &most) {
+        let at = 1040 + 32 * i;
+        if !op_ok(n, prev, &image[at..at + 32]) {
             return false;
         }
-        if !op_ok(n, prev, o) {
-            return false;
+        prev = station_at(image, i);
+        if kind_at(image, i) == 0 {
+            adds += 1;
         }
-        prev = o.station;
         i += 1;
     }
-    true
+    n + adds <= 64
 }
 
-fn result_ok(prev: u16, r: ResultRecord) -> bool
-    requires { ⌜ keysOk true (r .left) ≡ true ⌝ }
-    ensures { λ b. ⌜ b ≡ resultOk prev r ⌝ }
+fn result_ok(prev: u16, r: &[u8]) -> bool
+    requires { ⌜ length (now r) ≡ 16 ⌝ }
+    ensures { λ b. ⌜ b ≡ resultOk prev (decodeResult (now (r .entry))) ⌝ }
 {
-    if r.label <= prev {
+    if u16_at(r, 0) <= prev {
         return false;
     }
-    r.spare == 0
+    if r[15] != 0 {
+        return false;
+    }
+    keys_ok(true, r, 6)
 }
 
 // Results stand by rising label, and each keeps the limits.
@@ -169,38 +169,15 @@ pub fn results_ok(image: &[u8]) -> bool
     ensures { λ b. ⌜ b ≡ resultsOk (view (now (image .entry)) .results) ⌝ }
 {
     let m = result_count(image);
-    let least = LEAST;
-    let most = MOST;
     let mut prev: u16 = 0;
     let mut i: usize = 0;
     while i < m {
-        let r = result_at(image, i);
-        let left = 3094 + 16 * i;
-        if !keys_ok(true, &image[left..left + 9], &least, &most) {
+        let at = 3088 + 16 * i;
+        if !result_ok(prev, &image[at..at + 16]) {
             return false;
         }
-        if !result_ok(prev, r) {
-            return false;
-        }
-        prev = r.label;
+        prev = label_at(image, i);
         i += 1;
     }
     true
-}
-
-// How many operations are adds.
-pub fn add_count(image: &[u8]) -> usize
-    requires { ⌜ Sound (now image) ⌝ }
-    ensures { λ r. ⌜ (r ≡ addsAmong (view (now (image .entry)) .ops)) × (r ≤ 64) ⌝ }
-{
-    let m = op_count(image);
-    let mut adds: usize = 0;
-    let mut i: usize = 0;
-    while i < m {
-        if kind_at(image, i) == 0 {
-            adds += 1;
-        }
-        i += 1;
-    }
-    adds
 }

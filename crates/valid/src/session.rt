@@ -1,12 +1,10 @@
 // Refusal 2, and opening.
 use crate::pool::labels_live;
-use crate::rows::add_count;
 use crate::rows::nodes_ok;
 use crate::rows::ops_ok;
 use crate::rows::results_ok;
 use crate::spaces::is_canonical;
 use crate::spaces::is_sound;
-use image::read::node_count;
 use image::shift::clear;
 ghost use mathlib.Core.Path.{_≡_};
 ghost use mathlib.Core.Bool.{cond};
@@ -33,9 +31,6 @@ pub fn image_valid(image: &[u8]) -> bool
         return false;
     }
     if !results_ok(image) {
-        return false;
-    }
-    if 64 < node_count(image) + add_count(image) {
         return false;
     }
     labels_live(image)

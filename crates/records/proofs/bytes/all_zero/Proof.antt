@@ -1,62 +1,63 @@
 -- `bytes::all_zero` meets its contract.
 -- Assumes nothing.
-use mathlib.Core.Path.{_≡_, refl, sym, ap, _∙_}
-use Prim.Native.Nat.{_-_, _≤_}
-use mathlib.Core.Bool.{Bool, _&&_}
-use lib.Dec.{eqb}
-use lib.ListN.{length, getD, take}
+use mathlib.Core.Path.{_≡_, ap, _∙_}
+use Prim.Native.Nat.{ℕ, _/_, _-_}
+use mathlib.Core.Bool.{_&&_}
+use mathlib.Core.List.{List}
+use native.Mathlib.Omega.{arith}
+use lib.ListN.{length, take, drop, length-drop}
 use lib.Seq.{take-all}
 use Rattle.records.specs.Bytes.{allZero}
-use Rattle.records.proofs.Zeros.{zero-more}
+use Rattle.records.proofs.Zeros.{zero-parts}
 use borrow.Author.Needs.{needs}
-use native.Mathlib.Omega.{arith}
 use Rattle.records.proofs.bytes.all_zero.Statement.{statement}
 use Rattle.records.proofs.bytes.all_zero.Tie as tie
 
-abbrev Inv-loop : tie.InvT-loop
-Inv-loop s most₀ i₀ most i = (i ≤ length s) × (eqb most 0 ≡ allZero (take i s))
+sub-size : tie.Need-sub-size
+sub-size c = search needs
 
-abbrev μ-loop : tie.MeasureT-loop
-μ-loop s most₀ i₀ most i = length s - i
+sub-both-zero : tie.Need-sub-both-zero
+sub-both-zero c = search needs
 
-loop-holds : tie.Need-loop-holds Inv-loop μ-loop
-unfolding allZero
-loop-holds c = (omega arith, refl)
+part-both-zero-start : tie.Need-part-both-zero-start
+part-both-zero-start c = search needs
 
-shared-slice-read-greater : tie.Need-shared-slice-read-greater Inv-loop μ-loop
-shared-slice-read-greater c = search needs
+part-both-zero-end : tie.Need-part-both-zero-end
+part-both-zero-end c = search needs
 
-greater-requires : tie.Need-greater-requires Inv-loop μ-loop
-greater-requires c κs = search needs
+sub-both-zero-2 : tie.Need-sub-both-zero-2
+sub-both-zero-2 c = search needs
 
-add-i : tie.Need-add-i Inv-loop μ-loop
-add-i c = search needs
+part-both-zero-start-2 : tie.Need-part-both-zero-start-2
+part-both-zero-start-2 c = search needs
 
-loop-less : tie.Need-loop-less Inv-loop μ-loop
-loop-less c = search needs
+part-both-zero-end-2 : tie.Need-part-both-zero-end-2
+part-both-zero-end-2 c = search needs
 
-loop-again : tie.Need-loop-again Inv-loop μ-loop
-loop-again c =
-    let l = c .before .before .before .loop in
-    let s = c .before .before .before .before .before .args .s .now in
-    (omega arith, c .greater .ensures ∙ ap (λ (b : Bool). b && eqb (getD s (l .i) 0) 0) (l .inv .1) ∙ sym (zero-more s (l .i) (c .before .before .loop-test .taken)))
+both-zero-requires : tie.Need-both-zero-requires
+both-zero-requires c κs = search needs
 
-returns : tie.Need-returns Inv-loop μ-loop
+returns : tie.Need-returns
 returns c =
-    let l = c .before .loop in
-    let s = c .before .before .before .args .s .now in
-    l .inv .1 ∙ ap allZero (take-all (l .i) s (c .loop-test .left))
+    let s = c .before .before .before .before .args .s .now in
+    let half : ℕ = length s / 2 in
+    let size : ℕ = length s - half in
+    let whole : size - 0 ≡ size = omega arith in
+    c .both-zero .ensures
+    ∙ ap (λ (k : ℕ). allZero (take k s) && allZero (take (length s - half) (drop half s))) whole
+    ∙ ap (λ (l : List ℕ). allZero (take size s) && allZero l) (take-all (length s - half) (drop half s) (omega (arith, length-drop half s)))
+    ∙ zero-parts s size half (omega arith)
 
 pub all-zero-spec : {M : Type 1} → statement M
 all-zero-spec =
     tie.close
     (tie.spec
-    Inv-loop
-    μ-loop
-    loop-holds
-    shared-slice-read-greater
-    greater-requires
-    add-i
-    loop-less
-    loop-again
+    sub-size
+    sub-both-zero
+    part-both-zero-start
+    part-both-zero-end
+    sub-both-zero-2
+    part-both-zero-start-2
+    part-both-zero-end-2
+    both-zero-requires
     returns)

@@ -1,125 +1,122 @@
 -- `fields::keys_ok` meets its contract.
 -- Assumes nothing.
 use mathlib.Core.Path.{_≡_, refl, sym, ap, _∙_}
-use Prim.Native.Nat.{ℕ, _+_, _-_, _≤_}
+use Prim.Native.Nat.{ℕ, _+_, _<_}
 use mathlib.Core.Bool.{Bool, true, false}
 use mathlib.Core.List.{List}
-use lib.ListN.{length, getD, take, drop}
-use lib.Seq.{take-take}
-use borrow.Author.Tests.{le-leb, lt-leb, not-true, not-false}
-use Rattle.graph.specs.KeyLists.{rising}
-use Rattle.records.specs.Bytes.{keysAt}
+use lib.Bits.{bitAnd}
+use lib.ListN.{getD}
+use borrow.Author.Tests.{le-leb, lt-leb}
+use Rattle.records.specs.Bytes.{le64, keysAt, bytes8}
 use Rattle.valid.specs.Tests.{keysOk, keyPlaces}
-use Rattle.valid.proofs.Turns.{rising-keys, rising-places}
-use Rattle.valid.proofs.InPlace.{places-of}
+use Rattle.valid.proofs.Digits.{sum-fits, below-fits, ok-few, ok-low, ok-64, ok-marks}
 use native.Mathlib.Omega.{arith}
 use borrow.Author.Needs.{needs}
 use Rattle.valid.proofs.fields.keys_ok.Statement.{statement}
 use Rattle.valid.proofs.fields.keys_ok.Tie as tie
-use Rattle.valid.proofs.fields.keys_ok.Reads as reads
-use Rattle.valid.proofs.fields.keys_ok.Lts as lts
 
 abbrev start : tie.Else1 → tie.Start
-start c = c .before .before .before .before .before .before
+start e = e .before .before .before
 
--- the places, as the slice after the count has them
-abbrev places : tie.Else1 → List ℕ
-places c = take (length (start c .args .x .now) - 1) (drop 1 (start c .args .x .now))
+bytes : (e : tie.Else1) (i : ℕ) → getD (start e .args .s .now) i 0 < 256
+bytes e i = e .before .before .shared-slice-known .given i .fits
+
+abbrev list : tie.Else1 → List ℕ
+list e = start e .args .s .now
+
+abbrev place : tie.Else1 → ℕ
+place e = start e .args .at + 1
 
 -- the answer for the places is the answer, where there are at most eight keys
-whole : (c : tie.Else1) {b : Bool} → b ≡ keyPlaces (start c .args .rise) (c .before .long .result) 0 (places c) → b ≡ keysOk (start c .args .rise) (keysAt (start c .args .x .now) 0)
+abbrev ok : tie.Else1 → Bool
+ok e = keyPlaces (start e .args .rise) (getD (start e .args .s .now) (start e .args .at) 0) 0 (bytes8 (start e .args .s .now) (start e .args .at + 1))
+
+whole : (e : tie.Else1) {b : Bool} → b ≡ ok e → b ≡ keysOk (start e .args .rise) (keysAt (start e .args .s .now) (start e .args .at))
 unfolding keysOk
-whole c {b} e =
-    let x = start c .args .x .now in
-    rw (le-leb (getD x 0 0) 8 (omega (arith, c .before .long .ensures, c .if1 .left)))
-    (e ∙ ap (λ (n : ℕ). keyPlaces (start c .args .rise) n 0 (places c)) (c .before .long .ensures) ∙ ap (keyPlaces (start c .args .rise) (getD x 0 0) 0) (places-of x (start c .pre .0)))
+whole e q = rw (le-leb (getD (start e .args .s .now) (start e .args .at) 0) 8 (e .if1 .left)) q
 
--- keys that do not stand in their places do not rise in them either
-no-places : (rise : Bool) (n : ℕ) (xs : List ℕ) → keyPlaces false n 0 xs ≡ false → keyPlaces rise n 0 xs ≡ false
-no-places false n xs e = e
-no-places true n xs e = go (keyPlaces true n 0 xs) refl
-  where
-    go : (t : Bool) → keyPlaces true n 0 xs ≡ t → t ≡ false
-    go true q = sym (rising-keys n 0 xs q) ∙ e
-    go false q = refl
+not-ok : (b : Bool) → (b ≡ true → ⊥) → false ≡ b
+not-ok true f = absurd (f refl)
+not-ok false f = refl
 
-shared-slice-read-long : tie.Need-shared-slice-read-long
-shared-slice-read-long c = search needs
+-- past the test of the highest bits
+low : (c : tie.Else3) → bitAnd (le64 (start (c .before .before .before .before) .args .s .now) (start (c .before .before .before .before) .args .at + 1)) 9259542123273814144 ≡ 0
+low c = ap (λ (k : ℕ). bitAnd k 9259542123273814144) (sym (c .before .before .before .u64-at .ensures)) ∙ c .if3 .left
 
-long-requires : tie.Need-long-requires
-long-requires c κs = search needs
+shared-slice-read-n : tie.Need-shared-slice-read-n
+shared-slice-read-n c = search needs
 
 returns : tie.Need-returns
 unfolding keysOk
-returns c = rw (lt-leb (getD (c .before .before .before .before .before .before .args .x .now) 0 0) 8 (omega (arith, c .before .long .ensures)))
+returns c = rw (lt-leb (getD (c .before .before .before .args .s .now) (c .before .before .before .args .at) 0) 8 (c .if1 .taken))
 
-sub-places-ok : tie.Need-sub-places-ok
-sub-places-ok c = search needs
+add-u64-at : tie.Need-add-u64-at
+add-u64-at c = search needs
 
-part-places-ok-start : tie.Need-part-places-ok-start
-part-places-ok-start c = search needs
+u64-at-requires : tie.Need-u64-at-requires
+u64-at-requires c κs = search needs
 
-part-places-ok-end : tie.Need-part-places-ok-end
-part-places-ok-end c = search needs
-
-places-ok-requires : tie.Need-places-ok-requires
-places-ok-requires c κs =
-    let r = c .before .before .before .before .before .before .before .pre in
-    (ap length (places-of (c .before .before .before .before .before .before .before .args .x .now) (r .0)), c .before .if1 .left, r .1, r .2)
+most-in-requires : tie.Need-most-in-requires
+most-in-requires c κs = search needs
 
 returns-2 : tie.Need-returns-2
 returns-2 c =
     let e = c .before .before .before in
-    whole e (sym (no-places (start e .args .rise) (e .before .long .result) (places e) (sym (c .before .places-ok .ensures) ∙ not-true _ (c .if2 .taken))))
-
-add-rises : tie.Need-add-rises
-add-rises c = search needs
-
-sub-rises : tie.Need-sub-rises
-sub-rises c = search needs
-
-part-rises-start : tie.Need-part-rises-start
-part-rises-start c = search needs
-
-part-rises-end : tie.Need-part-rises-end
-part-rises-end c = search needs
-
-rises-requires : tie.Need-rises-requires
-rises-requires c κs = search needs
+    whole e (not-ok (ok e) (λ t. omega (arith, c .if2 .taken, c .before .most-in .ensures, c .before .before .u64-at .ensures, ok-few (list e) (place e) (bytes e) (start e .args .rise) (getD (list e) (start e .args .at) 0) t)))
 
 returns-3 : tie.Need-returns-3
 returns-3 c =
-    let e = c .before .before .before .before .before .before in
-    let n : ℕ = e .before .long .result in
-    let few : n ≤ 8 = e .if1 .left in
-    let q : n + 1 - 1 ≡ n = omega arith in
-    let whole-places : take n (places e) ≡ take n (drop 1 (start e .args .x .now)) = take-take n (length (start e .args .x .now) - 1) (drop 1 (start e .args .x .now)) (omega (arith, start e .pre .0)) in
-    let kept : keyPlaces false n 0 (places e) ≡ true = sym (c .before .before .before .before .places-ok .ensures) ∙ not-false _ (c .before .before .before .if2 .left) in
-    whole e
-    (c .rises .ensures ∙ ap (λ (k : ℕ). rising (take k (drop 1 (start e .args .x .now)))) q ∙ ap rising (sym whole-places) ∙ sym (rising-places n (places e) kept)
-    ∙ ap (λ (r : Bool). keyPlaces r n 0 (places e)) (sym (c .before .before .if3 .taken)))
+    let e = c .before .before .before .before in
+    whole e (not-ok (ok e) (λ t. c .if3 .taken (ap (λ (k : ℕ). bitAnd k 9259542123273814144) (c .before .before .before .u64-at .ensures) ∙ ok-low (list e) (place e) (bytes e) (start e .args .rise) (getD (list e) (start e .args .at) 0) t)))
+
+add-if4 : tie.Need-add-if4
+add-if4 c =
+    let e = c .before .before .before .before in
+    record { fits = omega (arith, c .before .before .before .u64-at .ensures, sum-fits (list e) (place e) (bytes e) (low c)) }
 
 returns-4 : tie.Need-returns-4
 returns-4 c =
-    let e = c .before .before .before .before in
-    whole e (sym (sym (c .before .before .places-ok .ensures) ∙ not-false _ (c .before .if2 .left)) ∙ ap (λ (r : Bool). keyPlaces r (e .before .long .result) 0 (places e)) (sym (c .if3 .left)))
+    let e = c .before .before .before .before .before in
+    whole e (not-ok (ok e) (λ t. c .if4 .taken (ap (λ (k : ℕ). bitAnd (k + 4557430888798830399) 9259542123273814144) (c .before .before .before .before .u64-at .ensures) ∙ ok-64 (list e) (place e) (bytes e) (start e .args .rise) (getD (list e) (start e .args .at) 0) t)))
+
+add-result : tie.Need-add-result
+add-result c =
+    let e = c .before .before .before .before .before in
+    record { fits = omega (arith, c .before .before .before .before .u64-at .ensures, sum-fits (list e) (place e) (bytes e) (low (c .before))) }
+
+floors-requires : tie.Need-floors-requires
+floors-requires c κs = search needs
+
+sub-result : tie.Need-sub-result
+sub-result c =
+    let u = c .before .before .before .before .before .u64-at in
+    let e = c .before .before .before .before .before .before in
+    rw (c .floors .ensures, u .ensures) (below-fits (list e) (place e) (bytes e) (start e .args .rise) (low (c .before .before)))
+
+returns-5 : tie.Need-returns-5
+returns-5 c =
+    let e = c .before .before .before .before .before .before in
+    let u = c .before .before .before .before .before .u64-at in
+    let m = c .before .before .before .before .most-in in
+    whole e
+    (rw (c .floors .ensures, u .ensures)
+    (ok-marks (list e) (place e) (bytes e) (start e .args .rise) (getD (list e) (start e .args .at) 0) (e .if1 .left) (m .result) (m .ensures) (low (c .before .before)) (ap (λ (k : ℕ). bitAnd (k + 4557430888798830399) 9259542123273814144) (sym (u .ensures)) ∙ c .before .if4 .left)
+    (omega (arith, c .before .before .before .if2 .left, u .ensures))))
 
 pub keys-ok-spec : {M : Type 1} → statement M
 keys-ok-spec =
     tie.close
     (tie.spec
-    shared-slice-read-long
-    long-requires
+    shared-slice-read-n
     returns
-    sub-places-ok
-    part-places-ok-start
-    part-places-ok-end
-    places-ok-requires
+    add-u64-at
+    u64-at-requires
+    most-in-requires
     returns-2
-    add-rises
-    sub-rises
-    part-rises-start
-    part-rises-end
-    rises-requires
     returns-3
-    returns-4)
+    add-if4
+    returns-4
+    add-result
+    floors-requires
+    sub-result
+    returns-5)

@@ -1,28 +1,32 @@
 -- `pool::given_once` meets its contract.
 -- Assumes nothing.
-use mathlib.Core.Path.{_≡_, refl, sym, _∙_}
+use mathlib.Core.Path.{_≡_, refl, sym, ap, subst, _∙_}
 use Prim.Native.Nat.{ℕ, _+_, _-_, _≤_, _<_}
+use native.Mathlib.Omega.{arith}
+use mathlib.Core.Bool.{true}
 use mathlib.Core.List.{List}
 use lib.ListN.{length, getD, take, drop}
-use lib.Seq.{length-take-le, getD-take}
+use lib.Seq.{getD-take, length-take-le}
 use Rattle.valid.specs.Tests.{givenOnce, Padded}
-use Rattle.valid.proofs.Turns.{among-padded, given-zero, given-late, given-twice, given-next, given-end}
-use Rattle.valid.proofs.pool.is_among.Reads as is-among-reads
+use Rattle.valid.proofs.Turns.{among-padded, given-zero, given-late, given-twice, given-next, given-end, given-none, Seen, none-seen, searched, one-seen}
 use borrow.Author.Needs.{needs}
-use native.Mathlib.Omega.{arith}
 use Rattle.valid.proofs.pool.given_once.Statement.{statement}
 use Rattle.valid.proofs.pool.given_once.Tie as tie
-use Rattle.valid.proofs.pool.given_once.Reads as reads
-use Rattle.valid.proofs.pool.given_once.Lts as lts
 
 abbrev Inv-loop : tie.InvT-loop
-Inv-loop s n last i₀ i = (i ≤ n) × (givenOnce last (drop i (take n s)) ≡ givenOnce last (take n s))
+Inv-loop s n last seen₀ i₀ seen i = (i ≤ n) × (givenOnce last (drop i (take n s)) ≡ true) × Seen (take n s) i seen
 
 abbrev μ-loop : tie.MeasureT-loop
-μ-loop s n last i₀ i = n - i
+μ-loop s n last seen₀ i₀ seen i = i
 
 loop-holds : tie.Need-loop-holds Inv-loop μ-loop
-loop-holds c = (omega arith, refl)
+loop-holds c =
+    let a = c .before .args in
+    let size : length (take (a .n) (a .s .now)) ≡ a .n = length-take-le (a .n) (a .s .now) (omega (arith, c .before .pre .size)) in
+    (omega arith, given-end (a .last) (take (a .n) (a .s .now)) (a .n) (omega arith), none-seen (take (a .n) (a .s .now)) (a .n) _ (omega arith) refl)
+
+sub-i : tie.Need-sub-i Inv-loop μ-loop
+sub-i c = search needs
 
 mul-x : tie.Need-mul-x Inv-loop μ-loop
 mul-x c = search needs
@@ -34,44 +38,55 @@ returns : tie.Need-returns Inv-loop μ-loop
 returns c =
     let l = c .before .before .before .loop in
     let a = c .before .before .before .before .before .args in
-    let live : List ℕ = take (a .n) (a .s .now) in
     let p : Padded (a .n) (a .s .now) = c .before .before .before .before .before .pre in
+    let live : List ℕ = take (a .n) (a .s .now) in
     let size : length live ≡ a .n = length-take-le (a .n) (a .s .now) (omega (arith, p .size)) in
-    let h : l .i < length live = omega (arith, c .before .before .loop-test .taken) in
-    let e : getD live (l .i) 0 ≡ getD (a .s .now) (l .i) 0 = getD-take (a .n) (a .s .now) (l .i) 0 (c .before .before .loop-test .taken) in
-    sym (given-zero (a .last) live (l .i) _ h e (c .if1 .taken)) ∙ l .inv .1
+    let k : ℕ = l .i - 1 in
+    let h : k < length live = omega (arith, c .before .before .loop-test .taken, l .inv .0) in
+    let e : getD live k 0 ≡ getD (a .s .now) k 0 = getD-take (a .n) (a .s .now) k 0 (omega arith) in
+    given-none (a .last) k live (given-zero (a .last) live k _ h e (c .if1 .taken))
 
 returns-2 : tie.Need-returns-2 Inv-loop μ-loop
 returns-2 c =
     let l = c .before .before .before .before .loop in
     let a = c .before .before .before .before .before .before .args in
-    let live : List ℕ = take (a .n) (a .s .now) in
     let p : Padded (a .n) (a .s .now) = c .before .before .before .before .before .before .pre in
+    let live : List ℕ = take (a .n) (a .s .now) in
     let size : length live ≡ a .n = length-take-le (a .n) (a .s .now) (omega (arith, p .size)) in
-    let h : l .i < length live = omega (arith, c .before .before .before .loop-test .taken) in
-    let e : getD live (l .i) 0 ≡ getD (a .s .now) (l .i) 0 = getD-take (a .n) (a .s .now) (l .i) 0 (c .before .before .before .loop-test .taken) in
-    sym (given-late (a .last) live (l .i) _ h e (c .before .if1 .left) (c .if2 .taken)) ∙ l .inv .1
+    let k : ℕ = l .i - 1 in
+    let h : k < length live = omega (arith, c .before .before .before .loop-test .taken, l .inv .0) in
+    let e : getD live k 0 ≡ getD (a .s .now) k 0 = getD-take (a .n) (a .s .now) k 0 (omega arith) in
+    given-none (a .last) k live (given-late (a .last) live k _ h e (c .before .if1 .left) (c .if2 .taken))
 
-add-is-among : tie.Need-add-is-among Inv-loop μ-loop
-add-is-among c = search needs
+cast-low : tie.Need-cast-low Inv-loop μ-loop
+cast-low c = search needs
 
-is-among-requires : tie.Need-is-among-requires Inv-loop μ-loop
-is-among-requires c κs = search needs
+add-is-again : tie.Need-add-is-again Inv-loop μ-loop
+add-is-again c = record { fits = omega (arith, c .before .before .before .loop-test .taken, c .before .before .before .before .loop .inv .0, c .before .before .before .before .before .before .pre .few) }
+
+array-read-is-again : tie.Need-array-read-is-again Inv-loop μ-loop
+array-read-is-again c = omega arith
+
+is-again-requires : tie.Need-is-again-requires Inv-loop μ-loop
+is-again-requires c κs = omega (arith, c .before .before .before .loop-test .taken, c .before .before .before .before .loop .inv .0, c .before .before .before .before .before .before .pre .size)
 
 returns-3 : tie.Need-returns-3 Inv-loop μ-loop
 returns-3 c =
     let l = c .before .before .before .before .before .before .loop in
     let a = c .before .before .before .before .before .before .before .before .args in
-    let live : List ℕ = take (a .n) (a .s .now) in
     let p : Padded (a .n) (a .s .now) = c .before .before .before .before .before .before .before .before .pre in
+    let live : List ℕ = take (a .n) (a .s .now) in
     let size : length live ≡ a .n = length-take-le (a .n) (a .s .now) (omega (arith, p .size)) in
-    let h : l .i < length live = omega (arith, c .before .before .before .before .before .loop-test .taken) in
-    let e : getD live (l .i) 0 ≡ getD (a .s .now) (l .i) 0 = getD-take (a .n) (a .s .now) (l .i) 0 (c .before .before .before .before .before .loop-test .taken) in
-    let t = sym (among-padded (a .n) (a .s .now) p (l .i + 1) (omega arith) _ (c .before .before .before .if1 .left)) ∙ sym (c .before .is-among .ensures) ∙ c .if3 .taken in
-    sym (given-twice (a .last) live (l .i) _ h e (c .before .before .before .if1 .left) (c .before .before .if2 .left) t) ∙ l .inv .1
+    let k : ℕ = l .i - 1 in
+    let h : k < length live = omega (arith, c .before .before .before .before .before .loop-test .taken, l .inv .0) in
+    let e : getD live k 0 ≡ getD (a .s .now) k 0 = getD-take (a .n) (a .s .now) k 0 (omega arith) in
+    let back : k + 1 ≡ l .i = omega (arith, c .before .before .before .before .before .loop-test .taken) in
+    let seen : Seen live (k + 1) (l .seen) = subst (λ (m : ℕ). Seen live m (l .seen)) (sym back) (l .inv .2) in
+    let found = c .before .is-again .ensures ∙ searched live k (l .seen) seen (getD (a .s .now) k 0) _ (among-padded (a .n) (a .s .now) p (k + 1) (omega arith) _ (c .before .before .before .if1 .left)) in
+    given-none (a .last) k live (given-twice (a .last) live k _ h e (c .before .before .before .if1 .left) (c .before .before .if2 .left) (sym found ∙ c .if3 .taken))
 
-add-i : tie.Need-add-i Inv-loop μ-loop
-add-i c = search needs
+array-write-seen : tie.Need-array-write-seen Inv-loop μ-loop
+array-write-seen c = search needs
 
 loop-less : tie.Need-loop-less Inv-loop μ-loop
 loop-less c = search needs
@@ -80,20 +95,26 @@ loop-again : tie.Need-loop-again Inv-loop μ-loop
 loop-again c =
     let l = c .before .before .before .before .before .before .loop in
     let a = c .before .before .before .before .before .before .before .before .args in
-    let live : List ℕ = take (a .n) (a .s .now) in
     let p : Padded (a .n) (a .s .now) = c .before .before .before .before .before .before .before .before .pre in
+    let live : List ℕ = take (a .n) (a .s .now) in
     let size : length live ≡ a .n = length-take-le (a .n) (a .s .now) (omega (arith, p .size)) in
-    let h : l .i < length live = omega (arith, c .before .before .before .before .before .loop-test .taken) in
-    let e : getD live (l .i) 0 ≡ getD (a .s .now) (l .i) 0 = getD-take (a .n) (a .s .now) (l .i) 0 (c .before .before .before .before .before .loop-test .taken) in
-    let t = sym (among-padded (a .n) (a .s .now) p (l .i + 1) (omega arith) _ (c .before .before .before .if1 .left)) ∙ sym (c .before .is-among .ensures) ∙ c .if3 .left in
-    (omega arith, given-next (a .last) live (l .i) _ h e (c .before .before .before .if1 .left) (c .before .before .if2 .left) t ∙ l .inv .1)
+    let k : ℕ = l .i - 1 in
+    let h : k < length live = omega (arith, c .before .before .before .before .before .loop-test .taken, l .inv .0) in
+    let e : getD live k 0 ≡ getD (a .s .now) k 0 = getD-take (a .n) (a .s .now) k 0 (omega arith) in
+    let back : k + 1 ≡ l .i = omega (arith, c .before .before .before .before .before .loop-test .taken) in
+    let seen : Seen live (k + 1) (l .seen) = subst (λ (m : ℕ). Seen live m (l .seen)) (sym back) (l .inv .2) in
+    let found = c .before .is-again .ensures ∙ searched live k (l .seen) seen (getD (a .s .now) k 0) _ (among-padded (a .n) (a .s .now) p (k + 1) (omega arith) _ (c .before .before .before .if1 .left)) in (
+      omega arith,
+      sym (given-next (a .last) live k _ h e (c .before .before .before .if1 .left) (c .before .before .if2 .left) (sym found ∙ c .if3 .left)) ∙ ap (λ (m : ℕ). givenOnce (a .last) (drop m live)) back ∙ l .inv .1,
+      one-seen live k (l .seen) seen _ h e,
+    )
 
 returns-4 : tie.Need-returns-4 Inv-loop μ-loop
 returns-4 c =
     let l = c .before .loop in
     let a = c .before .before .before .args in
-    let size : length (take (a .n) (a .s .now)) ≡ a .n = length-take-le (a .n) (a .s .now) (omega (arith, c .before .before .before .pre .size)) in
-    sym (given-end (a .last) (take (a .n) (a .s .now)) (l .i) (omega (arith, c .loop-test .left))) ∙ l .inv .1
+    let none : 0 ≡ l .i = omega (arith, c .loop-test .left) in
+    sym (ap (λ (m : ℕ). givenOnce (a .last) (drop m (take (a .n) (a .s .now)))) none ∙ l .inv .1)
 
 pub given-once-spec : {M : Type 1} → statement M
 given-once-spec =
@@ -102,14 +123,17 @@ given-once-spec =
     Inv-loop
     μ-loop
     loop-holds
+    sub-i
     mul-x
     shared-slice-read-x
     returns
     returns-2
-    add-is-among
-    is-among-requires
+    cast-low
+    add-is-again
+    array-read-is-again
+    is-again-requires
     returns-3
-    add-i
+    array-write-seen
     loop-less
     loop-again
     returns-4)

@@ -1,89 +1,186 @@
 -- `rows::op_ok` meets its contract.
 -- Assumes nothing.
-use mathlib.Core.Path.{sym, ap, _∙_}
-use Prim.Native.Nat.{ℕ, _-_}
+use mathlib.Core.Path.{_≡_, sym, ap, _∙_}
+use Prim.Native.Nat.{ℕ, _≤_}
+use native.Mathlib.Omega.{arith}
+use mathlib.Core.Bool.{Bool, true, false, cond}
+use lib.Dec.{eqb, leb}
+use mathlib.Core.List.{List, [], _∷_}
+use lib.ListN.{getD}
 use borrow.Author.Tests.{le-leb, lt-leb, not-true, not-false}
-use Rattle.valid.specs.Tests.{opOk, labelsOk}
+use Rattle.queue.specs.Flat.{placed, follows}
+use Rattle.records.specs.Records.{decodeOp, labelsAt}
+use Rattle.valid.specs.Values.{taggedOf}
+use Rattle.valid.specs.Tests.{opOk, operandOk, numbersOk, targetsOk, keysOk, labelsOk, mostOf}
+use Rattle.valid.proofs.Turns.{none-at, yes-test}
 use borrow.Author.Needs.{needs}
 use Rattle.valid.proofs.rows.op_ok.Statement.{statement}
 use Rattle.valid.proofs.rows.op_ok.Tie as tie
-use Rattle.valid.proofs.rows.op_ok.Reads as reads
-use Rattle.valid.proofs.rows.op_ok.Lts as lts
+
+abbrev start : tie.After-most-of → tie.Start
+start c = c .before .before .before .before .before .before .before .before .before .before .before .before .before .before .before .before .before .before .before .before
+
+-- the ten tests, in the order of `opOk`
+abbrev tests : tie.Start → List Bool
+tests s =
+    let o = decodeOp (s .args .r .now) in
+    placed (s .args .n) (taggedOf o) ∷ follows (s .args .prev) (taggedOf o) ∷ leb (o .kind) 7 ∷ operandOk (o .kind) (o .key) ∷ numbersOk (o .kind) (o .a) (o .b) ∷ targetsOk (o .kind) (o .targets .count)
+    ∷ keysOk true (o .targets) ∷ labelsOk (mostOf (o .kind)) (o .labels) ∷ leb (o .opens) 1 ∷ eqb (o .spare) 0 ∷ []
+
+fails : (s : tie.Start) (k : ℕ) → getD (tests s) k true ≡ false → false ≡ opOk (s .args .n) (s .args .prev) (decodeOp (s .args .r .now))
+unfolding opOk
+fails s k e = none-at (tests s) k e
+
+most-four : (kind : ℕ) → mostOf kind ≤ 4
+most-four kind = go (eqb kind 1)
+  where
+    go : (b : Bool) → cond b 4 1 ≤ 4
+    go true = omega arith
+    go false = omega arith
+
+shared-slice-read-kind : tie.Need-shared-slice-read-kind
+shared-slice-read-kind c = search needs
 
 place-ok-requires : tie.Need-place-ok-requires
 place-ok-requires c κs = search needs
 
 returns : tie.Need-returns
-unfolding opOk
-returns c = rw (sym (c .before .place-ok .ensures) ∙ not-true _ (c .if1 .taken))
+unfolding decodeOp
+returns c = fails (c .before .before .before .before) 0 (sym (c .before .place-ok .ensures) ∙ not-true _ (c .if1 .taken))
 
 follows-ok-requires : tie.Need-follows-ok-requires
 follows-ok-requires c κs = search needs
 
 returns-2 : tie.Need-returns-2
-unfolding opOk
-returns-2 c = rw (sym (c .before .before .before .place-ok .ensures) ∙ not-false _ (c .before .before .if1 .left), sym (c .before .follows-ok .ensures) ∙ not-true _ (c .if2 .taken))
+unfolding decodeOp
+returns-2 c = fails (c .before .before .before .before .before .before) 1 (sym (c .before .follows-ok .ensures) ∙ not-true _ (c .if2 .taken))
 
 returns-3 : tie.Need-returns-3
-unfolding opOk
-returns-3 c = rw (sym (c .before .before .before .before .place-ok .ensures) ∙ not-false _ (c .before .before .before .if1 .left), sym (c .before .before .follows-ok .ensures) ∙ not-false _ (c .before .if2 .left), lt-leb (c .before .before .before .before .before .before .before .args .o .kind) 7 (c .if3 .taken))
+unfolding decodeOp
+returns-3 c = fails (c .before .before .before .before .before .before .before) 2 (lt-leb _ 7 (c .if3 .taken))
+
+shared-slice-read-operand-ok : tie.Need-shared-slice-read-operand-ok
+shared-slice-read-operand-ok c = search needs
 
 operand-ok-requires : tie.Need-operand-ok-requires
 operand-ok-requires c κs = search needs
 
 returns-4 : tie.Need-returns-4
-unfolding opOk
-returns-4 c = rw (sym (c .before .before .before .before .before .before .place-ok .ensures) ∙ not-false _ (c .before .before .before .before .before .if1 .left), sym (c .before .before .before .before .follows-ok .ensures) ∙ not-false _ (c .before .before .before .if2 .left), le-leb (c .before .before .before .before .before .before .before .before .before .args .o .kind) 7 (c .before .before .if3 .left), sym (c .before .operand-ok .ensures) ∙ not-true _ (c .if4 .taken))
+unfolding decodeOp
+returns-4 c = fails (c .before .before .before .before .before .before .before .before .before .before) 3 (sym (c .before .operand-ok .ensures) ∙ not-true _ (c .if4 .taken))
+
+u32-at-requires : tie.Need-u32-at-requires
+u32-at-requires c κs = search needs
+
+u32-at-requires-2 : tie.Need-u32-at-requires-2
+u32-at-requires-2 c κs = search needs
 
 numbers-ok-requires : tie.Need-numbers-ok-requires
 numbers-ok-requires c κs = search needs
 
 returns-5 : tie.Need-returns-5
-unfolding opOk
-returns-5 c = rw (sym (c .before .before .before .before .before .before .before .before .place-ok .ensures) ∙ not-false _ (c .before .before .before .before .before .before .before .if1 .left), sym (c .before .before .before .before .before .before .follows-ok .ensures) ∙ not-false _ (c .before .before .before .before .before .if2 .left), le-leb (c .before .before .before .before .before .before .before .before .before .before .before .args .o .kind) 7 (c .before .before .before .before .if3 .left), sym (c .before .before .before .operand-ok .ensures) ∙ not-false _ (c .before .before .if4 .left), sym (c .before .numbers-ok .ensures) ∙ not-true _ (c .if5 .taken))
+unfolding decodeOp
+returns-5 c =
+    let s = c .before .before .before .before .before .before .before .before .before .before .before .before .before .before in
+    let n = c .before in
+    fails s 4 (sym (n .numbers-ok .ensures ∙ (λ i. numbersOk (getD (s .args .r .now) 2 0) (n .before .before .u32-at .ensures i) (n .before .u32-at2 .ensures i))) ∙ not-true _ (c .if5 .taken))
+
+shared-slice-read-targets-ok : tie.Need-shared-slice-read-targets-ok
+shared-slice-read-targets-ok c = search needs
 
 targets-ok-requires : tie.Need-targets-ok-requires
 targets-ok-requires c κs = search needs
 
 returns-6 : tie.Need-returns-6
-unfolding opOk
-returns-6 c = rw (sym (c .before .before .before .before .before .before .before .before .before .before .place-ok .ensures) ∙ not-false _ (c .before .before .before .before .before .before .before .before .before .if1 .left), sym (c .before .before .before .before .before .before .before .before .follows-ok .ensures) ∙ not-false _ (c .before .before .before .before .before .before .before .if2 .left), le-leb (c .before .before .before .before .before .before .before .before .before .before .before .before .before .args .o .kind) 7 (c .before .before .before .before .before .before .if3 .left), sym (c .before .before .before .before .before .operand-ok .ensures) ∙ not-false _ (c .before .before .before .before .if4 .left), sym (c .before .before .before .numbers-ok .ensures) ∙ not-false _ (c .before .before .if5 .left), sym (c .before .targets-ok .ensures) ∙ not-true _ (c .if6 .taken))
+unfolding decodeOp
+returns-6 c = fails (c .before .before .before .before .before .before .before .before .before .before .before .before .before .before .before .before .before) 5 (sym (c .before .targets-ok .ensures) ∙ not-true _ (c .if6 .taken))
+
+keys-ok-requires : tie.Need-keys-ok-requires
+keys-ok-requires c κs = search needs
+
+returns-7 : tie.Need-returns-7
+unfolding decodeOp
+returns-7 c = fails (c .before .before .before .before .before .before .before .before .before .before .before .before .before .before .before .before .before .before .before) 6 (sym (c .before .keys-ok .ensures) ∙ not-true _ (c .if7 .taken))
 
 most-of-requires : tie.Need-most-of-requires
 most-of-requires c κs = search needs
 
 labels-ok-requires : tie.Need-labels-ok-requires
-labels-ok-requires c κs = search needs
-
-returns-7 : tie.Need-returns-7
-unfolding opOk
-returns-7 c = rw (sym (c .before .before .before .before .before .before .before .before .before .before .before .before .before .place-ok .ensures) ∙ not-false _ (c .before .before .before .before .before .before .before .before .before .before .before .before .if1 .left), sym (c .before .before .before .before .before .before .before .before .before .before .before .follows-ok .ensures) ∙ not-false _ (c .before .before .before .before .before .before .before .before .before .before .if2 .left), le-leb (c .before .before .before .before .before .before .before .before .before .before .before .before .before .before .before .before .args .o .kind) 7 (c .before .before .before .before .before .before .before .before .before .if3 .left), sym (c .before .before .before .before .before .before .before .before .operand-ok .ensures) ∙ not-false _ (c .before .before .before .before .before .before .before .if4 .left), sym (c .before .before .before .before .before .before .numbers-ok .ensures) ∙ not-false _ (c .before .before .before .before .before .if5 .left), sym (c .before .before .before .before .targets-ok .ensures) ∙ not-false _ (c .before .before .before .if6 .left), c .before .before .before .before .before .before .before .before .before .before .before .before .before .before .before .before .pre, sym (c .before .labels-ok .ensures ∙ ap (λ (m : ℕ). labelsOk m (c .before .before .before .before .before .before .before .before .before .before .before .before .before .before .before .before .args .o .labels)) (c .before .before .most-of .ensures)) ∙ not-true _ (c .if7 .taken))
+labels-ok-requires c κs = (omega (arith, start c .pre), omega (arith, c .most-of .ensures, most-four (getD (start c .args .r .now) 2 0)))
 
 returns-8 : tie.Need-returns-8
-unfolding opOk
-returns-8 c = rw (sym (c .before .before .before .before .before .before .before .before .before .before .before .before .before .before .before .place-ok .ensures) ∙ not-false _ (c .before .before .before .before .before .before .before .before .before .before .before .before .before .before .if1 .left), sym (c .before .before .before .before .before .before .before .before .before .before .before .before .before .follows-ok .ensures) ∙ not-false _ (c .before .before .before .before .before .before .before .before .before .before .before .before .if2 .left), le-leb (c .before .before .before .before .before .before .before .before .before .before .before .before .before .before .before .before .before .before .args .o .kind) 7 (c .before .before .before .before .before .before .before .before .before .before .before .if3 .left), sym (c .before .before .before .before .before .before .before .before .before .before .operand-ok .ensures) ∙ not-false _ (c .before .before .before .before .before .before .before .before .before .if4 .left), sym (c .before .before .before .before .before .before .before .before .numbers-ok .ensures) ∙ not-false _ (c .before .before .before .before .before .before .before .if5 .left), sym (c .before .before .before .before .before .before .targets-ok .ensures) ∙ not-false _ (c .before .before .before .before .before .if6 .left), c .before .before .before .before .before .before .before .before .before .before .before .before .before .before .before .before .before .before .pre, sym (c .before .before .before .labels-ok .ensures ∙ ap (λ (m : ℕ). labelsOk m (c .before .before .before .before .before .before .before .before .before .before .before .before .before .before .before .before .before .before .args .o .labels)) (c .before .before .before .before .most-of .ensures)) ∙ not-false _ (c .before .before .if7 .left), lt-leb (c .before .before .before .before .before .before .before .before .before .before .before .before .before .before .before .before .before .before .args .o .opens) 1 (c .if8 .taken))
+unfolding decodeOp
+returns-8 c =
+    let s = c .before .before .before .before .before .before .before .before .before .before .before .before .before .before .before .before .before .before .before .before .before .before in
+    let l = c .before in
+    fails s 7 (sym (l .labels-ok .ensures ∙ ap (λ (m : ℕ). labelsOk m (labelsAt (s .args .r .now) 21)) (l .before .most-of .ensures)) ∙ not-true _ (c .if8 .taken))
+
+shared-slice-read-if9 : tie.Need-shared-slice-read-if9
+shared-slice-read-if9 c = search needs
 
 returns-9 : tie.Need-returns-9
-unfolding opOk
-returns-9 c = rw (sym (c .before .before .before .before .before .before .before .before .before .before .before .before .before .before .before .before .place-ok .ensures) ∙ not-false _ (c .before .before .before .before .before .before .before .before .before .before .before .before .before .before .before .if1 .left), sym (c .before .before .before .before .before .before .before .before .before .before .before .before .before .before .follows-ok .ensures) ∙ not-false _ (c .before .before .before .before .before .before .before .before .before .before .before .before .before .if2 .left), le-leb (c .before .before .before .before .before .before .before .before .before .before .before .before .before .before .before .before .before .before .before .args .o .kind) 7 (c .before .before .before .before .before .before .before .before .before .before .before .before .if3 .left), sym (c .before .before .before .before .before .before .before .before .before .before .before .operand-ok .ensures) ∙ not-false _ (c .before .before .before .before .before .before .before .before .before .before .if4 .left), sym (c .before .before .before .before .before .before .before .before .before .numbers-ok .ensures) ∙ not-false _ (c .before .before .before .before .before .before .before .before .if5 .left), sym (c .before .before .before .before .before .before .before .targets-ok .ensures) ∙ not-false _ (c .before .before .before .before .before .before .if6 .left), c .before .before .before .before .before .before .before .before .before .before .before .before .before .before .before .before .before .before .before .pre, sym (c .before .before .before .before .labels-ok .ensures ∙ ap (λ (m : ℕ). labelsOk m (c .before .before .before .before .before .before .before .before .before .before .before .before .before .before .before .before .before .before .before .args .o .labels)) (c .before .before .before .before .before .most-of .ensures)) ∙ not-false _ (c .before .before .before .if7 .left), le-leb (c .before .before .before .before .before .before .before .before .before .before .before .before .before .before .before .before .before .before .before .args .o .opens) 1 (c .before .if8 .left))
+unfolding decodeOp
+returns-9 c = fails (c .before .before .before .before .before .before .before .before .before .before .before .before .before .before .before .before .before .before .before .before .before .before .before .before) 8 (lt-leb _ 1 (c .if9 .taken))
+
+u16-at-requires : tie.Need-u16-at-requires
+u16-at-requires c κs = search needs
+
+returns-10 : tie.Need-returns-10
+unfolding opOk decodeOp
+returns-10 c =
+    let e9 = c .before in
+    let e8 = e9 .before .before in
+    let l = e8 .before in
+    let e7 = l .before .before in
+    let k = e7 .before in
+    let e6 = k .before in
+    let t = e6 .before in
+    let e5 = t .before .before in
+    let n = e5 .before in
+    let e4 = n .before .before .before in
+    let o = e4 .before in
+    let e3 = o .before .before in
+    let e2 = e3 .before in
+    let f = e2 .before in
+    let e1 = f .before in
+    let p = e1 .before in
+    let r = p .before .before .before .args .r .now in
+    yes-test (sym (p .place-ok .ensures) ∙ not-false _ (e1 .if1 .left))
+    (yes-test (sym (f .follows-ok .ensures) ∙ not-false _ (e2 .if2 .left))
+    (yes-test (le-leb _ 7 (e3 .if3 .left))
+    (yes-test (sym (o .operand-ok .ensures) ∙ not-false _ (e4 .if4 .left))
+    (yes-test (sym (n .numbers-ok .ensures ∙ (λ i. numbersOk (getD r 2 0) (n .before .before .u32-at .ensures i) (n .before .u32-at2 .ensures i))) ∙ not-false _ (e5 .if5 .left))
+    (yes-test (sym (t .targets-ok .ensures) ∙ not-false _ (e6 .if6 .left))
+    (yes-test (sym (k .keys-ok .ensures) ∙ not-false _ (e7 .if7 .left))
+    (yes-test (sym (l .labels-ok .ensures ∙ ap (λ (m : ℕ). labelsOk m (labelsAt r 21)) (l .before .most-of .ensures)) ∙ not-false _ (e8 .if8 .left))
+    (yes-test (le-leb _ 1 (e9 .if9 .left)) (ap (λ (x : ℕ). eqb x 0) (c .u16-at .ensures))))))))))
 
 pub op-ok-spec : {M : Type 1} → statement M
 op-ok-spec =
     tie.close
     (tie.spec
+    shared-slice-read-kind
     place-ok-requires
     returns
     follows-ok-requires
     returns-2
     returns-3
+    shared-slice-read-operand-ok
     operand-ok-requires
     returns-4
+    u32-at-requires
+    u32-at-requires-2
     numbers-ok-requires
     returns-5
+    shared-slice-read-targets-ok
     targets-ok-requires
     returns-6
+    keys-ok-requires
+    returns-7
     most-of-requires
     labels-ok-requires
-    returns-7
     returns-8
-    returns-9)
+    shared-slice-read-if9
+    returns-9
+    u16-at-requires
+    returns-10)

@@ -1,11 +1,16 @@
 -- `session::image_valid` meets its contract.
 -- Assumes nothing.
-use native.Mathlib.Omega.{arith}
-use mathlib.Core.Path.{sym, _∙_}
-use mathlib.Core.Bool.{true≢false}
-use borrow.Author.Tests.{not-true, not-false}
-use Rattle.image.specs.Layout.{Sound}
-use Rattle.valid.proofs.Exactness.{exactly, refused}
+use mathlib.Core.Path.{_≡_, sym, _∙_}
+use mathlib.Core.Bool.{true, _&&_, true≢false}
+use lib.Dec.{leb}
+use lib.ListN.{length}
+use mathlib.Core.List.{List}
+use Prim.Native.Nat.{ℕ, _+_}
+use borrow.Author.Tests.{not-true, not-false, le-leb, leb-true}
+use Rattle.queue.proofs.Places.{and-left, and-right}
+use Rattle.image.specs.Layout.{Sound, view}
+use Rattle.valid.specs.Tests.{opsOk, addsAmong}
+use Rattle.valid.proofs.Exactness.{Passes, exactly, refused}
 use borrow.Author.Needs.{needs}
 use Rattle.valid.proofs.session.image_valid.Statement.{statement}
 use Rattle.valid.proofs.session.image_valid.Tie as tie
@@ -13,6 +18,10 @@ use Rattle.valid.proofs.session.image_valid.Tie as tie
 -- the image is sound past the first test
 sound : (c : tie.Else1) → Sound (c .before .before .before .args .image .now)
 sound c = c .before .is-sound .ensures .sound (not-false _ (c .if1 .left))
+
+-- the answer for the queue, where the image passes
+queued : (s : List ℕ) → Passes s → (opsOk (length (view s .nodes)) (view s .ops) && leb (length (view s .nodes) + addsAmong (view s .ops)) 64) ≡ true
+queued s p = rw (p .shown .ops) (le-leb (length (view s .nodes) + addsAmong (view s .ops)) 64 (p .shown .room))
 
 is-sound-requires : tie.Need-is-sound-requires
 is-sound-requires c κs = search needs
@@ -36,7 +45,9 @@ ops-ok-requires : tie.Need-ops-ok-requires
 ops-ok-requires c κs = sound (c .before .before .before .before)
 
 returns-4 : tie.Need-returns-4
-returns-4 c = refused (c .before .before .before .before .before .before .before .before .before .args .image .now) (λ p. true≢false (sym (p .shown .ops) ∙ sym (c .before .ops-ok .ensures) ∙ not-true _ (c .if4 .taken)))
+returns-4 c =
+    let s = c .before .before .before .before .before .before .before .before .before .args .image .now in
+    refused s (λ p. true≢false (sym (queued s p) ∙ sym (c .before .ops-ok .ensures) ∙ not-true _ (c .if4 .taken)))
 
 results-ok-requires : tie.Need-results-ok-requires
 results-ok-requires c κs = sound (c .before .before .before .before .before .before)
@@ -44,35 +55,30 @@ results-ok-requires c κs = sound (c .before .before .before .before .before .be
 returns-5 : tie.Need-returns-5
 returns-5 c = refused (c .before .before .before .before .before .before .before .before .before .before .before .args .image .now) (λ p. true≢false (sym (p .shown .results) ∙ sym (c .before .results-ok .ensures) ∙ not-true _ (c .if5 .taken)))
 
-node-count-requires : tie.Need-node-count-requires
-node-count-requires c κs = sound (c .before .before .before .before .before .before .before .before)
-
-add-count-requires : tie.Need-add-count-requires
-add-count-requires c κs = sound (c .before .before .before .before .before .before .before .before .before)
-
-add-if6 : tie.Need-add-if6
-add-if6 c = record { fits = omega (arith, c .add-count .ensures .1, c .before .node-count .ensures, sound (c .before .before .before .before .before .before .before .before .before .before) .nodes) }
+labels-live-requires : tie.Need-labels-live-requires
+labels-live-requires c κs = sound (c .before .before .before .before .before .before .before .before)
 
 returns-6 : tie.Need-returns-6
-returns-6 c = refused (c .before .before .before .before .before .before .before .before .before .before .before .before .before .before .args .image .now) (λ p. omega (arith, p .shown .room, c .if6 .taken, c .before .add-count .ensures .0, c .before .before .node-count .ensures))
-
-labels-live-requires : tie.Need-labels-live-requires
-labels-live-requires c κs = sound (c .before .before .before .before .before .before .before .before .before .before .before)
-
-returns-7 : tie.Need-returns-7
-returns-7 c =
-    let s = c .before .before .before .before .before .before .before .before .before .before .before .before .before .before .before .args .image .now in
-    exactly s (c .labels-live .result) (λ i. c .before .before .before .before .before .before .before .before .before .before .before .before .before .before .shared-slice-known .given i .fits)
+returns-6 c =
+    let e5 = c .before in
+    let e4 = e5 .before .before in
+    let e3 = e4 .before .before in
+    let e2 = e3 .before .before in
+    let e1 = e2 .before .before in
+    let s = e1 .before .before .before .args .image .now in
+    let queue = sym (e4 .before .ops-ok .ensures) ∙ not-false _ (e4 .if4 .left) in
+    let ordered = opsOk (length (view s .nodes)) (view s .ops) in
+    exactly s (c .labels-live .result) (λ i. e1 .before .before .shared-slice-known .given i .fits)
     (λ e.
     record {
-      sound = sound (c .before .before .before .before .before .before .before .before .before .before .before .before);
-      canonical = c .before .before .before .before .before .before .before .before .before .before .before .is-canonical .ensures .sound (not-false _ (c .before .before .before .before .before .before .before .before .before .before .if2 .left));
+      sound = sound e1;
+      canonical = e2 .before .is-canonical .ensures .sound (not-false _ (e2 .if2 .left));
       shown =
           record {
-            nodes = sym (c .before .before .before .before .before .before .before .before .before .nodes-ok .ensures) ∙ not-false _ (c .before .before .before .before .before .before .before .before .if3 .left);
-            ops = sym (c .before .before .before .before .before .before .before .ops-ok .ensures) ∙ not-false _ (c .before .before .before .before .before .before .if4 .left);
-            results = sym (c .before .before .before .before .before .results-ok .ensures) ∙ not-false _ (c .before .before .before .before .if5 .left);
-            room = omega (arith, c .before .if6 .left, c .before .before .add-count .ensures .0, c .before .before .before .node-count .ensures);
+            nodes = sym (e3 .before .nodes-ok .ensures) ∙ not-false _ (e3 .if3 .left);
+            ops = and-left ordered _ queue;
+            results = sym (e5 .before .results-ok .ensures) ∙ not-false _ (e5 .if5 .left);
+            room = leb-true _ 64 (and-right ordered _ queue);
             live = sym (c .labels-live .ensures) ∙ e;
           };
     })
@@ -92,9 +98,5 @@ image-valid-spec =
     returns-4
     results-ok-requires
     returns-5
-    node-count-requires
-    add-count-requires
-    add-if6
-    returns-6
     labels-live-requires
-    returns-7)
+    returns-6)
