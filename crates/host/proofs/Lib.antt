@@ -3,3 +3,4 @@ pub mod Calling
 pub mod Stepping
 pub mod Claiming
 pub mod ListingOut
+pub mod Determined

@@ -22,7 +22,8 @@ use Rattle.panel.specs.declared.tally.Tally.{Tally}
 use Rattle.panel.specs.declared.answer.Answer.the-variants.{Refused}
 use Rattle.panel.specs.Answer.{numberOf}
 use Rattle.listing.specs.Listed.{listingOf}
-use Rattle.host.specs.Entries.{Calls, Steps, ClaimMade, claimRefused, claimServed, Claims, Listed, listServed, Lists, otherLength, otherBytes, otherLine, served}
+use Rattle.host.specs.Entries.{Calls, Steps, ClaimMade, claimRefused, claimServed, Claims, Listed, listServed, Lists}
+use Rattle.host.proofs.Determined.{each-case}
 use Rattle.program.specs.Lines.{begins, told, lengthIn, shown, step, claim, call}
 use Rattle.program.specs.Frames.{refusalIn, Tells, Served, Ended}
 
@@ -96,10 +97,7 @@ served-within image out s (done c) = go (leb (length (resultText (c .result))) (
     go false e = rw e (refused-within image out 33)
 
 claim-within : {image line out : List ℕ} {r : ClaimMade} → Claims image line out r → Within r
-claim-within {image} {line} {out} (otherLength h e) = subst Within (sym e) (refused-within image out 1)
-claim-within {image} {line} {out} (otherBytes l h e) = subst Within (sym e) (refused-within image out 2)
-claim-within {image} {line} {out} (otherLine s h n e) = subst Within (sym e) (refused-within image out 10)
-claim-within {image} {line} {out} (served s h l i e) = subst Within (sym e) (served-within image out s (claimOf l s))
+claim-within {image} {line} {out} h = each-case Within (refused-within image out) (λ s l. served-within image out s (claimOf l s)) h
 
 module _ {image line out after output : List ℕ} {n : ℕ} {z w : ℤ} (same : z ≡ w) (room : 128 ≤ length out) (b : begins (ascii "claim=") line ≡ true) (h : Claims image line out (record { answer = w; image = after; output = output })) where
   pub claim-told : {written : List ℕ} {r k : ℕ} → k ≡ refusalIn z → (k ≡ 0 → ⊥) → Tells n z written r → Served image line n after written r
@@ -126,10 +124,7 @@ listed-inside out s = go (leb (length (listingOf s)) (length out)) refl
     go false e = rw e (refused-length 33 (length out))
 
 list-inside : {image out : List ℕ} {l : Listed} → Lists image out l → Inside l
-list-inside {image} {out} (otherLength h e) = subst Inside (sym e) (refused-length 1 (length out))
-list-inside {image} {out} (otherBytes l h e) = subst Inside (sym e) (refused-length 2 (length out))
-list-inside {image} {out} (otherLine s h n e) = subst Inside (sym e) (refused-length 10 (length out))
-list-inside {image} {out} (served s h f i e) = subst Inside (sym e) (listed-inside out s)
+list-inside {image} {out} h = each-case Inside (λ k. refused-length k (length out)) (λ s f. listed-inside out s) h
 
 pub list-ended : {image out output : List ℕ} {z w : ℤ} {r : ℕ} → z ≡ w → 16512 ≤ length out → Lists image out (record { answer = w; output = output }) → r ≡ lengthIn z → Ended image output r
 list-ended {image} {out} {output} {z} {w} {r} same room h e =
