@@ -19,15 +19,14 @@ use Rattle.graph.specs.Drain.{drain}
 use Rattle.graph.specs.Runs.{andThen}
 use Rattle.graph.specs.Valid.{Valid}
 use Rattle.graph.proofs.Answers.{isDone}
-use Rattle.text.specs.Text.{pasted}
 use Rattle.lines.specs.Forms.{StepForm, work, drain as drains, stepKeys}
 use Rattle.lines.specs.Answers.{IsCall, IsStep, IsClaim}
 use Rattle.print.specs.Printed.{resultText}
-use Rattle.panel.specs.declared.answer.Answer.the-variants.{Done, Refused}
+use Rattle.panel.specs.declared.answer.Answer.the-variants.{Refused}
 use Rattle.panel.specs.declared.tally.Tally.{Tally}
 use Rattle.panel.specs.Answer.{numberOf}
 use Rattle.valid.specs.Values.{encode}
-use Rattle.host.specs.Entries.{ImageOf, Enters, otherLength, otherBytes, otherLine, served, Called, callRefused, callServed, Calls, Stepped, stepRefused, stepServed, stepMade, Steps, ClaimMade, claimRefused, claimServed, Claims}
+use Rattle.host.specs.Entries.{ImageOf, Enters, otherLength, otherBytes, otherLine, served, Called, callRefused, callServed, Calls, Stepped, stepRefused, stepServed, stepMade, Steps, ClaimMade, claimRefused, claimWritten, claimServed, Claims}
 use Rattle.host.proofs.Determined.{same-session, image-size}
 use Rattle.host.proofs.Entering.{unless-done, unless-number}
 use Rattle.host.proofs.Stepping.{step-refused}
@@ -129,7 +128,7 @@ claim-next s v line out r h = go (entered s v h)
     below n m e = claimRefuses (ap (λ (y : ClaimMade). isServed (y .answer)) e ∙ refused-served n m) (ap (λ (y : ClaimMade). y .image) e)
 
     room : (l : ℕ) (c : Claimed) → IsClaim line l → claim l s ≡ done c → (b : Bool)
-        → r ≡ cond b (record { answer = numberOf (Done (length (resultText (c .result)))); image = encode (keeping s (c .others)); output = pasted out 0 (resultText (c .result)) }) (claimRefused (encode s) out 33) → ClaimNext s line out r
+        → r ≡ cond b (claimWritten out s c) (claimRefused (encode s) out 33) → ClaimNext s line out r
     room l c i q true e = gives l c i q (ap (λ (y : ClaimMade). y .image) e) (record { answer = ap (λ (y : ClaimMade). y .answer) e; output = ap (λ (y : ClaimMade). y .output) e })
     room l c i q false e = below 33 (omega arith) e
 
