@@ -20,12 +20,12 @@ use Rattle.graph.specs.Acceptance.{Claimed, claim as claimOf}
 use Rattle.print.specs.Printed.{resultText}
 use Rattle.panel.specs.declared.tally.Tally.{Tally}
 use Rattle.panel.specs.declared.answer.Answer.the-variants.{Refused}
-use Rattle.panel.specs.Answer.{numberOf}
+use Rattle.panel.specs.Answer.{numberOf, refusalIn}
 use Rattle.listing.specs.Listed.{listingOf}
 use Rattle.host.specs.Entries.{Calls, Steps, ClaimMade, claimRefused, claimServed, Claims, Listed, listServed, Lists}
 use Rattle.host.proofs.Determined.{each-case}
 use Rattle.program.specs.Lines.{begins, told, lengthIn, shown, step, claim, call}
-use Rattle.program.specs.Frames.{refusalIn, Tells, Served, Ended}
+use Rattle.program.specs.Frames.{Tells, Served, Ended}
 
 told-none : (n : ℕ) (z : ℤ) → 0 ≡ refusalIn z → [] ≡ told n z
 told-none n (pos k) e = refl

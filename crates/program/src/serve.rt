@@ -14,8 +14,9 @@ ghost use Prim.Native.Nat.{_≤_};
 ghost use lib.ListN.{length};
 ghost use Rattle.text.specs.Text.{ascii};
 ghost use Rattle.lines.specs.Answers.{lineAt};
+ghost use Rattle.panel.specs.Answer.{refusalIn};
 ghost use Rattle.program.specs.Lines.{begins as beginsWith, lengthIn};
-ghost use Rattle.program.specs.Frames.{refusalIn, Tells, Served, Ended};
+ghost use Rattle.program.specs.Frames.{Tells, Served, Ended};
 
 // Nothing that is printed shows a tally, so each step is lent a fresh one.
 const ZEROS: Tally = Tally {

@@ -8,7 +8,7 @@ use mathlib.Core.List.{List, [], _∷_, _++_}
 use mathlib.Core.Option.{Option, none, some}
 use Prim.Native.String.{String}
 use lib.Dec.{eqb, leb}
-use lib.IntN.{ℤ, pos, negsuc}
+use lib.IntN.{pos}
 use lib.ListN.{length, length-append}
 use borrow.Author.Tests.{lt-ltb, le-leb, eqb-true}
 use Rattle.graph.specs.Refusals.{Answer, refused, done, mapDone, numberOf as codeOf, unless}
@@ -32,7 +32,7 @@ use Rattle.lines.proofs.Claims.{claim-unique}
 use Rattle.print.specs.Printed.{resultText}
 use Rattle.panel.specs.declared.answer.Answer.the-variants.{Refused}
 use Rattle.panel.specs.declared.tally.Tally.{Tally}
-use Rattle.panel.specs.Answer.{numberOf}
+use Rattle.panel.specs.Answer.{numberOf, refusalIn}
 use Rattle.panel.specs.Tally.{counted}
 use Rattle.valid.specs.Values.{encode}
 use Rattle.host.specs.Entries.{served, ClaimMade, claimRefused, claimWritten, claimServed, stepServed, Steps}
@@ -40,12 +40,7 @@ use Rattle.runs.specs.Runs.{isServed, Pending, Wrote, WouldWrite}
 use Rattle.runs.specs.Demand.{StepLines, ended, stepped}
 use Rattle.runs.proofs.Entered.{own, Entered, noForm, aForm, entered, take-refused}
 
--- a refusal's number in an answer
-abbrev refusalOf : ℤ → ℕ
-refusalOf (pos n) = 0
-refusalOf (negsuc n) = suc n
-
-refusal-of : (n : ℕ) → refusalOf (numberOf (Refused n)) ≡ n
+refusal-of : (n : ℕ) → refusalIn (numberOf (Refused n)) ≡ n
 refusal-of zero = refl
 refusal-of (suc n) = refl
 
@@ -180,7 +175,7 @@ module _ (s : Session) (v : Valid s) (l : ℕ) where
   pending-only h = go (entered s v (h []))
     where
       answers : {n : ℕ} → claimRefused (encode s) [] 31 ≡ claimRefused (encode s) [] n → 31 ≡ n
-      answers {n} e = ap (λ (y : ClaimMade). refusalOf (y .answer)) e ∙ refusal-of n
+      answers {n} e = ap (λ (y : ClaimMade). refusalIn (y .answer)) e ∙ refusal-of n
 
       form : (m : ℕ) → m ≡ l → (x : Answer Claimed) → claim m s ≡ x → claimRefused (encode s) [] 31 ≡ claimServed (encode s) [] s x → contains l (pending s) ≡ true
       form m q (refused n) d e = refused-31 (sym (ap (λ (j : ℕ). claim j s) q) ∙ d ∙ ap refused (sym (answers e)))

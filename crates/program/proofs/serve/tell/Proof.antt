@@ -2,7 +2,7 @@
 -- Assumes nothing.
 use mathlib.Core.Path.{ap, _∙_}
 use mir.Facts.{toZ-ofZ}
-use Rattle.program.specs.Frames.{refusalIn}
+use Rattle.panel.specs.Answer.{refusalIn}
 use Rattle.program.proofs.Serving.{tells-none, tells-room, tells-written}
 use borrow.Author.Needs.{needs}
 use Rattle.program.proofs.serve.tell.Statement.{statement}
