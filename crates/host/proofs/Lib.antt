@@ -1,4 +1,5 @@
 pub mod Entering
+pub mod Reading
 pub mod Calling
 pub mod Stepping
 pub mod Claiming
