@@ -3,5 +3,5 @@ pub mod Reading
 pub mod Calling
 pub mod Stepping
 pub mod Claiming
-pub mod ListingOut
+pub mod Listing
 pub mod Determined

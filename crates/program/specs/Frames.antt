@@ -13,7 +13,7 @@ use Rattle.program.specs.Transcript.{linesOf, Run, Ends}
 use Rattle.program.specs.declared.frame.Progress.{Progress}
 
 -- what is printed of an answer is the first r bytes of the output
-pub record Tells (n : ℕ) (answer : ℤ) (out : List ℕ) (r : ℕ) : Type 0 where
+pub record AnswerPrinted (n : ℕ) (answer : ℤ) (out : List ℕ) (r : ℕ) : Type 0 where
   pub within : r ≤ length out
   pub text : take r out ≡ told n answer
 
@@ -37,7 +37,7 @@ pub record Next (image frame : List ℕ) (p : Progress) (out after written : Lis
   pub number : q .line ≡ p .line + 1
 
 -- the lines of the frame from `at` on were served as far as p says, and what is printed of them is the first bytes of the output
-pub record Went (image frame : List ℕ) (at n : ℕ) (after out : List ℕ) (p : Progress) : Type 0 where
+pub record LinesServed (image frame : List ℕ) (at n : ℕ) (after out : List ℕ) (p : Progress) : Type 0 where
   pub lines : List (List ℕ)
   pub runs : Run image n lines after (p .line) (take (p .used) out)
   pub parts : linesOf (drop at frame) ≡ lines ++ linesOf (drop (p .at) frame)
