@@ -11,7 +11,7 @@ pub record RoomToServe (frame : List ℕ) (line : ℕ) (out : List ℕ) : Type 0
   pub low : line < 2 ^ 63
   pub room : 128 ≤ length out
 
--- where serving a frame stopped
+-- serving stopped inside the frame, and took at most one line number for each of its bytes
 pub record RestWithin (frame : List ℕ) (line : ℕ) (r : Rest) : Type 0 where
   pub within : r .at ≤ length frame
   pub few : r .line ≤ line + length frame

@@ -26,7 +26,7 @@ same-session {image} {s} {u} h k = valid-back s (h .valid) ∙ ap sessionOf (h .
 pub image-size : {image : List ℕ} {s : Session} → ImageOf image s → length image ≡ 4112
 image-size {image} {s} h = sym (ap length (h .same)) ∙ valid-passes s (h .valid) .sound .size
 
--- what every refusal has, and whatever is served, each result has
+-- what holds of every refusal and of whatever is served holds of what a function gives
 module _ {F R : Type 0} {image : List ℕ} {Is : F → Type 0} {refuse : ℕ → R} {serve : Session → F → R} (P : R → Type 0) (refuses : (n : ℕ) → P (refuse n)) (serves : (s : Session) (f : F) → P (serve s f)) where
   pub each-case : {r : R} → Enters image Is refuse serve r → P r
   each-case (otherLength h e) = subst P (sym e) (refuses 1)
