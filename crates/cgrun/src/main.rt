@@ -8,7 +8,7 @@ use text::cut::part_to;
 ghost use mathlib.Core.Path.{_≡_};
 ghost use Prim.Native.Nat.{_+_, _≤_, _<_, _^_};
 ghost use lib.ListN.{length};
-ghost use Rattle.cgrun.specs.Reading.{Fits, Stops};
+ghost use Rattle.cgrun.specs.Reading.{RoomToServe, RestWithin};
 
 // A line is 10 from this length on, whatever follows.
 const LONG: usize = 256;
@@ -50,8 +50,8 @@ fn read_more(buffer: &mut [u8], kept: usize) -> usize
 
 // Serves all whole lines, and writes out what is printed.
 fn serve_whole(image: &mut [u8], frame: &[u8], at: usize, line: u64, out: &mut [u8]) -> Rest
-    requires { ⌜ (at ≤ length (now frame)) × Fits (now frame) line (now out) ⌝ }
-    ensures { λ r. ⌜ Stops (now (frame .entry)) line r ⌝ }
+    requires { ⌜ (at ≤ length (now frame)) × RoomToServe (now frame) line (now out) ⌝ }
+    ensures { λ r. ⌜ RestWithin (now (frame .entry)) line r ⌝ }
 {
     let mut from = at;
     let mut number = line;
@@ -89,7 +89,7 @@ fn serve_long(image: &mut [u8], frame: &[u8], rest: Rest, out: &mut [u8]) -> Res
 }
 
 fn serve_from(image: &mut [u8], frame: &[u8], at: usize, line: u64, out: &mut [u8]) -> Rest
-    requires { ⌜ (at ≤ length (now frame)) × Fits (now frame) line (now out) ⌝ }
+    requires { ⌜ (at ≤ length (now frame)) × RoomToServe (now frame) line (now out) ⌝ }
     ensures { λ r. ⌜ r .at ≤ length (now (frame .entry)) ⌝ }
 {
     let rest = serve_whole(image, frame, at, line, out);
@@ -98,7 +98,7 @@ fn serve_from(image: &mut [u8], frame: &[u8], at: usize, line: u64, out: &mut [u
 
 // Serves the lines of a frame. The rest of a line that was refused for its length is passed over.
 fn serve_frame(image: &mut [u8], frame: &[u8], line: u64, long: bool, out: &mut [u8]) -> Rest
-    requires { ⌜ Fits (now frame) line (now out) ⌝ }
+    requires { ⌜ RoomToServe (now frame) line (now out) ⌝ }
     ensures { λ r. ⌜ r .at ≤ length (now (frame .entry)) ⌝ }
 {
     if !long {

@@ -1,15 +1,14 @@
 -- A call line: refused in reading, or the call that the session is asked to accept.
 -- Assumes nothing.
-use mathlib.Core.Path.{_≡_, refl, sym, ap, subst, _∙_}
+use mathlib.Core.Path.{_≡_, refl, sym, ap, _∙_}
 use Prim.Native.Nat.{ℕ, _+_}
 use native.Mathlib.Omega.{arith}
 use mathlib.Core.Bool.{_&&_}
 use mathlib.Core.List.{List, [], _∷_}
 use lib.Dec.{leb}
 use lib.ListN.{length}
-use lib.IntN.{ℤ}
 use Rattle.graph.specs.Calls.{Call, add, map, link, unlink, sum, top, pick, near, isAdd, formTests}
-use Rattle.graph.specs.Refusals.{Answer, refused, done, numberOf as codeOf, Test, on, firstOf, unless}
+use Rattle.graph.specs.Refusals.{Answer, refused, done, numberOf as codeOf, Test, on, unless}
 use Rattle.graph.specs.Sessions.{Session, live, addsIn}
 use Rattle.graph.specs.Packed.{listed, packed}
 use Rattle.graph.specs.Acceptance.{accept, callTests, accepted}
@@ -18,7 +17,7 @@ use Rattle.graph.proofs.Validity.{Accepts, accept-valid}
 use Rattle.queue.specs.Flat.{Flat}
 use Rattle.graph.proofs.KeyLaws.{listed-packed}
 use Rattle.lines.specs.declared.call.CallLine.{CallLine}
-use Rattle.lines.specs.Answers.{form, other, settled, callRead, refusedCall, callOf, IsCall, CallRead}
+use Rattle.lines.specs.Answers.{callRead, refusedCall, callOf, IsCall, CallRead}
 use Rattle.panel.specs.declared.answer.Answer.the-variants.{Done, Refused}
 use Rattle.panel.specs.Answer.{numberOf}
 use Rattle.valid.specs.Values.{sessionOf}
@@ -26,8 +25,9 @@ use Rattle.state.specs.State.{held}
 use Rattle.live.specs.Live.{imageAfter, Serves}
 use Rattle.live.proofs.Serving.{encode-shows}
 use Rattle.session.specs.Accepts.{Good}
-use Rattle.host.specs.Entries.{ImageOf, otherLine, served, callRefused, callServed, Calls}
-use Rattle.host.proofs.Entering.{unless-refused, unless-done, unless-number}
+use Rattle.host.specs.Entries.{ImageOf, served, callRefused, callServed, Calls}
+use Rattle.host.proofs.Entering.{unless-refused, unless-number}
+use Rattle.host.proofs.Reading.{Reader, refused-in-reading, read-whole}
 
 -- what was read is the call
 read-of : (f : Call) → callOf (callRead f) ≡ f
@@ -70,16 +70,22 @@ sessionTests c s = on (isAdd c && leb 64 (length (s .stations) + addsIn (s .topS
 form-refused : (f : Call) (s : Session) {n : ℕ} → unless (formTests f) f ≡ refused n → accept f s ≡ refused n
 form-refused f s q = unless-refused (formTests f) (sessionTests f s) f (accepted f s) q
 
-module _ (image line : List ℕ) (c : CallLine) (h : ImageOf image (sessionOf image)) where
-  pub line-refused : CallRead line c → (c .refusal ≡ 0 → ⊥) → Calls image line (callRefused image (c .refusal))
-  line-refused (other n e) ne = otherLine (sessionOf image) h n (ap (λ (x : CallLine). callRefused image (x .refusal)) e)
-  line-refused (form f i e) ne = served (sessionOf image) h f i (go (unless (formTests f) f) refl e)
-    where
-      go : (x : Answer Call) → unless (formTests f) f ≡ x → c ≡ settled refusedCall callRead x → callRefused image (c .refusal) ≡ callServed image (accept f (sessionOf image))
-      go (refused n) q d =
-          ap (λ (x : CallLine). callRefused image (x .refusal)) d
-          ∙ sym (ap (callServed image) (form-refused f (sessionOf image) q))
-      go (done g) q d = absurd (ne (ap (λ (x : CallLine). x .refusal) d ∙ read-none g))
+abbrev callReader : Reader Call CallLine
+callReader =
+    record {
+      tests = formTests;
+      number = λ c. c .refusal;
+      refusal = refusedCall;
+      value = callRead;
+      formOf = callOf;
+      numbered = λ n. refl;
+      unrefused = read-none;
+      back = read-of;
+      refuses = λ f. (omega arith, (omega arith, (omega arith, tt)));
+    }
+
+pub line-refused : (image line : List ℕ) (c : CallLine) → ImageOf image (sessionOf image) → CallRead line c → (c .refusal ≡ 0 → ⊥) → Calls image line (callRefused image (c .refusal))
+line-refused image line c h = refused-in-reading callReader (IsCall line) h (λ f n q. ap (callServed image) (form-refused f (sessionOf image) q)) c
 
 -- a line that is not refused in reading is the text of the call that was read, whose form is good
 pub record Read (line : List ℕ) (c : CallLine) : Type 0 where
@@ -87,26 +93,12 @@ pub record Read (line : List ℕ) (c : CallLine) : Type 0 where
   pub good : Good c
 
 pub line-read : (line : List ℕ) (c : CallLine) → CallRead line c → c .refusal ≡ 0 → Read line c
-line-read line c (other n e) z =
-    let ten : c .refusal ≡ 10 = ap (λ (x : CallLine). x .refusal) e in
-    absurd (omega arith)
-line-read line c (form f i e) z = go (unless (formTests f) f) refl e
-  where
-    go : (x : Answer Call) → unless (formTests f) f ≡ x → c ≡ settled refusedCall callRead x → Read line c
-    go (refused n) q d =
-        let same : c .refusal ≡ n = ap (λ (x : CallLine). x .refusal) d in
-        absurd (omega (arith, unless-number (formTests f) f (omega arith, (omega arith, (omega arith, tt))) q))
-    go (done g) q d =
-        let p = unless-done (formTests f) f q in
-        let e : c ≡ callRead f = d ∙ ap callRead (sym (p .0)) in
-        let is : callOf c ≡ f = ap callOf e ∙ read-of f in
-        record {
-          text = subst (IsCall line) (sym is) i;
-          good = record {
-            form = ap (λ (x : Call). firstOf (formTests x)) is ∙ p .1;
-            targets = ap (λ (x : CallLine). x .to) e ∙ read-packed f ∙ sym (ap (λ (x : CallLine). packed (listed (x .to))) e);
-          };
-        }
+line-read line c h z =
+    let r = read-whole callReader (IsCall line) c h z in
+    record {
+      text = r .text;
+      good = record { form = r .fine; targets = ap (λ (x : CallLine). x .to) (r .whole) ∙ read-packed (callOf c) ∙ sym (ap (λ (x : CallLine). packed (listed (x .to))) (r .whole)) };
+    }
 
 -- what the session does with it
 module _ (image after line : List ℕ) (c : CallLine) (n : ℕ) (h : ImageOf image (sessionOf image)) (r : Read line c) (s : Serves (accept (callOf c) (sessionOf image)) image after n) where
@@ -129,6 +121,3 @@ module _ (image after line : List ℕ) (c : CallLine) (n : ℕ) (h : ImageOf ima
       go (done u) d (holds v) e q =
           let same : last ≡ u .last = l ∙ ap (λ (x : List ℕ). held x .last) q ∙ ap (λ (f : Flat). f .last) (encode-shows u (v .valid) .shows) in
           λ i. record { answer = numberOf (Done (same i)); image = q i }
-
-pub call-answer : {image line after : List ℕ} {z w : ℤ} → z ≡ w → Calls image line (record { answer = w; image = after }) → Calls image line (record { answer = z; image = after })
-call-answer {image} {line} {after} e h = subst (λ (x : ℤ). Calls image line (record { answer = x; image = after })) (sym e) h

@@ -1,6 +1,6 @@
 -- From the test of the image to the session that it holds, or to the refusal; and answers by a sequence of tests.
 -- Assumes nothing.
-use mathlib.Core.Path.{_≡_, refl, sym, ap, _∙_}
+use mathlib.Core.Path.{_≡_, refl, sym, ap, subst, _∙_}
 use Prim.Native.Nat.{ℕ, _≤_}
 use native.Mathlib.Omega.{arith}
 use mathlib.Core.Bool.{Bool, true, false, cond, true≢false}
@@ -26,6 +26,10 @@ module _ {F R : Type 0} {image : List ℕ} {Is : F → Type 0} {refuse : ℕ →
   tested-refused (wrongLength h e) ne = otherLength h (ap refuse e)
   tested-refused (noSession l h e) ne = otherBytes l h (ap refuse e)
   tested-refused (holdsSession h e) ne = absurd (ne e)
+
+  -- what a function gives and leaves, by its parts
+  pub entered-as : {r q : R} → r ≡ q → Enters image Is refuse serve q → Enters image Is refuse serve r
+  entered-as e h = subst (Enters image Is refuse serve) (sym e) h
 
 pub tested-session : {image : List ℕ} {n : ℕ} → Tested image n → n ≡ 0 → ImageOf image (sessionOf image)
 tested-session (wrongLength h e) z = absurd (omega arith)

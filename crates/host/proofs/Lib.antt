@@ -1,5 +1,7 @@
 pub mod Entering
+pub mod Reading
 pub mod Calling
 pub mod Stepping
 pub mod Claiming
-pub mod ListingOut
+pub mod Listing
+pub mod Determined

@@ -23,7 +23,7 @@ use Rattle.lines.specs.Forms.{StepForm, work, drain as drains, stepKeys}
 use Rattle.lines.specs.declared.step.StepKind.{StepKind}
 use Rattle.lines.specs.declared.step.StepKind.the-variants.{Admit, Realise, Move, Finish, Join, Split, Swap, Fuse, Drain}
 use Rattle.lines.specs.declared.step.StepLine.{StepLine}
-use Rattle.lines.specs.Answers.{form, other, settled, stepRead, refusedStep, stepFormTests, stepForm, stepOf, IsStep, StepRead}
+use Rattle.lines.specs.Answers.{stepRead, refusedStep, stepFormTests, stepForm, stepOf, IsStep, StepRead}
 use Rattle.panel.specs.declared.answer.Answer.the-variants.{Done, Refused}
 use Rattle.panel.specs.declared.tally.Tally.{Tally}
 use Rattle.panel.specs.Answer.{numberOf}
@@ -33,9 +33,10 @@ use Rattle.valid.specs.Values.{sessionOf}
 use Rattle.live.specs.Live.{imageAfter, Serves}
 use Rattle.session.specs.declared.drain.Counts.{Counts}
 use Rattle.session.specs.Drained.{Drains}
-use Rattle.host.specs.Entries.{ImageOf, otherLine, served, stepRefused, stepServed, stepMade, Steps}
+use Rattle.host.specs.Entries.{ImageOf, served, stepRefused, stepServed, stepMade, Steps}
 use Rattle.host.specs.Tests.{placeOf}
-use Rattle.host.proofs.Entering.{unless-refused, unless-done, unless-number}
+use Rattle.host.proofs.Entering.{unless-refused}
+use Rattle.host.proofs.Reading.{Reader, refused-in-reading, read-whole}
 
 read-none : (f : StepForm) → stepRead f .refusal ≡ 0
 read-none (work admit) = refl
@@ -76,17 +77,27 @@ read-small (work (swap at unit)) e = key-small at e
 read-small (work (fuse at unit)) e = key-small at e
 read-small drains e = omega arith
 
-module _ (image line : List ℕ) (t : Tally) (c : StepLine) (h : ImageOf image (sessionOf image)) where
-  pub line-refused : StepRead line c → (c .refusal ≡ 0 → ⊥) → Steps image line t (stepRefused image t (c .refusal))
-  line-refused (other n e) ne = otherLine (sessionOf image) h n (ap (λ (x : StepLine). stepRefused image t (x .refusal)) e)
-  line-refused (form f i e) ne = served (sessionOf image) h f i (go f (unless (stepFormTests f) f) refl e)
-    where
-      go : (f : StepForm) (x : Answer StepForm) → unless (stepFormTests f) f ≡ x → c ≡ settled refusedStep stepRead x → stepRefused image t (c .refusal) ≡ stepMade image t (sessionOf image) f
-      go f (done g) q d = absurd (ne (ap (λ (x : StepLine). x .refusal) d ∙ read-none g))
-      go drains (refused n) q d = absurd (true≢false (ap isDone q))
-      go (work w) (refused n) q d =
-          ap (λ (x : StepLine). stepRefused image t (x .refusal)) d
-          ∙ sym (ap (λ (x : Answer Session). stepServed image t (w ∷ []) (andThen x (step w))) (unless-refused (stepFormTests (work w)) [] (work w) (sessionOf image) q))
+abbrev stepReader : Reader StepForm StepLine
+stepReader =
+    record {
+      tests = stepFormTests;
+      number = λ c. c .refusal;
+      refusal = refusedStep;
+      value = stepRead;
+      formOf = stepOf;
+      numbered = λ n. refl;
+      unrefused = read-none;
+      back = read-of;
+      refuses = λ f. (omega arith, tt);
+    }
+
+-- what the form's own test refuses is not taken
+form-refused : (image : List ℕ) (t : Tally) (s : Session) (f : StepForm) (n : ℕ) → unless (stepFormTests f) f ≡ refused n → stepMade image t s f ≡ stepRefused image t n
+form-refused image t s (work w) n q = ap (λ (x : Answer Session). stepServed image t (w ∷ []) (andThen x (step w))) (unless-refused (stepFormTests (work w)) [] (work w) s q)
+form-refused image t s drains n q = absurd (true≢false (ap isDone q))
+
+pub line-refused : (image line : List ℕ) (t : Tally) (c : StepLine) → ImageOf image (sessionOf image) → StepRead line c → (c .refusal ≡ 0 → ⊥) → Steps image line t (stepRefused image t (c .refusal))
+line-refused image line t c h = refused-in-reading stepReader (IsStep line) h (form-refused image t (sessionOf image)) c
 
 -- a line that is not refused in reading is the text of the step that was read, whose key is good
 pub record Read (line : List ℕ) (c : StepLine) : Type 0 where
@@ -95,24 +106,14 @@ pub record Read (line : List ℕ) (c : StepLine) : Type 0 where
   pub small : c .at < 256
 
 pub line-read : (line : List ℕ) (c : StepLine) → StepRead line c → c .refusal ≡ 0 → Read line c
-line-read line c (other n e) z =
-    let ten : c .refusal ≡ 10 = ap (λ (x : StepLine). x .refusal) e in
-    absurd (omega arith)
-line-read line c (form f i e) z = go (areKeys (stepKeys f)) refl (unless (stepFormTests f) f) refl e
+line-read line c h z =
+    let r = read-whole stepReader (IsStep line) c h z in
+    let fine : areKeys (stepKeys (stepOf c)) ≡ true = keys (areKeys (stepKeys (stepOf c))) (r .fine) in
+    record { text = r .text; fine = fine; small = subst (λ (x : StepLine). x .at < 256) (sym (r .whole)) (read-small (stepOf c) fine) }
   where
-    go : (b : Bool) → areKeys (stepKeys f) ≡ b → (x : Answer StepForm) → unless (stepFormTests f) f ≡ x → c ≡ settled refusedStep stepRead x → Read line c
-    go b k (refused n) q d =
-        let same : c .refusal ≡ n = ap (λ (x : StepLine). x .refusal) d in
-        absurd (omega (arith, unless-number (stepFormTests f) f (omega arith, tt) q))
-    go true k (done g) q d =
-        let r : c ≡ stepRead f = d ∙ ap stepRead (sym (unless-done (stepFormTests f) f q .0)) in
-        let is : stepOf c ≡ f = ap stepOf r ∙ read-of f in
-        record {
-          text = subst (IsStep line) (sym is) i;
-          fine = ap (λ (x : StepForm). areKeys (stepKeys x)) is ∙ k;
-          small = subst (λ (x : StepLine). x .at < 256) (sym r) (read-small f k);
-        }
-    go false k (done g) q d = absurd (true≢false (sym (ap isDone (sym (ap (λ (b : Bool). cond (not b) (refused 11) (done f)) k) ∙ q))))
+    keys : (b : Bool) → _≡_ {A = ℕ} (cond (not b) 11 0) 0 → b ≡ true
+    keys true e = refl
+    keys false e = absurd (omega arith)
 
 three : (a b c : Bool) → c ≡ false → 1 ≤ cond a 20 (cond b 21 (cond (not c) 22 0))
 three true b c e = omega arith
@@ -210,7 +211,3 @@ module _ (image after line : List ℕ) (t : Tally) (c : StepLine) (h : ImageOf i
         go : (x : Answer Session) → step w (sessionOf image) ≡ x → n ≡ codeOf x → after ≡ imageAfter x image → record { answer = z; image = after; tally = u } ≡ stepServed image t (w ∷ []) x
         go (refused m) d e y = absurd (omega (arith, step-refused w (sessionOf image) d))
         go (done v) d e y = λ i. record { answer = a i; image = y i; tally = (q ∙ ap (λ (k : ℕ). raised t k 1) place) i }
-
--- what a refusal gives, by its parts
-pub step-answer : (n : ℕ) {image line : List ℕ} {t u : Tally} {z : ℤ} → Steps image line t (stepRefused image t n) → z ≡ numberOf (Refused n) → u ≡ t → Steps image line t (record { answer = z; image = image; tally = u })
-step-answer n {image} {line} {t} {u} {z} h a q = subst (Steps image line t) (λ i. record { answer = sym a i; image = image; tally = sym q i }) h

@@ -94,12 +94,17 @@ pub record ClaimMade : Type 0 where
 abbrev pub claimRefused : List ℕ → List ℕ → ℕ → ClaimMade
 claimRefused image out n = record { answer = numberOf (Refused n); image = image; output = out }
 
--- "33 output shorter than the result line .. with newlines. Bytes after a written line stay."
+-- the result's line is written at the start of the output, its length is given, and the session holds the result no more.
+-- "Bytes after a written line stay."
+abbrev pub claimWritten : List ℕ → Session → Claimed → ClaimMade
+claimWritten out s c = record { answer = numberOf (Done (length (resultText (c .result)))); image = encode (keeping s (c .others)); output = pasted out 0 (resultText (c .result)) }
+
+-- "33 output shorter than the result line .. with newlines"
 abbrev pub claimServed : List ℕ → List ℕ → Session → Answer Claimed → ClaimMade
 claimServed image out s (refused n) = claimRefused image out n
 claimServed image out s (done c) =
     cond (leb (length (resultText (c .result))) (length out))
-    (record { answer = numberOf (Done (length (resultText (c .result)))); image = encode (keeping s (c .others)); output = pasted out 0 (resultText (c .result)) })
+    (claimWritten out s c)
     (claimRefused image out 33)
 
 abbrev pub Claims : (image line out : List ℕ) → ClaimMade → Type 0

@@ -23,7 +23,7 @@ ghost use Rattle.host.specs.Entries.{Steps};
 ghost use Rattle.host.specs.Tests.{placeOf};
 
 // The answer, and the tally after it.
-pub struct Counted {
+pub struct AnswerWithTally {
     pub answer: i64,
     pub tally: Tally,
 }
@@ -75,16 +75,16 @@ fn drained(t: Tally, c: Counts) -> Tally
     moves.raised(3, c.finish)
 }
 
-fn refused(n: u32, t: Tally) -> Counted
+fn refused(n: u32, t: Tally) -> AnswerWithTally
     ensures { λ r. ⌜ (r .answer ≡ numberOf (Refused n)) × (r .tally ≡ t) ⌝ }
 {
-    Counted {
+    AnswerWithTally {
         answer: number(Answer::Refused(n)),
         tally: t,
     }
 }
 
-pub fn step_by(image: &mut [u8], frame: &[u8], at: usize, t: Tally) -> Counted
+pub fn step_by(image: &mut [u8], frame: &[u8], at: usize, t: Tally) -> AnswerWithTally
     ensures { λ r. ⌜ Steps (now (image .entry)) (lineAt (now (frame .entry)) at) t (record { answer = r .answer; image = now (image .exit); tally = r .tally }) ⌝ }
 {
     let refusal = image_refusal(image);
@@ -99,7 +99,7 @@ pub fn step_by(image: &mut [u8], frame: &[u8], at: usize, t: Tally) -> Counted
     let place = place_of(kind);
     if place == 8 {
         let c = drain(image);
-        return Counted {
+        return AnswerWithTally {
             answer: number(Answer::Done(0)),
             tally: drained(t, c),
         };
@@ -108,7 +108,7 @@ pub fn step_by(image: &mut [u8], frame: &[u8], at: usize, t: Tally) -> Counted
     if n != 0 {
         return refused(n, t);
     }
-    Counted {
+    AnswerWithTally {
         answer: number(Answer::Done(0)),
         tally: t.raised(place, 1),
     }

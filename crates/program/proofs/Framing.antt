@@ -16,7 +16,7 @@ use Rattle.text.specs.Text.{upTo}
 use Rattle.lines.specs.Answers.{lineAt}
 use Rattle.program.specs.Lines.{Line}
 use Rattle.program.specs.Transcript.{linesOf, Run, none, next}
-use Rattle.program.specs.Frames.{Ready, Served, Next, Went}
+use Rattle.program.specs.Frames.{Ready, Served, Next, LinesServed}
 use Rattle.program.specs.declared.frame.Progress.{Progress}
 
 -- ---- a line, and the lines after it
@@ -90,8 +90,8 @@ next-served {image} {frame} {out} {after} {part} {p} {n} {r} ready size same s =
 
 -- ---- serving the lines of a frame
 
-pub went-none : (image frame : List ℕ) (at n : ℕ) (out : List ℕ) → at ≤ length frame → Went image frame at n image out (record { at = at; line = n; used = 0 })
-went-none image frame at n out h =
+pub served-none : (image frame : List ℕ) (at n : ℕ) (out : List ℕ) → at ≤ length frame → LinesServed image frame at n image out (record { at = at; line = n; used = 0 })
+served-none image frame at n out h =
     record {
       lines = [];
       runs = none;
@@ -102,8 +102,8 @@ went-none image frame at n out h =
       fewer = omega arith;
     }
 
-pub went-next : {image frame between out after written : List ℕ} {at n : ℕ} {p q : Progress} → Went image frame at n between out p → Ready frame p out true → Next between frame p out after written q → Went image frame at n after written q
-went-next {image} {frame} {between} {out} {after} {written} {at} {n} {p} {q} w ready x =
+pub served-next : {image frame between out after written : List ℕ} {at n : ℕ} {p q : Progress} → LinesServed image frame at n between out p → Ready frame p out true → Next between frame p out after written q → LinesServed image frame at n after written q
+served-next {image} {frame} {between} {out} {after} {written} {at} {n} {p} {q} w ready x =
     record {
       lines = w .lines ++ lineAt frame (p .at) ∷ [];
       runs = subst (λ (m : ℕ). Run image n (w .lines ++ lineAt frame (p .at) ∷ []) after m (take (q .used) written)) (sym (x .number ∙ add-one (p .line))) (rw (x .bytes) (run-more (w .runs) (x .served)));

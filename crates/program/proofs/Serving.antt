@@ -20,11 +20,12 @@ use Rattle.graph.specs.Acceptance.{Claimed, claim as claimOf}
 use Rattle.print.specs.Printed.{resultText}
 use Rattle.panel.specs.declared.tally.Tally.{Tally}
 use Rattle.panel.specs.declared.answer.Answer.the-variants.{Refused}
-use Rattle.panel.specs.Answer.{numberOf}
+use Rattle.panel.specs.Answer.{numberOf, refusalIn}
 use Rattle.listing.specs.Listed.{listingOf}
-use Rattle.host.specs.Entries.{Calls, Steps, ClaimMade, claimRefused, claimServed, Claims, Listed, listServed, Lists, otherLength, otherBytes, otherLine, served}
+use Rattle.host.specs.Entries.{Calls, Steps, ClaimMade, claimRefused, claimServed, Claims, Listed, listServed, Lists}
+use Rattle.host.proofs.Determined.{each-case}
 use Rattle.program.specs.Lines.{begins, told, lengthIn, shown, step, claim, call}
-use Rattle.program.specs.Frames.{refusalIn, Tells, Served, Ended}
+use Rattle.program.specs.Frames.{AnswerPrinted, Served, Ended}
 
 told-none : (n : ℕ) (z : ℤ) → 0 ≡ refusalIn z → [] ≡ told n z
 told-none n (pos k) e = refl
@@ -39,28 +40,28 @@ pub take-pasted : (s text : List ℕ) → take (0 + length text) (pasted s 0 tex
 unfolding pasted
 take-pasted s text = let e : length text ≡ 0 + length text = omega arith in take-at text (drop (0 + length text) s) (0 + length text) e
 
-pub tells-none : (n : ℕ) (z : ℤ) (out : List ℕ) (r : ℕ) → r ≡ refusalIn z → r ≡ 0 → Tells n z out 0
-tells-none n z out r e q = record { within = omega arith; text = told-none n z (sym q ∙ e) }
+pub printed-none : (n : ℕ) (z : ℤ) (out : List ℕ) (r : ℕ) → r ≡ refusalIn z → r ≡ 0 → AnswerPrinted n z out 0
+printed-none n z out r e q = record { within = omega arith; text = told-none n z (sym q ∙ e) }
 
 module _ (n r : ℕ) (line : n < 2 ^ 64) (refusal : r < 2 ^ 64) (s : List ℕ) (room : 128 ≤ length s) where
-  pub tells-room : 0 + length (refusalText n r) ≤ length s
-  tells-room = omega (arith, refusal-fits n r line refusal)
+  pub printed-room : 0 + length (refusalText n r) ≤ length s
+  printed-room = omega (arith, refusal-fits n r line refusal)
 
-  pub tells-written : (z : ℤ) (o : List ℕ) (p : ℕ) → Written s 0 (refusalText n r) o p → r ≡ refusalIn z → (r ≡ 0 → ⊥) → Tells n z o p
-  tells-written z o p w e ne =
-      let size : length o ≡ length s = written-size w tells-room in
+  pub printed-written : (z : ℤ) (o : List ℕ) (p : ℕ) → Written s 0 (refusalText n r) o p → r ≡ refusalIn z → (r ≡ 0 → ⊥) → AnswerPrinted n z o p
+  printed-written z o p w e ne =
+      let size : length o ≡ length s = written-size w printed-room in
       record {
-        within = omega (arith, w .place, tells-room, size);
+        within = omega (arith, w .place, printed-room, size);
         text = (λ i. take (w .place i) (w .bytes i)) ∙ take-pasted s (refusalText n r) ∙ told-refusal n z r e ne;
       }
 
 -- ---- a line served: the answer z that is told of is the answer w that the host's function gave
 
 module _ {image line after out : List ℕ} {n r : ℕ} {z w : ℤ} (same : z ≡ w) where
-  pub call-served : begins (ascii "step=") line ≡ false → begins (ascii "claim=") line ≡ false → Calls image line (record { answer = w; image = after }) → Tells n z out r → Served image line n after out r
+  pub call-served : begins (ascii "step=") line ≡ false → begins (ascii "claim=") line ≡ false → Calls image line (record { answer = w; image = after }) → AnswerPrinted n z out r → Served image line n after out r
   call-served a b h t = record { within = t .within; served = call a b _ h refl (ap (told n) (sym same) ∙ sym (t .text)) }
 
-  pub step-served : {t u : Tally} → begins (ascii "step=") line ≡ true → Steps image line t (record { answer = w; image = after; tally = u }) → Tells n z out r → Served image line n after out r
+  pub step-served : {t u : Tally} → begins (ascii "step=") line ≡ true → Steps image line t (record { answer = w; image = after; tally = u }) → AnswerPrinted n z out r → Served image line n after out r
   step-served {t} {u} b h s = record { within = s .within; served = step b t _ h refl (ap (told n) (sym same) ∙ sym (s .text)) }
 
 shown-refusal : (n : ℕ) (z : ℤ) (output : List ℕ) → (refusalIn z ≡ 0 → ⊥) → shown n z output ≡ told n z
@@ -96,13 +97,10 @@ served-within image out s (done c) = go (leb (length (resultText (c .result))) (
     go false e = rw e (refused-within image out 33)
 
 claim-within : {image line out : List ℕ} {r : ClaimMade} → Claims image line out r → Within r
-claim-within {image} {line} {out} (otherLength h e) = subst Within (sym e) (refused-within image out 1)
-claim-within {image} {line} {out} (otherBytes l h e) = subst Within (sym e) (refused-within image out 2)
-claim-within {image} {line} {out} (otherLine s h n e) = subst Within (sym e) (refused-within image out 10)
-claim-within {image} {line} {out} (served s h l i e) = subst Within (sym e) (served-within image out s (claimOf l s))
+claim-within {image} {line} {out} h = each-case Within (refused-within image out) (λ s l. served-within image out s (claimOf l s)) h
 
 module _ {image line out after output : List ℕ} {n : ℕ} {z w : ℤ} (same : z ≡ w) (room : 128 ≤ length out) (b : begins (ascii "claim=") line ≡ true) (h : Claims image line out (record { answer = w; image = after; output = output })) where
-  pub claim-told : {written : List ℕ} {r k : ℕ} → k ≡ refusalIn z → (k ≡ 0 → ⊥) → Tells n z written r → Served image line n after written r
+  pub claim-told : {written : List ℕ} {r k : ℕ} → k ≡ refusalIn z → (k ≡ 0 → ⊥) → AnswerPrinted n z written r → Served image line n after written r
   claim-told e ne t = record { within = t .within; served = claim b out room _ h refl (ap (λ (x : ℤ). shown n x output) (sym same) ∙ shown-refusal n z output (λ q. ne (e ∙ q)) ∙ sym (t .text)) }
 
   pub claim-shown : {r k : ℕ} → k ≡ refusalIn z → k ≡ 0 → r ≡ lengthIn z → Served image line n after output r
@@ -126,10 +124,7 @@ listed-inside out s = go (leb (length (listingOf s)) (length out)) refl
     go false e = rw e (refused-length 33 (length out))
 
 list-inside : {image out : List ℕ} {l : Listed} → Lists image out l → Inside l
-list-inside {image} {out} (otherLength h e) = subst Inside (sym e) (refused-length 1 (length out))
-list-inside {image} {out} (otherBytes l h e) = subst Inside (sym e) (refused-length 2 (length out))
-list-inside {image} {out} (otherLine s h n e) = subst Inside (sym e) (refused-length 10 (length out))
-list-inside {image} {out} (served s h f i e) = subst Inside (sym e) (listed-inside out s)
+list-inside {image} {out} h = each-case Inside (λ k. refused-length k (length out)) (λ s f. listed-inside out s) h
 
 pub list-ended : {image out output : List ℕ} {z w : ℤ} {r : ℕ} → z ≡ w → 16512 ≤ length out → Lists image out (record { answer = w; output = output }) → r ≡ lengthIn z → Ended image output r
 list-ended {image} {out} {output} {z} {w} {r} same room h e =

@@ -11,8 +11,8 @@ use borrow.Author.Tests.{leb-false, ltb-true, le-ltb}
 use mir.Syntax.{w64}
 use mir.Val.{toZ, ofZ, Fits, SFits}
 use mir.Facts.{toZ-ofZ}
+use Rattle.panel.specs.Answer.{refusalIn}
 use Rattle.program.specs.Lines.{lengthIn}
-use Rattle.program.specs.Frames.{refusalIn}
 
 -- ---- no refusal
 

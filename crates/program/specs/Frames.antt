@@ -1,24 +1,19 @@
 -- What serving a line, and the lines of a frame, gives and leaves.
 -- Assumes nothing.
-use Prim.Native.Nat.{ℕ, suc, _+_, _≤_, _<_}
+use Prim.Native.Nat.{ℕ, _+_, _≤_, _<_}
 use mathlib.Core.Bool.{Bool, true, false}
 use mathlib.Core.Logic.{_⊎_}
 use mathlib.Core.Path.{_≡_}
 use mathlib.Core.List.{List, _++_}
-use lib.IntN.{ℤ, pos, negsuc}
+use lib.IntN.{ℤ}
 use lib.ListN.{length, take, drop}
 use Rattle.lines.specs.Answers.{lineAt}
 use Rattle.program.specs.Lines.{told, Line}
 use Rattle.program.specs.Transcript.{linesOf, Run, Ends}
 use Rattle.program.specs.declared.frame.Progress.{Progress}
 
--- the refusal that an answer is, or 0
-abbrev pub refusalIn : ℤ → ℕ
-refusalIn (pos k) = 0
-refusalIn (negsuc k) = suc k
-
 -- what is printed of an answer is the first r bytes of the output
-pub record Tells (n : ℕ) (answer : ℤ) (out : List ℕ) (r : ℕ) : Type 0 where
+pub record AnswerPrinted (n : ℕ) (answer : ℤ) (out : List ℕ) (r : ℕ) : Type 0 where
   pub within : r ≤ length out
   pub text : take r out ≡ told n answer
 
@@ -42,7 +37,7 @@ pub record Next (image frame : List ℕ) (p : Progress) (out after written : Lis
   pub number : q .line ≡ p .line + 1
 
 -- the lines of the frame from `at` on were served as far as p says, and what is printed of them is the first bytes of the output
-pub record Went (image frame : List ℕ) (at n : ℕ) (after out : List ℕ) (p : Progress) : Type 0 where
+pub record LinesServed (image frame : List ℕ) (at n : ℕ) (after out : List ℕ) (p : Progress) : Type 0 where
   pub lines : List (List ℕ)
   pub runs : Run image n lines after (p .line) (take (p .used) out)
   pub parts : linesOf (drop at frame) ≡ lines ++ linesOf (drop (p .at) frame)

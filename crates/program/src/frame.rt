@@ -7,7 +7,7 @@ ghost use Prim.Native.Nat.{_+_, _≤_, _<_, _^_};
 ghost use lib.Dec.{ltb};
 ghost use lib.ListN.{length};
 ghost use Rattle.lines.specs.Answers.{lineAt};
-ghost use Rattle.program.specs.Frames.{Ready, Next, Went};
+ghost use Rattle.program.specs.Frames.{Ready, Next, LinesServed};
 
 // Where the next line stands, its number, and how many bytes of the output are written.
 pub struct Progress {
@@ -55,7 +55,7 @@ fn serve_next(image: &mut [u8], frame: &[u8], p: Progress, out: &mut [u8]) -> Pr
 // Serves the whole lines from a place on, until none is left or the output may be too short for what is printed of one.
 pub fn serve_lines(image: &mut [u8], frame: &[u8], at: usize, line: u64, out: &mut [u8]) -> Progress
     requires { ⌜ (at ≤ length (now frame)) × (line + length (now frame) < 2 ^ 64) ⌝ }
-    ensures { λ r. ⌜ Went (now (image .entry)) (now (frame .entry)) at line (now (image .exit)) (now (out .exit)) r × Ready (now (frame .entry)) r (now (out .exit)) false ⌝ }
+    ensures { λ r. ⌜ LinesServed (now (image .entry)) (now (frame .entry)) at line (now (image .exit)) (now (out .exit)) r × Ready (now (frame .entry)) r (now (out .exit)) false ⌝ }
 {
     let mut p = Progress { at, line, used: 0 };
     while has_next(frame, p, out) {

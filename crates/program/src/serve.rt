@@ -14,8 +14,9 @@ ghost use Prim.Native.Nat.{_≤_};
 ghost use lib.ListN.{length};
 ghost use Rattle.text.specs.Text.{ascii};
 ghost use Rattle.lines.specs.Answers.{lineAt};
+ghost use Rattle.panel.specs.Answer.{refusalIn};
 ghost use Rattle.program.specs.Lines.{begins as beginsWith, lengthIn};
-ghost use Rattle.program.specs.Frames.{refusalIn, Tells, Served, Ended};
+ghost use Rattle.program.specs.Frames.{AnswerPrinted, Served, Ended};
 
 // Nothing that is printed shows a tally, so each step is lent a fresh one.
 const ZEROS: Tally = Tally {
@@ -61,7 +62,7 @@ fn length_in(answer: i64) -> usize
 // Writes the refusal of a line, where the answer is one, and gives the length of what it wrote.
 fn tell(out: &mut [u8], line: u64, answer: i64) -> usize
     requires { ⌜ 128 ≤ length (now out) ⌝ }
-    ensures { λ r. ⌜ Tells line answer (now (out .exit)) r ⌝ }
+    ensures { λ r. ⌜ AnswerPrinted line answer (now (out .exit)) r ⌝ }
 {
     let refusal = refusal_in(answer);
     if refusal == 0 {

@@ -38,7 +38,8 @@ use Rattle.valid.specs.Values.{encode}
 use Rattle.host.specs.Entries.{ImageOf, Steps}
 use Rattle.runs.specs.Runs.{Sent, step, claim, Runs, opening, after, acceptedLines, TextsOf, noLine, aLine, Pending, Wrote, ClaimedIn, here, there, WouldWrite, OneTally, lastTally}
 use Rattle.runs.specs.Demand.{ResultOf, claimed, unclaimed, HasResult, ClaimsMeant, Progress, StepLines, NonePending, Demand3}
-use Rattle.runs.proofs.Entered.{own, same-session}
+use Rattle.host.proofs.Determined.{same-session}
+use Rattle.runs.proofs.Entered.{own}
 use Rattle.runs.proofs.Reached.{Gave, noClaim, pastCall, pastStep, pastRefusal, pastClaim, Reached, reached}
 use Rattle.runs.proofs.Seen.{line-taken, all-lines, pending-seen, pending-only, would-write, some-same, none-some}
 

@@ -19,26 +19,18 @@ use Rattle.graph.specs.Drain.{drain}
 use Rattle.graph.specs.Runs.{andThen}
 use Rattle.graph.specs.Valid.{Valid}
 use Rattle.graph.proofs.Answers.{isDone}
-use Rattle.text.specs.Text.{pasted}
 use Rattle.lines.specs.Forms.{StepForm, work, drain as drains, stepKeys}
 use Rattle.lines.specs.Answers.{IsCall, IsStep, IsClaim}
 use Rattle.print.specs.Printed.{resultText}
-use Rattle.panel.specs.declared.answer.Answer.the-variants.{Done, Refused}
+use Rattle.panel.specs.declared.answer.Answer.the-variants.{Refused}
 use Rattle.panel.specs.declared.tally.Tally.{Tally}
 use Rattle.panel.specs.Answer.{numberOf}
-use Rattle.valid.specs.Values.{encode, sessionOf}
-use Rattle.live.proofs.Serving.{session-held, nest-shown, encode-shows}
-use Rattle.host.specs.Entries.{ImageOf, Enters, otherLength, otherBytes, otherLine, served, Called, callRefused, callServed, Calls, Stepped, stepRefused, stepServed, stepMade, Steps, ClaimMade, claimRefused, claimServed, Claims}
+use Rattle.valid.specs.Values.{encode}
+use Rattle.host.specs.Entries.{ImageOf, Enters, otherLength, otherBytes, otherLine, served, Called, callRefused, callServed, Calls, Stepped, stepRefused, stepServed, stepMade, Steps, ClaimMade, claimRefused, claimWritten, claimServed, Claims}
+use Rattle.host.proofs.Determined.{same-session, image-size}
 use Rattle.host.proofs.Entering.{unless-done, unless-number}
 use Rattle.host.proofs.Stepping.{step-refused}
 use Rattle.runs.specs.Runs.{isServed, Wrote}
-
--- an image has one session
-pub session-of : (s : Session) → Valid s → sessionOf (encode s) ≡ s
-session-of s v = session-held (encode s) ∙ nest-shown s (encode s) v (encode-shows s v .shows)
-
-pub same-session : {image : List ℕ} {s u : Session} → ImageOf image s → ImageOf image u → s ≡ u
-same-session {image} {s} {u} a b = sym (session-of s (a .valid)) ∙ ap sessionOf (a .same ∙ sym (b .same)) ∙ session-of u (b .valid)
 
 pub own : (s : Session) → Valid s → ImageOf (encode s) s
 own s v = record { valid = v; same = refl }
@@ -49,7 +41,7 @@ pub data Entered {F R : Type 0} (Is : F → Type 0) (refuse : ℕ → R) (serve 
 
 module _ {F R : Type 0} {Is : F → Type 0} {refuse : ℕ → R} {serve : Session → F → R} {r : R} (s : Session) (v : Valid s) where
   pub entered : Enters (encode s) Is refuse serve r → Entered Is refuse serve s r
-  entered (otherLength h e) = absurd (h (encode-shows s v .proper .sound .size))
+  entered (otherLength h e) = absurd (h (image-size (own s v)))
   entered (otherBytes l h e) = absurd (h s (own s v))
   entered (otherLine u i h e) = noForm h e
   entered (served u i f is e) = aForm f is (e ∙ ap (λ (x : Session). serve x f) (same-session i (own s v)))
@@ -136,7 +128,7 @@ claim-next s v line out r h = go (entered s v h)
     below n m e = claimRefuses (ap (λ (y : ClaimMade). isServed (y .answer)) e ∙ refused-served n m) (ap (λ (y : ClaimMade). y .image) e)
 
     room : (l : ℕ) (c : Claimed) → IsClaim line l → claim l s ≡ done c → (b : Bool)
-        → r ≡ cond b (record { answer = numberOf (Done (length (resultText (c .result)))); image = encode (keeping s (c .others)); output = pasted out 0 (resultText (c .result)) }) (claimRefused (encode s) out 33) → ClaimNext s line out r
+        → r ≡ cond b (claimWritten out s c) (claimRefused (encode s) out 33) → ClaimNext s line out r
     room l c i q true e = gives l c i q (ap (λ (y : ClaimMade). y .image) e) (record { answer = ap (λ (y : ClaimMade). y .answer) e; output = ap (λ (y : ClaimMade). y .output) e })
     room l c i q false e = below 33 (omega arith) e
 

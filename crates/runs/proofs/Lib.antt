@@ -2,6 +2,6 @@ pub mod Entered
 pub mod Reached
 pub mod Seen
 pub mod Demand3
-pub mod Determined
+pub mod Unchanged
 pub mod SameEnd
 pub mod SameImage

@@ -4,16 +4,14 @@ use mathlib.Core.Path.{_≡_, refl, sym, ap, subst, _∙_}
 use Prim.Native.Nat.{ℕ, _≤_}
 use native.Mathlib.Omega.{arith}
 use mathlib.Core.List.{List, _∷_}
-use mathlib.Core.Option.{none}
 use lib.ListN.{length}
 use Rattle.graph.specs.Calls.{Call}
 use Rattle.graph.specs.OneAtATime.{oneAtATime}
-use Rattle.graph.specs.Sessions.{pending}
 use Rattle.graph.specs.Runs.{find}
 use Rattle.runs.specs.Runs.{Sent, Runs, opening, after, acceptedLines, TextsOf, noLine, aLine, here, there, GraphOf}
 use Rattle.runs.specs.Demand.{ResultOf, NonePending, SameEnd}
 use Rattle.runs.proofs.Seen.{some-same}
-use Rattle.runs.proofs.Determined.{call-forms}
+use Rattle.host.proofs.Determined.{call-forms}
 use Rattle.runs.proofs.Demand3.{demand3}
 
 -- the same lines are the texts of the same calls

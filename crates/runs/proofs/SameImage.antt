@@ -23,11 +23,11 @@ use Rattle.graph.proofs.Limits.{rising-above}
 use Rattle.graph.proofs.Demand3.{label-once}
 use Rattle.graph.proofs.Labels.{is, total-append, total-is}
 use Rattle.valid.specs.Values.{encode}
-use Rattle.runs.specs.Runs.{Sent, claim, Runs, opening, after, isServed, acceptedLines, TextsOf, ClaimedIn, here, there}
+use Rattle.runs.specs.Runs.{Sent, Runs, opening, after, isServed, acceptedLines, TextsOf, ClaimedIn, here, there}
 use Rattle.runs.specs.Demand.{NonePending, ClaimedLabel}
 use Rattle.runs.proofs.Seen.{some-same, none-some}
 use Rattle.runs.proofs.Reached.{Gave, pastCall, pastStep, pastRefusal, pastClaim}
-use Rattle.runs.proofs.Determined.{claim-forms}
+use Rattle.host.proofs.Determined.{claim-forms}
 use Rattle.runs.proofs.Demand3.{InEither, first, second, find-either, gave-claimed}
 use Rattle.runs.proofs.Demand3 as main
 use Rattle.runs.proofs.SameEnd.{texts-same}

@@ -8,7 +8,7 @@ use mathlib.Core.List.{List, [], _∷_, _++_}
 use mathlib.Core.Option.{Option, none, some}
 use Prim.Native.String.{String}
 use lib.Dec.{eqb, leb}
-use lib.IntN.{ℤ, pos, negsuc}
+use lib.IntN.{pos}
 use lib.ListN.{length, length-append}
 use borrow.Author.Tests.{lt-ltb, le-leb, eqb-true}
 use Rattle.graph.specs.Refusals.{Answer, refused, done, mapDone, numberOf as codeOf, unless}
@@ -17,7 +17,7 @@ use Rattle.graph.specs.Calls.{areWords}
 use Rattle.graph.specs.Nodes.{Result}
 use Rattle.graph.specs.Sessions.{Station, Session, pending}
 use Rattle.graph.specs.Steps.{Step, admit, realise, move, finish, join, split, swap, fuse, Change, behind, at, step}
-use Rattle.graph.specs.Acceptance.{Claimed, takeResult, claim, keeping}
+use Rattle.graph.specs.Acceptance.{Claimed, takeResult, claim}
 use Rattle.graph.specs.Runs.{workSteps, andThen, stepAll, find}
 use Rattle.graph.specs.Valid.{KeysFall, Valid}
 use Rattle.graph.proofs.Answers.{isDone, isDone-map, and-both}
@@ -30,22 +30,17 @@ use Rattle.lines.specs.Forms.{work, field, stepText, stepKeys, claimText}
 use Rattle.lines.specs.Answers.{IsStep, IsClaim, stepFormTests}
 use Rattle.lines.proofs.Claims.{claim-unique}
 use Rattle.print.specs.Printed.{resultText}
-use Rattle.panel.specs.declared.answer.Answer.the-variants.{Done, Refused}
+use Rattle.panel.specs.declared.answer.Answer.the-variants.{Refused}
 use Rattle.panel.specs.declared.tally.Tally.{Tally}
-use Rattle.panel.specs.Answer.{numberOf}
+use Rattle.panel.specs.Answer.{numberOf, refusalIn}
 use Rattle.panel.specs.Tally.{counted}
 use Rattle.valid.specs.Values.{encode}
-use Rattle.host.specs.Entries.{served, ClaimMade, claimRefused, claimServed, stepServed, Steps}
+use Rattle.host.specs.Entries.{served, ClaimMade, claimRefused, claimWritten, claimServed, stepServed, Steps}
 use Rattle.runs.specs.Runs.{isServed, Pending, Wrote, WouldWrite}
 use Rattle.runs.specs.Demand.{StepLines, ended, stepped}
 use Rattle.runs.proofs.Entered.{own, Entered, noForm, aForm, entered, take-refused}
 
--- a refusal's number in an answer
-abbrev refusalOf : ℤ → ℕ
-refusalOf (pos n) = 0
-refusalOf (negsuc n) = suc n
-
-refusal-of : (n : ℕ) → refusalOf (numberOf (Refused n)) ≡ n
+refusal-of : (n : ℕ) → refusalIn (numberOf (Refused n)) ≡ n
 refusal-of zero = refl
 refusal-of (suc n) = refl
 
@@ -180,13 +175,13 @@ module _ (s : Session) (v : Valid s) (l : ℕ) where
   pending-only h = go (entered s v (h []))
     where
       answers : {n : ℕ} → claimRefused (encode s) [] 31 ≡ claimRefused (encode s) [] n → 31 ≡ n
-      answers {n} e = ap (λ (y : ClaimMade). refusalOf (y .answer)) e ∙ refusal-of n
+      answers {n} e = ap (λ (y : ClaimMade). refusalIn (y .answer)) e ∙ refusal-of n
 
       form : (m : ℕ) → m ≡ l → (x : Answer Claimed) → claim m s ≡ x → claimRefused (encode s) [] 31 ≡ claimServed (encode s) [] s x → contains l (pending s) ≡ true
       form m q (refused n) d e = refused-31 (sym (ap (λ (j : ℕ). claim j s) q) ∙ d ∙ ap refused (sym (answers e)))
       form m q (done c) d e = room (leb (length (resultText (c .result))) 0) e
         where
-          room : (b : Bool) → claimRefused (encode s) [] 31 ≡ cond b (record { answer = numberOf (Done (length (resultText (c .result)))); image = encode (keeping s (c .others)); output = pasted [] 0 (resultText (c .result)) }) (claimRefused (encode s) [] 33) → contains l (pending s) ≡ true
+          room : (b : Bool) → claimRefused (encode s) [] 31 ≡ cond b (claimWritten [] s c) (claimRefused (encode s) [] 33) → contains l (pending s) ≡ true
           room true e = absurd (true≢false (sym (ap (λ (y : ClaimMade). isServed (y .answer)) e)))
           room false e = let unlike : _≡_ {A = ℕ} 31 33 = answers e in absurd (omega arith)
 
@@ -222,6 +217,6 @@ would-write s v l h k c q e out room =
     }
   where
     written : (c : Claimed) → c .result ≡ q → (b : Bool) → b ≡ true
-        → Wrote out q (cond b (record { answer = numberOf (Done (length (resultText (c .result)))); image = encode (keeping s (c .others)); output = pasted out 0 (resultText (c .result)) }) (claimRefused (encode s) out 33))
+        → Wrote out q (cond b (claimWritten out s c) (claimRefused (encode s) out 33))
     written c e true t = record { answer = ap (λ (r : Result). pos (length (resultText r))) e; output = ap (λ (r : Result). pasted out 0 (resultText r)) e }
     written c e false t = absurd (true≢false (sym t))

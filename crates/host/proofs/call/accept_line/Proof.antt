@@ -1,6 +1,5 @@
 -- Each answer is a case of `Calls`.
 -- Assumes nothing.
-use mathlib.Core.Path.{refl}
 use Rattle.host.proofs.Entering.{tested-refused, tested-session, session-live}
 use Rattle.host.proofs.Calling.{line-refused, line-read, not-accepted, is-accepted}
 use borrow.Author.Needs.{needs}

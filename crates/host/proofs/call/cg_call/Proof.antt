@@ -1,9 +1,11 @@
 -- The answer as a number.
 -- Assumes nothing.
+use Prim.Native.Nat.{ℕ}
 use mathlib.Core.Path.{_≡_, _∙_}
+use mathlib.Core.List.{List}
 use mir.Syntax.{w64}
 use mir.Val.{toZ, ofZ}
-use Rattle.host.proofs.Calling.{call-answer}
+use Rattle.host.proofs.Entering.{entered-as}
 use borrow.Author.Needs.{needs}
 use Rattle.host.proofs.call.cg_call.Statement.{statement}
 use Rattle.host.proofs.call.cg_call.Tie as tie
@@ -20,7 +22,8 @@ same-length c = search needs
 returns : tie.Need-returns
 returns c =
     let same : toZ w64 (ofZ w64 (c .number .result)) ≡ c .number .result = search needs in
-    call-answer (same ∙ c .number .ensures) (c .before .before .before .accept-line .ensures)
+    let after : List ℕ = _ in
+    entered-as (λ i. record { answer = (same ∙ c .number .ensures) i; image = after }) (c .before .before .before .accept-line .ensures)
 
 pub cg-call-spec : {M : Type 1} → statement M
 cg-call-spec = tie.close (tie.spec accept-line-requires number-requires same-length returns)

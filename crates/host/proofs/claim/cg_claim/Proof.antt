@@ -1,9 +1,11 @@
 -- The answer as a number.
 -- Assumes nothing.
+use Prim.Native.Nat.{ℕ}
 use mathlib.Core.Path.{_≡_, _∙_}
+use mathlib.Core.List.{List}
 use mir.Syntax.{w64}
 use mir.Val.{toZ, ofZ}
-use Rattle.host.proofs.Claiming.{claim-answer}
+use Rattle.host.proofs.Entering.{entered-as}
 use borrow.Author.Needs.{needs}
 use Rattle.host.proofs.claim.cg_claim.Statement.{statement}
 use Rattle.host.proofs.claim.cg_claim.Tie as tie
@@ -23,7 +25,9 @@ same-length-2 c = search needs
 returns : tie.Need-returns
 returns c =
     let same : toZ w64 (ofZ w64 (c .number .result)) ≡ c .number .result = search needs in
-    claim-answer (same ∙ c .number .ensures) (c .before .before .before .before .before .claim-line .ensures)
+    let after : List ℕ = _ in
+    let output : List ℕ = _ in
+    entered-as (λ i. record { answer = (same ∙ c .number .ensures) i; image = after; output = output }) (c .before .before .before .before .before .claim-line .ensures)
 
 pub cg-claim-spec : {M : Type 1} → statement M
 cg-claim-spec =

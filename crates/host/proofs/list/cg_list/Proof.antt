@@ -1,9 +1,11 @@
 -- The answer as a number.
 -- Assumes nothing.
+use Prim.Native.Nat.{ℕ}
 use mathlib.Core.Path.{_≡_, _∙_}
+use mathlib.Core.List.{List}
 use mir.Syntax.{w64}
 use mir.Val.{toZ, ofZ}
-use Rattle.host.proofs.ListingOut.{list-answer}
+use Rattle.host.proofs.Entering.{entered-as}
 use borrow.Author.Needs.{needs}
 use Rattle.host.proofs.list.cg_list.Statement.{statement}
 use Rattle.host.proofs.list.cg_list.Tie as tie
@@ -20,7 +22,8 @@ same-length c = search needs
 returns : tie.Need-returns
 returns c =
     let same : toZ w64 (ofZ w64 (c .number .result)) ≡ c .number .result = search needs in
-    list-answer (same ∙ c .number .ensures) (c .before .before .before .list .ensures)
+    let output : List ℕ = _ in
+    entered-as (λ i. record { answer = (same ∙ c .number .ensures) i; output = output }) (c .before .before .before .list .ensures)
 
 pub cg-list-spec : {M : Type 1} → statement M
 cg-list-spec = tie.close (tie.spec list-requires number-requires same-length returns)

@@ -3,7 +3,7 @@
 
 use native.Mathlib.Omega.{arith}
 use Rattle.host.proofs.Entering.{tested-refused, tested-session, session-live}
-use Rattle.host.proofs.ListingOut.{no-room, is-listed}
+use Rattle.host.proofs.Listing.{no-room, is-listed}
 use borrow.Author.Needs.{needs}
 use Rattle.host.proofs.list.list.Statement.{statement}
 use Rattle.host.proofs.list.list.Tie as tie

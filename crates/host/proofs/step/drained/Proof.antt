@@ -1,6 +1,6 @@
 -- Each count is raised by its own number.
 -- Assumes nothing.
-use mathlib.Core.Path.{sym, ap, _∙_}
+use mathlib.Core.Path.{ap, _∙_}
 use Rattle.panel.specs.declared.tally.Tally.{Tally}
 use Rattle.panel.specs.Tally.{raised}
 use borrow.Author.Needs.{needs}

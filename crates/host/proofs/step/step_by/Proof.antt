@@ -2,12 +2,13 @@
 -- Assumes nothing.
 use mathlib.Core.Path.{_≡_, sym, ap, _∙_}
 use Prim.Native.Nat.{ℕ}
+use mathlib.Core.List.{List}
 use mir.Syntax.{w64}
 use mir.Val.{toZ, ofZ}
 use Rattle.panel.specs.Tally.{raised}
 use Rattle.host.specs.Tests.{placeOf}
-use Rattle.host.proofs.Entering.{tested-refused, tested-session, session-live}
-use Rattle.host.proofs.Stepping.{line-refused, line-read, line-drained, line-not-taken, line-taken, step-answer}
+use Rattle.host.proofs.Entering.{entered-as, tested-refused, tested-session, session-live}
+use Rattle.host.proofs.Stepping.{line-refused, line-read, line-drained, line-not-taken, line-taken}
 use borrow.Author.Needs.{needs}
 use Rattle.host.proofs.step.step_by.Statement.{statement}
 use Rattle.host.proofs.step.step_by.Tie as tie
@@ -22,7 +23,9 @@ same-length : tie.Need-same-length
 same-length c = search needs
 
 returns : tie.Need-returns
-returns c = step-answer (c .before .before .image-refusal .result) (tested-refused (c .before .before .image-refusal .ensures) (c .before .if1 .taken)) (c .refused .ensures .0) (c .refused .ensures .1)
+returns c =
+    let after : List ℕ = _ in
+    entered-as (λ i. record { answer = c .refused .ensures .0 i; image = after; tally = c .refused .ensures .1 i }) (tested-refused (c .before .before .image-refusal .ensures) (c .before .if1 .taken))
 
 read-step-requires : tie.Need-read-step-requires
 read-step-requires c κs = search needs
@@ -39,7 +42,8 @@ same-length-2 c = search needs
 returns-2 : tie.Need-returns-2
 returns-2 c =
     let h = tested-session (c .before .before .before .before .before .before .image-refusal .ensures) (c .before .before .before .before .before .if1 .left) in
-    step-answer (c .before .before .before .before .read-step .result .refusal) (line-refused _ _ _ _ h (c .before .before .before .before .read-step .ensures) (c .before .before .if2 .taken)) (c .refused2 .ensures .0) (c .refused2 .ensures .1)
+    let after : List ℕ = _ in
+    entered-as (λ i. record { answer = c .refused2 .ensures .0 i; image = after; tally = c .refused2 .ensures .1 i }) (line-refused _ _ _ _ h (c .before .before .before .before .read-step .ensures) (c .before .before .if2 .taken))
 
 place-of-requires : tie.Need-place-of-requires
 place-of-requires c κs = search needs

@@ -3,21 +3,21 @@
 use mathlib.Core.Path.{_≡_, refl}
 use Prim.Native.Nat.{_-_}
 use lib.ListN.{length}
-use Rattle.program.specs.Frames.{Went}
-use Rattle.program.proofs.Framing.{went-none, went-next}
+use Rattle.program.specs.Frames.{LinesServed}
+use Rattle.program.proofs.Framing.{served-none, served-next}
 use borrow.Author.Needs.{needs}
 use native.Mathlib.Omega.{arith}
 use Rattle.program.proofs.frame.serve_lines.Statement.{statement}
 use Rattle.program.proofs.frame.serve_lines.Tie as tie
 
 abbrev Inv-loop : tie.InvT-loop
-Inv-loop image₀ frame at line out₀ p₀ image out p = Went image₀ frame at line image out p × (length image ≡ length image₀) × (length out ≡ length out₀)
+Inv-loop image₀ frame at line out₀ p₀ image out p = LinesServed image₀ frame at line image out p × (length image ≡ length image₀) × (length out ≡ length out₀)
 
 abbrev μ-loop : tie.MeasureT-loop
 μ-loop image₀ frame at line out₀ p₀ image out p = length frame - p .at
 
 loop-holds : tie.Need-loop-holds Inv-loop μ-loop
-loop-holds c = (went-none _ _ _ _ _ (c .before .before .before .pre .0), refl, refl)
+loop-holds c = (served-none _ _ _ _ _ (c .before .before .before .pre .0), refl, refl)
 
 has-next-requires : tie.Need-has-next-requires Inv-loop μ-loop
 has-next-requires c κs = (c .before .loop .inv .0 .inside, c .before .loop .inv .0 .fits)
@@ -35,7 +35,7 @@ loop-less c =
 loop-again : tie.Need-loop-again Inv-loop μ-loop
 loop-again c =
     let l = c .before .before .before .before .before .before .before .before .before .before .loop in
-    (went-next (l .inv .0) (rw (c .before .before .before .before .before .before .before .if1 .taken) at (c .before .before .before .before .before .before .before .before .has-next .ensures)) (c .before .before .before .before .serve-next .ensures), search needs, search needs)
+    (served-next (l .inv .0) (rw (c .before .before .before .before .before .before .before .if1 .taken) at (c .before .before .before .before .before .before .before .before .has-next .ensures)) (c .before .before .before .before .serve-next .ensures), search needs, search needs)
 
 same-length : tie.Need-same-length Inv-loop μ-loop
 same-length c = search needs

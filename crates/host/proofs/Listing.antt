@@ -1,10 +1,9 @@
 -- The listing, where there is room.
 -- Assumes nothing.
-use mathlib.Core.Path.{_≡_, refl, sym, subst}
+use mathlib.Core.Path.{refl}
 use Prim.Native.Nat.{ℕ, _≤_, _<_}
 use native.Mathlib.Omega.{arith}
 use mathlib.Core.List.{List}
-use lib.IntN.{ℤ}
 use lib.ListN.{length}
 use borrow.Author.Tests.{le-leb, lt-leb}
 use Rattle.text.specs.Text.{Written}
@@ -22,6 +21,3 @@ module _ (image out : List ℕ) (n : ℕ) (h : ImageOf image (sessionOf image)) 
   is-listed output end room w =
       served (sessionOf image) h tt tt
       (rw (le-leb (length (listingOf (sessionOf image))) (length out) (omega (arith, m .text))) (λ i. record { answer = numberOf (Done (m .text i)); output = w .bytes i }))
-
-pub list-answer : {image out output : List ℕ} {z w : ℤ} → z ≡ w → Lists image out (record { answer = w; output = output }) → Lists image out (record { answer = z; output = output })
-list-answer {image} {out} {output} e h = subst (λ (x : ℤ). Lists image out (record { answer = x; output = output })) (sym e) h
