@@ -11,6 +11,10 @@ use std::hint::black_box;
 use hosts::{Host, IMAGE_BYTES, LISTING_BYTES, PRODUCT, SECOND};
 use scene::{Image, Row, Scene};
 
+/// Every time is taken so many times, with all the others between, since the machine is slow for a while now
+/// and then; the least counts.
+const PASSES: usize = 12;
+
 fn main() {
     let scenes = [
         scene::fresh(),
@@ -18,13 +22,40 @@ fn main() {
         scene::full(),
         scene::settled(),
     ];
-    let copy = copy_ns();
+    let mut copy = f64::INFINITY;
+    let mut times: Vec<Vec<Times>> = scenes
+        .iter()
+        .map(|scene| vec![Times::NONE; scene.rows.len()])
+        .collect();
+    for _ in 0..PASSES {
+        copy = copy.min(copy_ns());
+        for (scene, times) in scenes.iter().zip(&mut times) {
+            for (row, times) in scene.rows.iter().zip(times) {
+                times.product = times.product.min(entry_ns(&PRODUCT, row));
+                times.second = times.second.min(entry_ns(&SECOND, row));
+            }
+        }
+    }
     println!("A plain copy of {IMAGE_BYTES} bytes takes {copy:.0} ns.\n");
-    for scene in &scenes {
-        table(scene, copy);
+    for (scene, times) in scenes.iter().zip(&times) {
+        table(scene, times, copy);
     }
     schedule::table();
     stack_table(&scenes);
+}
+
+/// Nanoseconds of one call with the copy that restores the image before it.
+#[derive(Clone, Copy)]
+struct Times {
+    product: f64,
+    second: f64,
+}
+
+impl Times {
+    const NONE: Times = Times {
+        product: f64::INFINITY,
+        second: f64::INFINITY,
+    };
 }
 
 fn copy_ns() -> f64 {
@@ -33,13 +64,12 @@ fn copy_ns() -> f64 {
     timing::best_ns(|| black_box(&mut to).copy_from_slice(black_box(&from)))
 }
 
-fn table(scene: &Scene, copy: f64) {
+fn table(scene: &Scene, times: &[Times], copy: f64) {
     println!("{}\n", scene.name);
     println!("| entry | ns | times a copy | second, ns | second / product |");
     println!("|---|---:|---:|---:|---:|");
-    for row in &scene.rows {
-        let product = entry_ns(&PRODUCT, row) - copy;
-        let second = entry_ns(&SECOND, row) - copy;
+    for (row, times) in scene.rows.iter().zip(times) {
+        let (product, second) = (times.product - copy, times.second - copy);
         let (copies, factor) = (product / copy, second / product);
         let name = row.name;
         println!("| {name} | {product:.0} | {copies:.1} | {second:.0} | {factor:.1} |");
@@ -51,7 +81,6 @@ fn table(scene: &Scene, copy: f64) {
     println!();
 }
 
-/// One call with the copy that restores the image before it.
 fn entry_ns(host: &Host, row: &Row) -> f64 {
     let (mut image, mut out) = (row.image, [0; LISTING_BYTES]);
     timing::best_ns(|| {

@@ -3,7 +3,7 @@
 use std::time::{Duration, Instant};
 
 const ROUND: Duration = Duration::from_millis(1);
-const ROUNDS: usize = 40;
+const ROUNDS: usize = 5;
 
 /// Nanoseconds for one turn of the work: the best of many rounds, since what else the machine does only
 /// ever adds to one.
