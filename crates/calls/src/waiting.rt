@@ -12,7 +12,7 @@ ghost use Rattle.worksteps.specs.FlatEvents.{labelsIn, queued, addIn, addsQueue
 ghost use Rattle.valid.specs.Values.{labelsOf, packedLabels};
 ghost use Rattle.state.specs.Operations.{Bounded};
 ghost use Rattle.state.specs.State.{held, Proper};
-ghost use Rattle.calls.specs.Admission.{Names};
+ghost use Rattle.calls.specs.Admission.{Names, Counts};
 
 // The labels of the call at i. An add's record has its label where the others have theirs.
 fn labels_at(image: &[u8], i: usize) -> Labels
@@ -31,21 +31,6 @@ fn count_at(image: &[u8], i: usize) -> usize
     l.count as usize
 }
 
-// How many labels wait in the queue.
-pub fn labels_waiting(image: &[u8]) -> usize
-    requires { ⌜ Proper (now image) ⌝ }
-    ensures { λ r. ⌜ Bounded (length (queued (held (now (image .entry)) .queue))) 256 r ⌝ }
-{
-    let n = ops::total(image);
-    let mut sum: usize = 0;
-    let mut i: usize = 0;
-    while i < n {
-        sum += count_at(image, i);
-        i += 1;
-    }
-    sum
-}
-
 fn add_in(image: &[u8], i: usize) -> usize
     requires { ⌜ (Proper (now image)) × (i < length (held (now image) .queue)) ⌝ }
     ensures { λ r. ⌜ Bounded (addIn ((getD (held (now (image .entry)) .queue) i noOp) .call)) 1 r ⌝ }
@@ -56,19 +41,45 @@ fn add_in(image: &[u8], i: usize) -> usize
     0
 }
 
-// How many adds wait in the queue.
+// How many labels and how many adds wait in the queue.
+pub struct Waiting {
+    pub labels: usize,
+    pub adds: usize,
+}
+
+fn count_queue(image: &[u8]) -> Waiting
+    requires { ⌜ Proper (now image) ⌝ }
+    ensures { λ r. ⌜ Counts (held (now (image .entry)) .queue) r ⌝ }
+{
+    let n = ops::total(image);
+    let mut labels: usize = 0;
+    let mut adds: usize = 0;
+    let mut i: usize = 0;
+    while i < n {
+        labels += count_at(image, i);
+        adds += add_in(image, i);
+        i += 1;
+    }
+    Waiting {
+        labels: labels,
+        adds: adds,
+    }
+}
+
+pub fn labels_waiting(image: &[u8]) -> usize
+    requires { ⌜ Proper (now image) ⌝ }
+    ensures { λ r. ⌜ Bounded (length (queued (held (now (image .entry)) .queue))) 256 r ⌝ }
+{
+    let w = count_queue(image);
+    w.labels
+}
+
 pub fn adds_waiting(image: &[u8]) -> usize
     requires { ⌜ Proper (now image) ⌝ }
     ensures { λ r. ⌜ Bounded (addsQueued (held (now (image .entry)) .queue)) 64 r ⌝ }
 {
-    let n = ops::total(image);
-    let mut sum: usize = 0;
-    let mut i: usize = 0;
-    while i < n {
-        sum += add_in(image, i);
-        i += 1;
-    }
-    sum
+    let w = count_queue(image);
+    w.adds
 }
 
 fn or(a: bool, b: bool) -> bool
