@@ -1,4 +1,7 @@
 // The listing's length: a caller that is short of room asks for it first and writes nothing.
+use crate::rows::Row;
+use crate::rows::row_at;
+use crate::rows::rows_total;
 use calls::waiting::labels_waiting;
 use print::lines::head_len;
 use print::lines::node_len;
@@ -6,15 +9,16 @@ use print::lines::result_len;
 use state::nodes;
 use state::results;
 ghost use Prim.Native.Nat.{_<_};
+ghost use mathlib.Core.List.{[]};
 ghost use lib.ListN.{length, getD};
 ghost use Rattle.worksteps.specs.FlatSteps.{noNode};
-ghost use Rattle.print.specs.Printed.{nodeText, resultText, texts};
+ghost use Rattle.print.specs.Printed.{nodeText, resultText};
 ghost use Rattle.print.specs.Lengths.{LineLength};
 ghost use Rattle.valid.specs.Values.{sessionOf};
 ghost use Rattle.state.specs.State.{held, Proper};
 ghost use Rattle.state.specs.Results.{noResult};
 ghost use Rattle.live.specs.Live.{Live};
-ghost use Rattle.listing.specs.Listed.{headOf, LinesLength, ListingLength};
+ghost use Rattle.listing.specs.Listed.{headOf, rowsOf, joined, RowsLength, ListingLength};
 
 fn node_len_at(image: &[u8], i: usize) -> usize
     requires { ⌜ (Proper (now image)) × (i < length (held (now image) .nodes)) ⌝ }
@@ -23,20 +27,6 @@ fn node_len_at(image: &[u8], i: usize) -> usize
     let n = nodes::body_at(image, i);
     let links = n.links;
     node_len(n.key as u32, n.value, links)
-}
-
-fn nodes_len(image: &[u8]) -> usize
-    requires { ⌜ Proper (now image) ⌝ }
-    ensures { λ r. ⌜ LinesLength (texts nodeText (held (now (image .entry)) .nodes)) r ⌝ }
-{
-    let n = nodes::total(image);
-    let mut sum: usize = 0;
-    let mut i: usize = 0;
-    while i < n {
-        sum += node_len_at(image, i);
-        i += 1;
-    }
-    sum
 }
 
 fn result_len_at(image: &[u8], i: usize) -> usize
@@ -48,15 +38,25 @@ fn result_len_at(image: &[u8], i: usize) -> usize
     result_len(r.label as u32, r.value, left)
 }
 
-fn results_len(image: &[u8]) -> usize
-    requires { ⌜ Proper (now image) ⌝ }
-    ensures { λ r. ⌜ LinesLength (texts resultText (held (now (image .entry)) .results)) r ⌝ }
+fn row_len_at(image: &[u8], i: usize) -> usize
+    requires { ⌜ (Proper (now image)) × (i < length (rowsOf (held (now image)))) ⌝ }
+    ensures { λ r. ⌜ LineLength (getD (rowsOf (held (now (image .entry)))) i []) r ⌝ }
 {
-    let n = results::total(image);
+    match row_at(image, i) {
+        Row::Node(k) => node_len_at(image, k),
+        Row::Result(k) => result_len_at(image, k),
+    }
+}
+
+fn rows_len(image: &[u8]) -> usize
+    requires { ⌜ Proper (now image) ⌝ }
+    ensures { λ r. ⌜ RowsLength (joined (rowsOf (held (now (image .entry))))) r ⌝ }
+{
+    let n = rows_total(image);
     let mut sum: usize = 0;
     let mut i: usize = 0;
     while i < n {
-        sum += result_len_at(image, i);
+        sum += row_len_at(image, i);
         i += 1;
     }
     sum
@@ -77,5 +77,5 @@ pub fn listing_len(image: &[u8]) -> usize
     requires { ⌜ Live (now image) ⌝ }
     ensures { λ r. ⌜ ListingLength (sessionOf (now (image .entry))) r ⌝ }
 {
-    counts_len(image) + nodes_len(image) + results_len(image)
+    counts_len(image) + rows_len(image)
 }

@@ -8,7 +8,7 @@ use Rattle.worksteps.specs.FlatSteps.{noNode}
 use Rattle.print.specs.Printed.{nodeText}
 use Rattle.state.specs.State.{held}
 use Rattle.listing.proofs.Counted.{body-node}
-use Rattle.listing.proofs.Rows.{written-as}
+use Rattle.listing.proofs.Joined.{written-as}
 use borrow.Author.Needs.{needs}
 use Rattle.listing.proofs.write.put_node_at.Statement.{statement}
 use Rattle.listing.proofs.write.put_node_at.Tie as tie

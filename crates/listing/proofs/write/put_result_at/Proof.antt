@@ -8,7 +8,7 @@ use Rattle.state.specs.Results.{noResult}
 use Rattle.print.specs.Printed.{resultText}
 use Rattle.state.specs.State.{held}
 use Rattle.listing.proofs.Counted.{outcome-result}
-use Rattle.listing.proofs.Rows.{written-as}
+use Rattle.listing.proofs.Joined.{written-as}
 use borrow.Author.Needs.{needs}
 use Rattle.listing.proofs.write.put_result_at.Statement.{statement}
 use Rattle.listing.proofs.write.put_result_at.Tie as tie
