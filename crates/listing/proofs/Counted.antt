@@ -1,4 +1,4 @@
--- The listing of the flat session is the session's, and a struct's line is its node's or result's.
+-- The rows of the flat session, and its listing, which is the session's.
 -- Assumes nothing.
 use Prim.Native.Nat.{ℕ, suc, _+_, _≤_, _<_}
 use mathlib.Core.Path.{_≡_, refl, sym, ap, _∙_}
@@ -6,7 +6,7 @@ use mathlib.Core.List.{List, [], _∷_, _++_, append-assoc, map, reverse, revers
 use native.Mathlib.Omega.{arith}
 use lib.ListN.{length, getD, length-append, length-map, length-reverse, List·getD-append}
 use lib.Seq.{getD-append-add}
-use Rattle.graph.specs.Nodes.{Node, Result}
+use Rattle.graph.specs.Nodes.{Node}
 use Rattle.graph.specs.Sessions.{Station, Session, graphOf, pending}
 use Rattle.graph.proofs.Labels.{one, total-one}
 use Rattle.queue.specs.Flat.{Flat, flat, nest, nodesOf}
@@ -22,15 +22,8 @@ use Rattle.state.specs.declared.results.Outcome.{Outcome}
 use Rattle.state.proofs.Holding.{getD-of}
 use Rattle.live.specs.Live.{Live}
 use Rattle.live.proofs.Serving.{session-held}
-use Rattle.listing.specs.declared.rows.Row.the-variants.{Node as NodeRow, Result as ResultRow}
-use Rattle.listing.specs.Listed.{listingOf, headOf, rowsOf, RowAt, joined}
+use Rattle.listing.specs.Listed.{listingOf, headOf, rowsOf, joined}
 use Rattle.listing.proofs.Joined.{joined-append, joined-map, getD-back}
-
-pub body-node : (n : Node) (r : Body) → IsBody n r → nodeOf (r .key) (r .value) (r .links) ≡ n
-body-node n r b i = record { key = b .key i; value = b .value i; links = b .links .is i }
-
-pub outcome-result : (x : Result) (r : Outcome) → IsOutcome x r → resultOf (r .label) (r .value) (r .left) ≡ x
-outcome-result x r o i = record { label = o .label i; value = o .value i; left = o .left .is i }
 
 pub head-counted : (f : Flat) {n m k : ℕ} → n ≡ length (f .nodes) → m ≡ length (f .results) → k ≡ length (queued (f .queue)) → headText n m k ≡ headOf f
 head-counted f a b c i = headText (a i) (b i) (c i)
@@ -50,25 +43,21 @@ module _ (f : Flat) where
   nodes-first : length (map nodeText (reverse (f .nodes))) ≡ length (f .nodes)
   nodes-first = length-map (reverse (f .nodes)) nodeText ∙ length-reverse (f .nodes)
 
-  pub row-node : (i k : ℕ) → i + suc k ≡ length (f .nodes) → RowAt f i (NodeRow k)
-  row-node i k e =
-      let before : i < length (map nodeText (reverse (f .nodes))) = omega (arith, nodes-first) in
-      let inside : i < length (reverse (f .nodes)) = omega (arith, length-reverse (f .nodes)) in (
-        omega arith,
-        List·getD-append (map nodeText (reverse (f .nodes))) (map resultText (f .results)) [] i before
-            ∙ getD-of nodeText (reverse (f .nodes)) i noNode [] inside
-            ∙ ap nodeText (getD-back (f .nodes) i k noNode e),
-      )
+  pub row-node : (i k : ℕ) (b : Body) → i + suc k ≡ length (f .nodes) → IsBody (getD (f .nodes) k noNode) b → nodeText (nodeOf (b .key) (b .value) (b .links)) ≡ getD (rowsOf f) i []
+  row-node i k b e g =
+      let node : nodeOf (b .key) (b .value) (b .links) ≡ getD (f .nodes) k noNode = λ j. record { key = g .key j; value = g .value j; links = g .links .is j } in
+      ap nodeText (node ∙ sym (getD-back (f .nodes) i k noNode e))
+      ∙ sym (getD-of nodeText (reverse (f .nodes)) i noNode [] (omega (arith, length-reverse (f .nodes))))
+      ∙ sym (List·getD-append (map nodeText (reverse (f .nodes))) (map resultText (f .results)) [] i (omega (arith, nodes-first)))
 
-  pub row-result : (i k : ℕ) → i ≡ length (f .nodes) + k → i < length (rowsOf f) → RowAt f i (ResultRow k)
-  row-result i k e h =
-      let inside : k < length (f .results) = omega (arith, rows-length) in
-      let place : i ≡ length (map nodeText (reverse (f .nodes))) + k = omega (arith, nodes-first) in (
-        inside,
-        ap (λ (j : ℕ). getD (rowsOf f) j []) place
-            ∙ getD-append-add (map nodeText (reverse (f .nodes))) (map resultText (f .results)) k []
-            ∙ getD-of resultText (f .results) k noResult [] inside,
-      )
+  pub row-result : (i k : ℕ) (r : Outcome) → i ≡ length (f .nodes) + k → k < length (f .results) → IsOutcome (getD (f .results) k noResult) r → resultText (resultOf (r .label) (r .value) (r .left)) ≡ getD (rowsOf f) i []
+  row-result i k r e h g =
+      let result : resultOf (r .label) (r .value) (r .left) ≡ getD (f .results) k noResult = λ j. record { label = g .label j; value = g .value j; left = g .left .is j } in
+      let place : length (map nodeText (reverse (f .nodes))) + k ≡ i = omega (arith, nodes-first) in
+      ap resultText result
+      ∙ sym (getD-of resultText (f .results) k noResult [] h)
+      ∙ sym (getD-append-add (map nodeText (reverse (f .nodes))) (map resultText (f .results)) k [])
+      ∙ ap (λ (j : ℕ). getD (rowsOf f) j []) place
 
 -- the flat session's listing
 abbrev pub flatListing : Flat → List ℕ

@@ -1,17 +1,15 @@
 -- The listing of a session: document 01, section 'Host, panel and program'.
 -- Assumes nothing.
-use Prim.Native.Nat.{ℕ, _≤_, _<_}
+use Prim.Native.Nat.{ℕ, _≤_}
 use mathlib.Core.Path.{_≡_}
-use mathlib.Core.List.{List, [], _++_, map, reverse}
-use lib.ListN.{length, getD}
+use mathlib.Core.Bool.{cond}
+use mathlib.Core.List.{List, _++_, map, reverse}
+use lib.ListN.{length}
 use Rattle.graph.specs.Sessions.{Session, graphOf, pending}
 use Rattle.queue.specs.Flat.{Flat}
 use Rattle.worksteps.specs.FlatEvents.{queued}
-use Rattle.worksteps.specs.FlatSteps.{noNode}
-use Rattle.print.specs.Printed.{headText, nodeText, resultText, texts, listingText}
-use Rattle.state.specs.Results.{noResult}
+use Rattle.print.specs.Printed.{headText, nodeText, resultText, nodeOf, resultOf, texts, listingText}
 use Rattle.listing.specs.declared.rows.Row.{Row}
-use Rattle.listing.specs.declared.rows.Row.the-variants.{Node, Result}
 
 -- "The head counts nodes, unclaimed results and pending calls. Nodes stand in station order, results by label."
 abbrev pub listingOf : Session → List ℕ
@@ -30,10 +28,9 @@ headOf f = headText (length (f .nodes)) (length (f .results)) (length (queued (f
 abbrev pub rowsOf : Flat → List (List ℕ)
 rowsOf f = map nodeText (reverse (f .nodes)) ++ map resultText (f .results)
 
--- line i of them is that of this node or result
-abbrev pub RowAt : Flat → ℕ → Row → Type 0
-RowAt f i (Node k) = (k < length (f .nodes)) × (getD (rowsOf f) i [] ≡ nodeText (getD (f .nodes) k noNode))
-RowAt f i (Result k) = (k < length (f .results)) × (getD (rowsOf f) i [] ≡ resultText (getD (f .results) k noResult))
+-- one of them, by value
+abbrev pub rowText : Row → List ℕ
+rowText r = cond (r .node) (nodeText (nodeOf (r .name) (r .value) (r .keys))) (resultText (resultOf (r .name) (r .value) (r .keys)))
 
 -- lines one after another
 abbrev pub joined : List (List ℕ) → List ℕ

@@ -8,44 +8,20 @@ use print::lines::node_len;
 use print::lines::result_len;
 use state::nodes;
 use state::results;
-ghost use Prim.Native.Nat.{_<_};
-ghost use mathlib.Core.List.{[]};
-ghost use lib.ListN.{length, getD};
-ghost use Rattle.worksteps.specs.FlatSteps.{noNode};
-ghost use Rattle.print.specs.Printed.{nodeText, resultText};
 ghost use Rattle.print.specs.Lengths.{LineLength};
 ghost use Rattle.valid.specs.Values.{sessionOf};
 ghost use Rattle.state.specs.State.{held, Proper};
-ghost use Rattle.state.specs.Results.{noResult};
 ghost use Rattle.live.specs.Live.{Live};
-ghost use Rattle.listing.specs.Listed.{headOf, rowsOf, joined, RowsLength, ListingLength};
+ghost use Rattle.listing.specs.Listed.{headOf, rowText, rowsOf, joined, RowsLength, ListingLength};
 
-fn node_len_at(image: &[u8], i: usize) -> usize
-    requires { ⌜ (Proper (now image)) × (i < length (held (now image) .nodes)) ⌝ }
-    ensures { λ r. ⌜ LineLength (nodeText (getD (held (now (image .entry)) .nodes) i noNode)) r ⌝ }
+fn row_len(row: Row) -> usize
+    ensures { λ r. ⌜ LineLength (rowText row) r ⌝ }
 {
-    let n = nodes::body_at(image, i);
-    let links = n.links;
-    node_len(n.key as u32, n.value, links)
-}
-
-fn result_len_at(image: &[u8], i: usize) -> usize
-    requires { ⌜ (Proper (now image)) × (i < length (held (now image) .results)) ⌝ }
-    ensures { λ r. ⌜ LineLength (resultText (getD (held (now (image .entry)) .results) i noResult)) r ⌝ }
-{
-    let r = results::outcome_at(image, i);
-    let left = r.left;
-    result_len(r.label as u32, r.value, left)
-}
-
-fn row_len_at(image: &[u8], i: usize) -> usize
-    requires { ⌜ (Proper (now image)) × (i < length (rowsOf (held (now image)))) ⌝ }
-    ensures { λ r. ⌜ LineLength (getD (rowsOf (held (now (image .entry)))) i []) r ⌝ }
-{
-    match row_at(image, i) {
-        Row::Node(k) => node_len_at(image, k),
-        Row::Result(k) => result_len_at(image, k),
+    let keys = row.keys;
+    if row.node {
+        return node_len(row.name, row.value, keys);
     }
+    result_len(row.name, row.value, keys)
 }
 
 fn rows_len(image: &[u8]) -> usize
@@ -56,7 +32,7 @@ fn rows_len(image: &[u8]) -> usize
     let mut sum: usize = 0;
     let mut i: usize = 0;
     while i < n {
-        sum += row_len_at(image, i);
+        sum += row_len(row_at(image, i));
         i += 1;
     }
     sum

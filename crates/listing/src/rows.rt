@@ -1,16 +1,21 @@
-// The lines after the head, and the record that each is the line of.
+// The lines after the head: each is a node's or a result's.
+use graph::keys::Keys;
 use state::nodes;
 use state::results;
+ghost use mathlib.Core.Path.{_≡_};
+ghost use mathlib.Core.List.{[]};
 ghost use Prim.Native.Nat.{_<_};
-ghost use lib.ListN.{length};
+ghost use lib.ListN.{length, getD};
 ghost use Rattle.state.specs.Operations.{Bounded};
 ghost use Rattle.state.specs.State.{held, Proper};
-ghost use Rattle.listing.specs.Listed.{rowsOf, RowAt};
+ghost use Rattle.listing.specs.Listed.{rowText, rowsOf};
 
-// The node or the result with this index.
-pub enum Row {
-    Node(usize),
-    Result(usize),
+// A node's key, value and links, or a result's label, value and keys left.
+pub struct Row {
+    pub node: bool,
+    pub name: u32,
+    pub value: u32,
+    pub keys: Keys,
 }
 
 pub fn rows_total(image: &[u8]) -> usize
@@ -23,11 +28,25 @@ pub fn rows_total(image: &[u8]) -> usize
 // The image's nodes stand from the last station on, so the last of them comes first.
 pub fn row_at(image: &[u8], i: usize) -> Row
     requires { ⌜ (Proper (now image)) × (i < length (rowsOf (held (now image)))) ⌝ }
-    ensures { λ r. ⌜ RowAt (held (now (image .entry))) i r ⌝ }
+    ensures { λ r. ⌜ rowText r ≡ getD (rowsOf (held (now (image .entry)))) i [] ⌝ }
 {
     let n = nodes::total(image);
     if i < n {
-        return Row::Node(n - 1 - i);
+        let b = nodes::body_at(image, n - 1 - i);
+        let links = b.links;
+        return Row {
+            node: true,
+            name: b.key as u32,
+            value: b.value,
+            keys: links,
+        };
     }
-    Row::Result(i - n)
+    let o = results::outcome_at(image, i - n);
+    let left = o.left;
+    Row {
+        node: false,
+        name: o.label as u32,
+        value: o.value,
+        keys: left,
+    }
 }

@@ -8,44 +8,23 @@ use print::lines::put_node;
 use print::lines::put_result;
 use state::nodes;
 use state::results;
-ghost use Prim.Native.Nat.{_+_, _≤_, _<_};
-ghost use mathlib.Core.List.{[]};
-ghost use lib.ListN.{length, getD};
+ghost use Prim.Native.Nat.{_+_, _≤_};
+ghost use lib.ListN.{length};
 ghost use Rattle.text.specs.Text.{Written};
-ghost use Rattle.worksteps.specs.FlatSteps.{noNode};
-ghost use Rattle.print.specs.Printed.{nodeText, resultText};
 ghost use Rattle.valid.specs.Values.{sessionOf};
 ghost use Rattle.state.specs.State.{held, Proper};
-ghost use Rattle.state.specs.Results.{noResult};
 ghost use Rattle.live.specs.Live.{Live};
-ghost use Rattle.listing.specs.Listed.{headOf, rowsOf, joined, listingOf};
+ghost use Rattle.listing.specs.Listed.{headOf, rowText, rowsOf, joined, listingOf};
 
-fn put_node_at(out: &mut [u8], at: usize, image: &[u8], i: usize) -> usize
-    requires { ⌜ (Proper (now image)) × (i < length (held (now image) .nodes)) × (at + length (nodeText (getD (held (now image) .nodes) i noNode)) ≤ length (now out)) ⌝ }
-    ensures { λ r. ⌜ Written (now (out .entry)) at (nodeText (getD (held (now (image .entry)) .nodes) i noNode)) (now (out .exit)) r ⌝ }
+fn put_row(out: &mut [u8], at: usize, row: Row) -> usize
+    requires { ⌜ at + length (rowText row) ≤ length (now out) ⌝ }
+    ensures { λ r. ⌜ Written (now (out .entry)) at (rowText row) (now (out .exit)) r ⌝ }
 {
-    let n = nodes::body_at(image, i);
-    let links = n.links;
-    put_node(out, at, n.key as u32, n.value, links)
-}
-
-fn put_result_at(out: &mut [u8], at: usize, image: &[u8], i: usize) -> usize
-    requires { ⌜ (Proper (now image)) × (i < length (held (now image) .results)) × (at + length (resultText (getD (held (now image) .results) i noResult)) ≤ length (now out)) ⌝ }
-    ensures { λ r. ⌜ Written (now (out .entry)) at (resultText (getD (held (now (image .entry)) .results) i noResult)) (now (out .exit)) r ⌝ }
-{
-    let r = results::outcome_at(image, i);
-    let left = r.left;
-    put_result(out, at, r.label as u32, r.value, left)
-}
-
-fn put_row_at(out: &mut [u8], at: usize, image: &[u8], i: usize) -> usize
-    requires { ⌜ (Proper (now image)) × (i < length (rowsOf (held (now image)))) × (at + length (getD (rowsOf (held (now image))) i []) ≤ length (now out)) ⌝ }
-    ensures { λ r. ⌜ Written (now (out .entry)) at (getD (rowsOf (held (now (image .entry)))) i []) (now (out .exit)) r ⌝ }
-{
-    match row_at(image, i) {
-        Row::Node(k) => put_node_at(out, at, image, k),
-        Row::Result(k) => put_result_at(out, at, image, k),
+    let keys = row.keys;
+    if row.node {
+        return put_node(out, at, row.name, row.value, keys);
     }
+    put_result(out, at, row.name, row.value, keys)
 }
 
 fn put_rows(out: &mut [u8], at: usize, image: &[u8]) -> usize
@@ -56,7 +35,7 @@ fn put_rows(out: &mut [u8], at: usize, image: &[u8]) -> usize
     let mut p = at;
     let mut i: usize = 0;
     while i < n {
-        p = put_row_at(out, p, image, i);
+        p = put_row(out, p, row_at(image, i));
         i += 1;
     }
     p

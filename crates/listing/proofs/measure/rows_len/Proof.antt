@@ -25,11 +25,14 @@ rows-total-requires c κs = search needs
 loop-holds : tie.Need-loop-holds Inv-loop μ-loop
 loop-holds c = (omega arith, omega arith, refl)
 
-row-len-at-requires : tie.Need-row-len-at-requires Inv-loop μ-loop
-row-len-at-requires c κs = (c .before .before .before .before .pre, omega (arith, c .before .before .rows-total .ensures .is))
+row-at-requires : tie.Need-row-at-requires Inv-loop μ-loop
+row-at-requires c κs = (c .before .before .before .before .pre, omega (arith, c .before .before .rows-total .ensures .is))
+
+row-len-requires : tie.Need-row-len-requires Inv-loop μ-loop
+row-len-requires c κs = search needs
 
 add-sum : tie.Need-add-sum Inv-loop μ-loop
-add-sum c = omega (arith, c .before .before .loop .inv .1, c .row-len-at .ensures .few, c .before .before .before .rows-total .ensures .within)
+add-sum c = omega (arith, c .before .before .before .loop .inv .1, c .row-len .ensures .few, c .before .before .before .before .rows-total .ensures .within)
 
 add-i : tie.Need-add-i Inv-loop μ-loop
 add-i c = search needs
@@ -39,11 +42,11 @@ loop-less c = search needs
 
 loop-again : tie.Need-loop-again Inv-loop μ-loop
 loop-again c =
-    let l = c .before .before in
-    let x = c .row-len-at .ensures in
+    let l = c .before .before .before in
+    let x = c .row-len .ensures in
     let xs = rowsOf (held (l .before .before .before .args .image .now)) in
     let h : l .loop .i < length xs = omega (arith, l .before .rows-total .ensures .is) in
-    (omega arith, omega (arith, l .loop .inv .1, x .few), omega (arith, length-next xs (l .loop .i) h, x .text, l .loop .inv .2))
+    (omega arith, omega (arith, l .loop .inv .1, x .few), omega (arith, length-next xs (l .loop .i) h, x .text, ap length (c .before .row-at .ensures), l .loop .inv .2))
 
 returns : tie.Need-returns Inv-loop μ-loop
 returns c =
@@ -64,7 +67,8 @@ rows-len-spec =
     μ-loop
     rows-total-requires
     loop-holds
-    row-len-at-requires
+    row-at-requires
+    row-len-requires
     add-sum
     add-i
     loop-less

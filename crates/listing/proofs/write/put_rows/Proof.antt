@@ -29,13 +29,15 @@ rows-total-requires c κs = search needs
 loop-holds : tie.Need-loop-holds Inv-loop μ-loop
 loop-holds c = let a = c .before .before .before .args in (refl, written-none (a .out .now) (a .at))
 
-put-row-at-requires : tie.Need-put-row-at-requires Inv-loop μ-loop
-put-row-at-requires c κs =
-    let l = c .before .before in
+row-at-requires : tie.Need-row-at-requires Inv-loop μ-loop
+row-at-requires c κs = let l = c .before .before in (l .before .before .before .before .pre .0, inside l (c .before .loop-test .taken))
+
+put-row-requires : tie.Need-put-row-requires Inv-loop μ-loop
+put-row-requires c κs =
+    let l = c .before .before .before in
     let st = l .before .before .before .before in
-    let xs = rowsOf (held (st .args .image .now)) in
-    let h = inside l (c .before .loop-test .taken) in
-    (st .pre .0, h, row-room xs (l .loop .i) h (st .pre .1) (l .loop .inv .1))
+    let h = inside l (c .before .before .loop-test .taken) in
+    omega (arith, ap length (c .row-at .ensures), row-room (rowsOf (held (st .args .image .now))) (l .loop .i) h (st .pre .1) (l .loop .inv .1))
 
 add-i : tie.Need-add-i Inv-loop μ-loop
 add-i c = search needs
@@ -46,11 +48,13 @@ loop-less c = search needs
 loop-again : tie.Need-loop-again Inv-loop μ-loop
 loop-again c =
     let w = c .before .before in
-    let l = w .before .before .before in
+    let x = w .before in
+    let l = x .before .before .before in
     let st = l .before .before .before .before in
-    let xs = rowsOf (held (st .args .image .now)) in
-    let h = inside l (w .before .before .loop-test .taken) in
-    (w .put-row-at .kept .0 ∙ l .loop .inv .0, row-more xs (l .loop .i) h (st .pre .1) (l .loop .inv .1) (w .put-row-at .ensures))
+    let h = inside l (x .before .before .loop-test .taken) in (
+      w .put-row .kept .0 ∙ l .loop .inv .0,
+      row-more (rowsOf (held (st .args .image .now))) (l .loop .i) h (st .pre .1) (l .loop .inv .1) (written-as (x .row-at .ensures) (w .put-row .ensures)),
+    )
 
 same-length : tie.Need-same-length Inv-loop μ-loop
 same-length c = search needs
@@ -71,7 +75,8 @@ put-rows-spec =
     μ-loop
     rows-total-requires
     loop-holds
-    put-row-at-requires
+    row-at-requires
+    put-row-requires
     add-i
     loop-less
     loop-again
