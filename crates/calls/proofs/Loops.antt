@@ -23,7 +23,7 @@ pub adds-none : (c : Labelled) → not (isOp c) ≡ false → addIn c ≡ 0
 adds-none (addOf l v) e = absurd (true≢false e)
 adds-none (opOf o) e = refl
 
-contains-append : (l : ℕ) (xs ys : List ℕ) → contains l (xs ++ ys) ≡ (contains l xs || contains l ys)
+pub contains-append : (l : ℕ) (xs ys : List ℕ) → contains l (xs ++ ys) ≡ (contains l xs || contains l ys)
 contains-append l [] ys = refl
 contains-append l (x ∷ xs) ys = go (eqb l x) (contains-append l xs ys)
   where

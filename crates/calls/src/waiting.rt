@@ -1,8 +1,10 @@
 // What waits in the queue: its adds, and its labels.
+use image::read::op_at;
 use records::labels::Labels;
 use state::ops;
 ghost use mathlib.Core.Path.{_≡_};
-ghost use Prim.Native.Nat.{_<_};
+ghost use mathlib.Core.Bool.{_||_};
+ghost use Prim.Native.Nat.{_≤_, _<_};
 ghost use lib.ListN.{length, getD};
 ghost use Rattle.graph.specs.KeyLists.{contains};
 ghost use Rattle.worksteps.specs.FlatSteps.{noOp};
@@ -10,22 +12,15 @@ ghost use Rattle.worksteps.specs.FlatEvents.{labelsIn, queued, addIn, addsQueue
 ghost use Rattle.valid.specs.Values.{labelsOf, packedLabels};
 ghost use Rattle.state.specs.Operations.{Bounded};
 ghost use Rattle.state.specs.State.{held, Proper};
-ghost use Rattle.calls.specs.Admission.{Names};
+ghost use Rattle.calls.specs.Admission.{Names, Counts};
 
-// The labels of the call at i.
+// The labels of the call at i. An add's record has its label where the others have theirs.
 fn labels_at(image: &[u8], i: usize) -> Labels
     requires { ⌜ (Proper (now image)) × (i < length (held (now image) .queue)) ⌝ }
     ensures { λ r. ⌜ Names (labelsIn ((getD (held (now (image .entry)) .queue) i noOp) .call)) r ⌝ }
 {
-    if ops::is_add_at(image, i) {
-        let a = ops::add_at(image, i);
-        return Labels {
-            count: 1,
-            label: [a.label, 0, 0, 0],
-        };
-    }
-    let o = ops::operation_at(image, i);
-    o.labels
+    let r = op_at(image, i);
+    r.labels
 }
 
 fn count_at(image: &[u8], i: usize) -> usize
@@ -34,21 +29,6 @@ fn count_at(image: &[u8], i: usize) -> usize
 {
     let l = labels_at(image, i);
     l.count as usize
-}
-
-// How many labels wait in the queue.
-pub fn labels_waiting(image: &[u8]) -> usize
-    requires { ⌜ Proper (now image) ⌝ }
-    ensures { λ r. ⌜ Bounded (length (queued (held (now (image .entry)) .queue))) 256 r ⌝ }
-{
-    let n = ops::total(image);
-    let mut sum: usize = 0;
-    let mut i: usize = 0;
-    while i < n {
-        sum += count_at(image, i);
-        i += 1;
-    }
-    sum
 }
 
 fn add_in(image: &[u8], i: usize) -> usize
@@ -61,40 +41,67 @@ fn add_in(image: &[u8], i: usize) -> usize
     0
 }
 
-// How many adds wait in the queue.
+// How many labels and how many adds wait in the queue.
+pub struct Waiting {
+    pub labels: usize,
+    pub adds: usize,
+}
+
+fn count_queue(image: &[u8]) -> Waiting
+    requires { ⌜ Proper (now image) ⌝ }
+    ensures { λ r. ⌜ Counts (held (now (image .entry)) .queue) r ⌝ }
+{
+    let n = ops::total(image);
+    let mut labels: usize = 0;
+    let mut adds: usize = 0;
+    let mut i: usize = 0;
+    while i < n {
+        labels += count_at(image, i);
+        adds += add_in(image, i);
+        i += 1;
+    }
+    Waiting {
+        labels: labels,
+        adds: adds,
+    }
+}
+
+pub fn labels_waiting(image: &[u8]) -> usize
+    requires { ⌜ Proper (now image) ⌝ }
+    ensures { λ r. ⌜ Bounded (length (queued (held (now (image .entry)) .queue))) 256 r ⌝ }
+{
+    let w = count_queue(image);
+    w.labels
+}
+
 pub fn adds_waiting(image: &[u8]) -> usize
     requires { ⌜ Proper (now image) ⌝ }
     ensures { λ r. ⌜ Bounded (addsQueued (held (now (image .entry)) .queue)) 64 r ⌝ }
 {
-    let n = ops::total(image);
-    let mut sum: usize = 0;
-    let mut i: usize = 0;
-    while i < n {
-        sum += add_in(image, i);
-        i += 1;
-    }
-    sum
+    let w = count_queue(image);
+    w.adds
 }
 
-// Is the label listed? The list has zeros after its labels.
+fn or(a: bool, b: bool) -> bool
+    ensures { λ r. ⌜ r ≡ (a || b) ⌝ }
+{
+    if a { true } else { b }
+}
+
+// Is the label listed? The list has zeros after its labels: all four places are compared at once, without an exit.
 fn has(labels: Labels, label: u16) -> bool
-    requires { ⌜ labels ≡ packedLabels (labelsOf labels) ⌝ }
+    requires { ⌜ (labels ≡ packedLabels (labelsOf labels)) × (1 ≤ label) ⌝ }
     ensures { λ r. ⌜ r ≡ contains label (labelsOf labels) ⌝ }
 {
-    let n = labels.count as usize;
     let each = labels.label;
-    let mut i: usize = 0;
-    while i < n {
-        if label == each[i] {
-            return true;
-        }
-        i += 1;
-    }
-    false
+    or(
+        label == each[0],
+        or(label == each[1], or(label == each[2], label == each[3])),
+    )
 }
 
 fn names(image: &[u8], i: usize, label: u16) -> bool
-    requires { ⌜ (Proper (now image)) × (i < length (held (now image) .queue)) ⌝ }
+    requires { ⌜ (Proper (now image)) × (i < length (held (now image) .queue)) × (1 ≤ label) ⌝ }
     ensures { λ r. ⌜ r ≡ contains label (labelsIn ((getD (held (now (image .entry)) .queue) i noOp) .call)) ⌝ }
 {
     let l = labels_at(image, i);
@@ -103,7 +110,7 @@ fn names(image: &[u8], i: usize, label: u16) -> bool
 
 // Does the label wait in the queue?
 pub fn is_queued(image: &[u8], label: u16) -> bool
-    requires { ⌜ Proper (now image) ⌝ }
+    requires { ⌜ (Proper (now image)) × (1 ≤ label) ⌝ }
     ensures { λ r. ⌜ r ≡ contains label (queued (held (now (image .entry)) .queue)) ⌝ }
 {
     let n = ops::total(image);

@@ -170,15 +170,12 @@ call-unique f g e =
 pub call-never : (line : List ℕ) (r : CallLine) → Never calls line → r ≡ refusedCall 10 → CallRead line r
 unfolding calls
 call-never line r nv e =
-    other (λ f i. let p = parts f .fits (words-below (callNumbers f) (i .fits)) in nv (callRead f .kind) (callRead f .x) (callRead f .y) 0 (targetsOf f) (p .0) (p .1) (omega arith) (p .2) (i .same ∙ text-of f)) e
+    other (λ f i. let p = parts f .fits (words-below (callNumbers f) (i .fits)) in nv (i .short) (callRead f .kind) (callRead f .x) (callRead f .y) 0 (targetsOf f) (p .0) (p .1) (omega arith) (p .2) (i .same ∙ text-of f)) e
 
-pub call-long : (line : List ℕ) (r : CallLine) → 255 < length line → r ≡ refusedCall 10 → CallRead line r
-call-long line r h e = other (λ f i. omega (arith, i .short)) e
-
-pub call-is : (line : List ℕ) (k : CallKind) (x y z : ℕ) (ts : List ℕ) (r : CallLine) → length line ≤ 255 → areWords (callNumbers (callForm k x y ts)) ≡ true
+pub call-is : (line : List ℕ) (k : CallKind) (x y z : ℕ) (ts : List ℕ) (r : CallLine) → length line < 256 → areWords (callNumbers (callForm k x y ts)) ≡ true
     → line ≡ textIn calls k x y z ts → r ≡ callAnswer (callForm k x y ts) → CallRead line r
 call-is line k x y z ts r short fits e a =
-    form (callForm k x y ts) (record { short = omega arith; fits = fits; same = e ∙ call-text k x y z ts }) a
+    form (callForm k x y ts) (record { short = short; fits = fits; same = e ∙ call-text k x y z ts }) a
 
 -- the form's own tests, in their order
 tested : (f : Call) (a b : Bool) → areWords (callNumbers f) ≡ true → areKeys (operandsOf f ++ targetsOf f) ≡ a → leb (length (targetsOf f)) 8 && rising (targetsOf f) ≡ b

@@ -1,6 +1,6 @@
 -- Step lines: their grammar, their forms, and the answer to each form.
 -- Assumes nothing.
-use Prim.Native.Nat.{ℕ, _+_, _<_, _≤_, _^_}
+use Prim.Native.Nat.{ℕ, _+_, _<_, _^_}
 use mathlib.Core.Path.{_≡_, refl, sym, ap, _∙_}
 use mathlib.Core.Bool.{Bool, true, false, cond, false≢true}
 use mathlib.Core.List.{List, []}
@@ -173,15 +173,12 @@ step-unique f g e =
 -- no step where the line is no text of the grammar
 pub step-never : (line : List ℕ) (r : StepLine) → Never steps line → r ≡ refusedStep 10 → StepRead line r
 step-never line r nv e =
-    other (λ f i. let p = parts f .fits (words-below (stepNumbers f) (i .fits)) in nv (stepRead f .kind) (stepRead f .at) (stepRead f .unit) (stepRead f .after) [] (p .0) (p .1) (p .2) tt (i .same ∙ text-of f)) e
+    other (λ f i. let p = parts f .fits (words-below (stepNumbers f) (i .fits)) in nv (i .short) (stepRead f .kind) (stepRead f .at) (stepRead f .unit) (stepRead f .after) [] (p .0) (p .1) (p .2) tt (i .same ∙ text-of f)) e
 
-pub step-long : (line : List ℕ) (r : StepLine) → 255 < length line → r ≡ refusedStep 10 → StepRead line r
-step-long line r h e = other (λ f i. omega (arith, i .short)) e
-
-pub step-is : (line : List ℕ) (k : StepKind) (x y z : ℕ) (ts : List ℕ) (r : StepLine) → length line ≤ 255 → x < 2 ^ 32 → y < 2 ^ 32 → z < 2 ^ 32
+pub step-is : (line : List ℕ) (k : StepKind) (x y z : ℕ) (ts : List ℕ) (r : StepLine) → length line < 256 → x < 2 ^ 32 → y < 2 ^ 32 → z < 2 ^ 32
     → line ≡ textIn steps k x y z ts → r ≡ stepAnswer (stepForm k x y z) → StepRead line r
 step-is line k x y z ts r short hx hy hz e a =
-    form (stepForm k x y z) (record { short = omega arith; fits = below-words (stepNumbers (stepForm k x y z)) (step-fits k x y z hx hy hz); same = e ∙ step-text k x y z ts }) a
+    form (stepForm k x y z) (record { short = short; fits = below-words (stepNumbers (stepForm k x y z)) (step-fits k x y z hx hy hz); same = e ∙ step-text k x y z ts }) a
 
 -- the form's own test
 tested : (f : StepForm) (a : Bool) → areKeys (stepKeys f) ≡ a → stepAnswer f ≡ cond a (stepRead f) (refusedStep 11)

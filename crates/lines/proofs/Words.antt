@@ -8,16 +8,22 @@ use native.Mathlib.Omega.{arith}
 use lib.ListN.{length, drop}
 use Rattle.text.specs.Text.{upTo, decimal, ascii, commas}
 use Rattle.text.specs.Reads.{PlaceOf, Gap}
+use Rattle.text.specs.declared.cut.Place.{Place}
 use Rattle.text.specs.declared.cut.Place.the-variants.{At, Missing}
 use Rattle.text.proofs.Splits.{Clean, Part, part, part-is, cancel, same-number}
 use Rattle.text.proofs.Lists.{commas-inj}
-use Rattle.lines.specs.Reads.{Below, KeysOf, FieldsOf, tailText, Tailed, fieldsText, Spare, Literals}
+use Rattle.lines.specs.Reads.{Below, KeysOf, HeadOf, FieldsOf, tailText, Tailed, fieldsText, Spare, Literals}
 use Rattle.lines.specs.declared.fields.Fields.{Fields}
 use Rattle.lines.proofs.Chains.{fields-gap}
 
 -- a test that is not true
 pub unlike : (b : Bool) {P : Type 0} → (P → b ≡ true) → b ≡ false → P → ⊥
 unlike b t f p = false≢true (sym f ∙ t p)
+
+-- a line that is not too long, and whether it begins with the head
+pub head-of : (line head : List ℕ) (r : Place) → length line ≤ 255 → PlaceOf line 0 head r → HeadOf line head r
+head-of line head (At n) h p = (omega arith, p)
+head-of line head Missing h p = λ x short e. p x e
 
 -- the lines of several kinds: a head, a word for each kind, and the fields after it
 pub record Grammar (Kind : Type 0) : Type 0 where
@@ -32,10 +38,10 @@ pub record Grammar (Kind : Type 0) : Type 0 where
 abbrev pub textIn : {K : Type 0} (G : Grammar K) → K → ℕ → ℕ → ℕ → List ℕ → List ℕ
 textIn G k x y z ts = G .head ++ (G .word k ++ fieldsText (G .literals k) (G .listed k) x y z ts)
 
--- the line is no such text
+-- the line is no such text of at most 255 bytes
 abbrev pub Never : {K : Type 0} (G : Grammar K) → List ℕ → Type 0
 Never {K} G line =
-    (k : K) (x y z : ℕ) (ts : List ℕ) → x < 2 ^ 32 → y < 2 ^ 32 → z < 2 ^ 32 → Below ts → line ≡ textIn G k x y z ts → ⊥
+    length line < 256 → (k : K) (x y z : ℕ) (ts : List ℕ) → x < 2 ^ 32 → y < 2 ^ 32 → z < 2 ^ 32 → Below ts → line ≡ textIn G k x y z ts → ⊥
 
 module _ {K : Type 0} (G : Grammar K) where
   abbrev restOf : K → ℕ → ℕ → ℕ → List ℕ → List ℕ
@@ -45,24 +51,24 @@ module _ {K : Type 0} (G : Grammar K) where
   rest-gap k x y z ts = fields-gap (G .literals k) (G .gaps k) (G .listed k) x y z ts
 
   module _ (line : List ℕ) where
-    pub no-head : PlaceOf line 0 (G .head) Missing → Never G line
-    no-head p k x y z ts hx hy hz b e = p (G .word k ++ restOf k x y z ts) e
+    pub no-head : HeadOf line (G .head) Missing → Never G line
+    no-head p short k x y z ts hx hy hz b e = p (G .word k ++ restOf k x y z ts) short e
 
-    module _ (n : ℕ) (p : PlaceOf line 0 (G .head) (At n)) where
+    module _ (n : ℕ) (p : HeadOf line (G .head) (At n)) where
       after : Part 32 line n
-      after = part 32 line n (p .0)
+      after = part 32 line n (p .1 .0)
 
       pub word-within : n + length (upTo 32 (drop n line)) ≤ length line
       word-within = after .within
 
       after-head : (k : K) (x y z : ℕ) (ts : List ℕ) → line ≡ textIn G k x y z ts → drop n line ≡ G .word k ++ restOf k x y z ts
-      after-head k x y z ts e = cancel (G .head) (drop n line) (G .word k ++ restOf k x y z ts) (sym (p .1) ∙ e)
+      after-head k x y z ts e = cancel (G .head) (drop n line) (G .word k ++ restOf k x y z ts) (sym (p .1 .1) ∙ e)
 
       word-is : (k : K) (x y z : ℕ) (ts : List ℕ) → line ≡ textIn G k x y z ts → upTo 32 (drop n line) ≡ G .word k
       word-is k x y z ts e = part-is 32 (drop n line) (G .word k) (restOf k x y z ts) (after-head k x y z ts e) (G .clean k) (rest-gap k x y z ts)
 
       pub no-word : ((k : K) → upTo 32 (drop n line) ≡ G .word k → ⊥) → Never G line
-      no-word q k x y z ts hx hy hz b e = q k (word-is k x y z ts e)
+      no-word q short k x y z ts hx hy hz b e = q k (word-is k x y z ts e)
 
       module _ (k : K) (w : upTo 32 (drop n line) ≡ G .word k) where
         after-word : drop n line ≡ G .word k ++ drop (n + length (upTo 32 (drop n line))) line
@@ -70,7 +76,7 @@ module _ {K : Type 0} (G : Grammar K) where
 
         module _ (r : Fields) (o : FieldsOf (G .literals k) (G .listed k) (drop (n + length (upTo 32 (drop n line))) line) r) where
           pub no-rest : r .ok ≡ false → Never G line
-          no-rest bad j x y z ts hx hy hz b e =
+          no-rest bad short j x y z ts hx hy hz b e =
               let same : j ≡ k = G .apart j k (sym (word-is j x y z ts e) ∙ w) in
               let e′ : line ≡ textIn G k x y z ts = subst (λ (i : K). line ≡ textIn G i x y z ts) same e in
               o .no bad x y z ts hx hy hz b (cancel (G .word k) (drop (n + length (upTo 32 (drop n line))) line) (restOf k x y z ts) (sym after-word ∙ after-head k x y z ts e′))
@@ -78,7 +84,7 @@ module _ {K : Type 0} (G : Grammar K) where
           pub is-line : r .ok ≡ true → (ts : List ℕ) × Below ts × (line ≡ textIn G k (r .x) (r .y) (r .z) ts) × KeysOf ts (r .to) × Tailed (G .listed k) ts × Spare (G .literals k) (r .x) (r .y) (r .z)
           is-line good =
               let t = o .yes good in
-              (t .0, t .1, p .1 ∙ ap (λ (l : List ℕ). G .head ++ l) (after-word ∙ ap (λ (l : List ℕ). G .word k ++ l) (t .2)), t .3, t .4, t .5)
+              (t .0, t .1, p .1 .1 ∙ ap (λ (l : List ℕ). G .head ++ l) (after-word ∙ ap (λ (l : List ℕ). G .word k ++ l) (t .2)), t .3, t .4, t .5)
 
 -- ---- the text determines the kind, the numbers and the targets
 

@@ -3,14 +3,13 @@ use crate::fields::Fields;
 use crate::fields::fields1;
 use crate::fields::fields2;
 use crate::fields::value_at;
+use crate::fields::word_place;
 use crate::keylist::is_key;
 use graph::keys::Keys;
 use text::cut::Place;
 use text::cut::part_to;
-use text::cut::past;
 ghost use mathlib.Core.Path.{_≡_};
-ghost use mathlib.Core.List.{List};
-ghost use Prim.Native.Nat.{ℕ, _≤_};
+ghost use Prim.Native.Nat.{_≤_};
 ghost use lib.ListN.{length, drop};
 ghost use Rattle.lines.specs.Reads.{CallWordOf, CallFields, CallMade, keyOk};
 ghost use Rattle.lines.specs.Answers.{lineAt, CallRead, refusedCall};
@@ -152,10 +151,7 @@ pub fn read_call(frame: &[u8], at: usize) -> CallLine
     ensures { λ r. ⌜ CallRead (lineAt (now (frame .entry)) at) r ⌝ }
 {
     let line = part_to(frame, at, b'\n');
-    if 255 < line.len() {
-        return refused_call(10);
-    }
-    let Place::At(from) = past(line, 0, b"call=") else {
+    let Place::At(from) = word_place(line, b"call=") else {
         return refused_call(10);
     };
     let word = value_at(line, from);

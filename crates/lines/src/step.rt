@@ -5,10 +5,10 @@ use crate::fields::fields1;
 use crate::fields::fields2;
 use crate::fields::fields3;
 use crate::fields::value_at;
+use crate::fields::word_place;
 use crate::keylist::is_key;
 use text::cut::Place;
 use text::cut::part_to;
-use text::cut::past;
 ghost use mathlib.Core.Path.{_≡_};
 ghost use Prim.Native.Nat.{_≤_};
 ghost use lib.ListN.{length, drop};
@@ -145,10 +145,7 @@ pub fn read_step(frame: &[u8], at: usize) -> StepLine
     ensures { λ r. ⌜ StepRead (lineAt (now (frame .entry)) at) r ⌝ }
 {
     let line = part_to(frame, at, b'\n');
-    if 255 < line.len() {
-        return refused_step(10);
-    }
-    let Place::At(from) = past(line, 0, b"step=") else {
+    let Place::At(from) = word_place(line, b"step=") else {
         return refused_step(10);
     };
     let word = value_at(line, from);

@@ -1,62 +1,38 @@
 // The listing's length: a caller that is short of room asks for it first and writes nothing.
+use crate::rows::Row;
+use crate::rows::row_at;
+use crate::rows::rows_total;
 use calls::waiting::labels_waiting;
 use print::lines::head_len;
 use print::lines::node_len;
 use print::lines::result_len;
 use state::nodes;
 use state::results;
-ghost use Prim.Native.Nat.{_<_};
-ghost use lib.ListN.{length, getD};
-ghost use Rattle.worksteps.specs.FlatSteps.{noNode};
-ghost use Rattle.print.specs.Printed.{nodeText, resultText, texts};
 ghost use Rattle.print.specs.Lengths.{LineLength};
 ghost use Rattle.valid.specs.Values.{sessionOf};
 ghost use Rattle.state.specs.State.{held, Proper};
-ghost use Rattle.state.specs.Results.{noResult};
 ghost use Rattle.live.specs.Live.{Live};
-ghost use Rattle.listing.specs.Listed.{headOf, LinesLength, ListingLength};
+ghost use Rattle.listing.specs.Listed.{headOf, rowText, rowsOf, joined, RowsLength, ListingLength};
 
-fn node_len_at(image: &[u8], i: usize) -> usize
-    requires { ⌜ (Proper (now image)) × (i < length (held (now image) .nodes)) ⌝ }
-    ensures { λ r. ⌜ LineLength (nodeText (getD (held (now (image .entry)) .nodes) i noNode)) r ⌝ }
+fn row_len(row: Row) -> usize
+    ensures { λ r. ⌜ LineLength (rowText row) r ⌝ }
 {
-    let n = nodes::body_at(image, i);
-    let links = n.links;
-    node_len(n.key as u32, n.value, links)
-}
-
-fn nodes_len(image: &[u8]) -> usize
-    requires { ⌜ Proper (now image) ⌝ }
-    ensures { λ r. ⌜ LinesLength (texts nodeText (held (now (image .entry)) .nodes)) r ⌝ }
-{
-    let n = nodes::total(image);
-    let mut sum: usize = 0;
-    let mut i: usize = 0;
-    while i < n {
-        sum += node_len_at(image, i);
-        i += 1;
+    let keys = row.keys;
+    if row.node {
+        return node_len(row.name, row.value, keys);
     }
-    sum
+    result_len(row.name, row.value, keys)
 }
 
-fn result_len_at(image: &[u8], i: usize) -> usize
-    requires { ⌜ (Proper (now image)) × (i < length (held (now image) .results)) ⌝ }
-    ensures { λ r. ⌜ LineLength (resultText (getD (held (now (image .entry)) .results) i noResult)) r ⌝ }
-{
-    let r = results::outcome_at(image, i);
-    let left = r.left;
-    result_len(r.label as u32, r.value, left)
-}
-
-fn results_len(image: &[u8]) -> usize
+fn rows_len(image: &[u8]) -> usize
     requires { ⌜ Proper (now image) ⌝ }
-    ensures { λ r. ⌜ LinesLength (texts resultText (held (now (image .entry)) .results)) r ⌝ }
+    ensures { λ r. ⌜ RowsLength (joined (rowsOf (held (now (image .entry))))) r ⌝ }
 {
-    let n = results::total(image);
+    let n = rows_total(image);
     let mut sum: usize = 0;
     let mut i: usize = 0;
     while i < n {
-        sum += result_len_at(image, i);
+        sum += row_len(row_at(image, i));
         i += 1;
     }
     sum
@@ -77,5 +53,5 @@ pub fn listing_len(image: &[u8]) -> usize
     requires { ⌜ Live (now image) ⌝ }
     ensures { λ r. ⌜ ListingLength (sessionOf (now (image .entry))) r ⌝ }
 {
-    counts_len(image) + nodes_len(image) + results_len(image)
+    counts_len(image) + rows_len(image)
 }

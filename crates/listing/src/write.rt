@@ -1,64 +1,41 @@
 // The listing, written line by line.
+use crate::rows::Row;
+use crate::rows::row_at;
+use crate::rows::rows_total;
 use calls::waiting::labels_waiting;
 use print::lines::put_head;
 use print::lines::put_node;
 use print::lines::put_result;
 use state::nodes;
 use state::results;
-ghost use Prim.Native.Nat.{_+_, _≤_, _<_};
-ghost use mathlib.Core.List.{reverse};
-ghost use lib.ListN.{length, getD};
+ghost use Prim.Native.Nat.{_+_, _≤_};
+ghost use lib.ListN.{length};
 ghost use Rattle.text.specs.Text.{Written};
-ghost use Rattle.worksteps.specs.FlatSteps.{noNode};
-ghost use Rattle.print.specs.Printed.{nodeText, resultText, texts};
 ghost use Rattle.valid.specs.Values.{sessionOf};
 ghost use Rattle.state.specs.State.{held, Proper};
-ghost use Rattle.state.specs.Results.{noResult};
 ghost use Rattle.live.specs.Live.{Live};
-ghost use Rattle.listing.specs.Listed.{headOf, listingOf};
+ghost use Rattle.listing.specs.Listed.{headOf, rowText, rowsOf, joined, listingOf};
 
-fn put_node_at(out: &mut [u8], at: usize, image: &[u8], i: usize) -> usize
-    requires { ⌜ (Proper (now image)) × (i < length (held (now image) .nodes)) × (at + length (nodeText (getD (held (now image) .nodes) i noNode)) ≤ length (now out)) ⌝ }
-    ensures { λ r. ⌜ Written (now (out .entry)) at (nodeText (getD (held (now (image .entry)) .nodes) i noNode)) (now (out .exit)) r ⌝ }
+fn put_row(out: &mut [u8], at: usize, row: Row) -> usize
+    requires { ⌜ at + length (rowText row) ≤ length (now out) ⌝ }
+    ensures { λ r. ⌜ Written (now (out .entry)) at (rowText row) (now (out .exit)) r ⌝ }
 {
-    let n = nodes::body_at(image, i);
-    let links = n.links;
-    put_node(out, at, n.key as u32, n.value, links)
-}
-
-// The image's nodes stand from the last station on, so the last of them is written first.
-fn put_nodes(out: &mut [u8], at: usize, image: &[u8]) -> usize
-    requires { ⌜ (Proper (now image)) × (at + length (texts nodeText (reverse (held (now image) .nodes))) ≤ length (now out)) ⌝ }
-    ensures { λ r. ⌜ Written (now (out .entry)) at (texts nodeText (reverse (held (now (image .entry)) .nodes))) (now (out .exit)) r ⌝ }
-{
-    let n = nodes::total(image);
-    let mut p = at;
-    let mut i: usize = 0;
-    while i < n {
-        i += 1;
-        p = put_node_at(out, p, image, n - i);
+    let keys = row.keys;
+    if row.node {
+        return put_node(out, at, row.name, row.value, keys);
     }
-    p
+    put_result(out, at, row.name, row.value, keys)
 }
 
-fn put_result_at(out: &mut [u8], at: usize, image: &[u8], i: usize) -> usize
-    requires { ⌜ (Proper (now image)) × (i < length (held (now image) .results)) × (at + length (resultText (getD (held (now image) .results) i noResult)) ≤ length (now out)) ⌝ }
-    ensures { λ r. ⌜ Written (now (out .entry)) at (resultText (getD (held (now (image .entry)) .results) i noResult)) (now (out .exit)) r ⌝ }
+fn put_rows(out: &mut [u8], at: usize, image: &[u8]) -> usize
+    requires { ⌜ (Proper (now image)) × (at + length (joined (rowsOf (held (now image)))) ≤ length (now out)) ⌝ }
+    ensures { λ r. ⌜ Written (now (out .entry)) at (joined (rowsOf (held (now (image .entry))))) (now (out .exit)) r ⌝ }
 {
-    let r = results::outcome_at(image, i);
-    let left = r.left;
-    put_result(out, at, r.label as u32, r.value, left)
-}
-
-fn put_results(out: &mut [u8], at: usize, image: &[u8]) -> usize
-    requires { ⌜ (Proper (now image)) × (at + length (texts resultText (held (now image) .results)) ≤ length (now out)) ⌝ }
-    ensures { λ r. ⌜ Written (now (out .entry)) at (texts resultText (held (now (image .entry)) .results)) (now (out .exit)) r ⌝ }
-{
-    let n = results::total(image);
+    let n = rows_total(image);
     let mut p = at;
     let mut i: usize = 0;
     while i < n {
-        p = put_result_at(out, p, image, i);
+        p = put_row(out, p, row_at(image, i));
         i += 1;
     }
     p
@@ -80,6 +57,5 @@ pub fn put_listing(out: &mut [u8], image: &[u8]) -> usize
     ensures { λ r. ⌜ Written (now (out .entry)) 0 (listingOf (sessionOf (now (image .entry)))) (now (out .exit)) r ⌝ }
 {
     let p = put_counts(out, image);
-    let q = put_nodes(out, p, image);
-    put_results(out, q, image)
+    put_rows(out, p, image)
 }

@@ -1,72 +1,55 @@
--- The loop's invariant: no label before i is the one.
+-- The four places, of which those after the labels are zero.
 -- Assumes nothing.
-use mathlib.Core.Path.{_≡_, refl, sym, _∙_}
-use Prim.Native.Nat.{_≤_, _<_, _-_}
-use native.Mathlib.Omega.{arith}
-use lib.ListN.{length, take, drop}
-use lib.Seq.{getD-take}
-use Rattle.graph.specs.KeyLists.{contains}
-use Rattle.graph.proofs.KeyLaws.{contains-hit, contains-miss, contains-end}
-use Rattle.valid.specs.Values.{labelsOf}
-use Rattle.state.proofs.ResultLaws.{labels-count}
-use Rattle.calls.proofs.Naming.{labels-few}
+use mathlib.Core.Path.{_≡_, ap, _∙_}
+use mathlib.Core.Bool.{Bool, _||_}
+use lib.Dec.{eqb}
+use lib.ListN.{length, getD}
+use Rattle.calls.proofs.Naming.{named-in}
 use borrow.Author.Needs.{needs}
 use Rattle.calls.proofs.waiting.has.Statement.{statement}
 use Rattle.calls.proofs.waiting.has.Tie as tie
 
-abbrev Inv-loop : tie.InvT-loop
-Inv-loop label n each i₀ i = (i ≤ n) × (contains label (drop i (take n each)) ≡ contains label (take n each))
-
-abbrev μ-loop : tie.MeasureT-loop
-μ-loop label n each i₀ i = n - i
-
--- the array has four labels, of which the first `count` are listed
-four : (s : tie.Start Inv-loop μ-loop) → length (s .args .labels .label) ≡ 4
+four : (s : tie.Start) → length (s .args .labels .label) ≡ 4
 four s = search needs
 
-few : (s : tie.Start Inv-loop μ-loop) → s .args .labels .count ≤ 4
-few s = labels-few (s .args .labels) (s .pre) (four s)
+array-read-or : tie.Need-array-read-or
+array-read-or c = search needs
 
-cast-n : tie.Need-cast-n Inv-loop μ-loop
-cast-n c = search needs
+array-read-or-2 : tie.Need-array-read-or-2
+array-read-or-2 c = search needs
 
-loop-holds : tie.Need-loop-holds Inv-loop μ-loop
-loop-holds c = (omega arith, refl)
+array-read-or-3 : tie.Need-array-read-or-3
+array-read-or-3 c = search needs
 
-mul-if1 : tie.Need-mul-if1 Inv-loop μ-loop
-mul-if1 c = search needs
+array-read-or-4 : tie.Need-array-read-or-4
+array-read-or-4 c = search needs
 
-array-read-if1 : tie.Need-array-read-if1 Inv-loop μ-loop
-array-read-if1 c = omega (arith, few (c .before .before .before .before))
+or-requires : tie.Need-or-requires
+or-requires c κs = search needs
 
-returns : tie.Need-returns Inv-loop μ-loop
+or-requires-2 : tie.Need-or-requires-2
+or-requires-2 c κs = search needs
+
+or-requires-3 : tie.Need-or-requires-3
+or-requires-3 c κs = search needs
+
+returns : tie.Need-returns
 returns c =
-    let s = c .before .before .before .before .before in
-    let l = c .before .before in
-    let h : l .loop .i < length (labelsOf (s .args .labels)) = omega (arith, labels-count (s .args .labels) (s .pre)) in
-    let e = getD-take (s .args .labels .count) (s .args .labels .label) (l .loop .i) 0 (omega arith) in
-    sym (contains-hit (labelsOf (s .args .labels)) (l .loop .i) h (s .args .label) (c .if1 .taken ∙ sym e)) ∙ l .loop .inv .1
-
-add-i : tie.Need-add-i Inv-loop μ-loop
-add-i c = search needs
-
-loop-less : tie.Need-loop-less Inv-loop μ-loop
-loop-less c = search needs
-
-loop-again : tie.Need-loop-again Inv-loop μ-loop
-loop-again c =
-    let s = c .before .before .before .before .before in
-    let l = c .before .before in
-    let h : l .loop .i < length (labelsOf (s .args .labels)) = omega (arith, labels-count (s .args .labels) (s .pre)) in
-    let e = getD-take (s .args .labels .count) (s .args .labels .label) (l .loop .i) 0 (omega arith) in
-    (omega arith, sym (contains-miss (labelsOf (s .args .labels)) (l .loop .i) h (s .args .label) (λ d. c .if1 .left (d ∙ e))) ∙ l .loop .inv .1)
-
-returns-2 : tie.Need-returns-2 Inv-loop μ-loop
-returns-2 c =
-    let s = c .before .before .before .before in
-    let l = c .before in
-    let h : length (labelsOf (s .args .labels)) ≤ l .loop .i = omega (arith, labels-count (s .args .labels) (s .pre)) in
-    sym (contains-end (labelsOf (s .args .labels)) (l .loop .i) h (s .args .label)) ∙ l .loop .inv .1
+    let a = c .before .before .before .before .args in
+    let e = a .labels .label in
+    c .or3 .ensures
+    ∙ ap (λ (t : Bool). eqb (a .label) (getD e 0 0) || t) (c .before .or2 .ensures ∙ ap (λ (t : Bool). eqb (a .label) (getD e 1 0) || t) (c .before .before .or .ensures))
+    ∙ named-in (a .labels) (c .before .before .before .before .pre .0) (four (c .before .before .before .before)) (a .label) (c .before .before .before .before .pre .1)
 
 pub has-spec : {M : Type 1} → statement M
-has-spec = tie.close (tie.spec Inv-loop μ-loop cast-n loop-holds mul-if1 array-read-if1 returns add-i loop-less loop-again returns-2)
+has-spec =
+    tie.close
+    (tie.spec
+    array-read-or
+    array-read-or-2
+    array-read-or-3
+    array-read-or-4
+    or-requires
+    or-requires-2
+    or-requires-3
+    returns)

@@ -25,7 +25,7 @@ loop-holds : tie.Need-loop-holds Inv-loop μ-loop
 loop-holds c = (omega arith, refl)
 
 names-requires : tie.Need-names-requires Inv-loop μ-loop
-names-requires c κs = (c .before .before .before .before .pre, omega (arith, c .before .before .total .ensures .is))
+names-requires c κs = (c .before .before .before .before .pre .0, omega (arith, c .before .before .total .ensures .is), c .before .before .before .before .pre .1)
 
 returns : tie.Need-returns Inv-loop μ-loop
 returns c =

@@ -1,35 +1,21 @@
--- An add has one label, an operation those of its record.
+-- The record at i is clean, and stands for the call there.
 -- Assumes nothing.
-use mathlib.Core.Path.{sym, _∙_}
-use borrow.Author.Tests.{not-true, not-false}
 use lib.ListN.{getD}
 use Rattle.worksteps.specs.FlatSteps.{noOp}
 use Rattle.state.specs.State.{held}
-use Rattle.calls.proofs.Naming.{names-add, names-op}
-use borrow.Author.Needs.{needs}
+use Rattle.state.proofs.QueueHeld.{in-view, reads-at}
+use Rattle.calls.proofs.Naming.{names-of}
 use Rattle.calls.proofs.waiting.labels_at.Statement.{statement}
 use Rattle.calls.proofs.waiting.labels_at.Tie as tie
 
-is-add-at-requires : tie.Need-is-add-at-requires
-is-add-at-requires c κs = search needs
-
-add-at-requires : tie.Need-add-at-requires
-add-at-requires c κs = (c .before .before .before .pre .0, c .before .before .before .pre .1, not-true _ (sym (c .before .is-add-at .ensures) ∙ c .if1 .taken))
+op-at-requires : tie.Need-op-at-requires
+op-at-requires c κs = (c .before .pre .0 .sound, in-view (c .before .args .image .now) (c .before .pre .0) (c .before .args .i) (c .before .pre .1))
 
 returns : tie.Need-returns
 returns c =
-    let s = c .before .before .before .before in
-    let a = c .add-at in
-    names-add (getD (held (s .args .image .now) .queue) (s .args .i) noOp .call) (a .result .label) (a .result .value) (a .ensures)
-
-operation-at-requires : tie.Need-operation-at-requires
-operation-at-requires c κs = (c .before .before .before .pre .0, c .before .before .before .pre .1, not-false _ (sym (c .before .is-add-at .ensures) ∙ c .if1 .left))
-
-returns-2 : tie.Need-returns-2
-returns-2 c =
-    let s = c .before .before .before .before .before in
-    let o = c .before .operation-at in
-    names-op (getD (held (s .args .image .now) .queue) (s .args .i) noOp .call) (o .result) (o .ensures)
+    let s = c .before .before .before in
+    let g = reads-at (s .args .image .now) (s .pre .0) (s .args .i) (s .pre .1) in
+    names-of (getD (held (s .args .image .now) .queue) (s .args .i) noOp) (c .before .op-at .result) (rw (c .before .op-at .ensures) g)
 
 pub labels-at-spec : {M : Type 1} → statement M
-labels-at-spec = tie.close (tie.spec is-add-at-requires add-at-requires returns operation-at-requires returns-2)
+labels-at-spec = tie.close (tie.spec op-at-requires returns)

@@ -5,7 +5,7 @@ use native.Mathlib.Omega.{arith}
 use lib.ListN.{length}
 use Rattle.state.specs.State.{held}
 use Rattle.listing.proofs.Counted.{head-counted}
-use Rattle.listing.proofs.Rows.{written-as}
+use Rattle.listing.proofs.Joined.{written-as}
 use borrow.Author.Needs.{needs}
 use Rattle.listing.proofs.write.put_counts.Statement.{statement}
 use Rattle.listing.proofs.write.put_counts.Tie as tie
