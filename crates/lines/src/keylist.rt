@@ -10,7 +10,7 @@ ghost use lib.ListN.{set};
 ghost use Rattle.graph.specs.KeyLists.{isKey};
 ghost use Rattle.lines.specs.Reads.{KeysOf, ListOf};
 
-// The numbers fed so far: how many (9 for more than eight), the first eight keys, the last number, whether all are
+// The numbers fed so far: how many (9 for more than eight), the keys where they are at most eight, the last number, whether all are
 // keys, and whether they rise strictly. `ok` is false where the bytes are no list of numbers.
 pub struct KeyList {
     pub ok: bool,

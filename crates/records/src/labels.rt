@@ -5,7 +5,7 @@ ghost use Prim.Native.Nat.{_+_, _≤_};
 ghost use lib.ListN.{length};
 ghost use Rattle.records.specs.Records.{labelsAt};
 
-// A list of labels: the first `count` of `label`; the places after them are zero.
+// A list of labels: the first `count` of `label`. In a valid image the places after them are zero.
 pub struct Labels {
     pub count: u8,
     pub label: [u16; 4],

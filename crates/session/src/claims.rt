@@ -11,7 +11,7 @@ ghost use Rattle.state.specs.State.{held};
 ghost use Rattle.live.specs.Live.{Live};
 ghost use Rattle.session.specs.Claims.{Finds, Claimable};
 
-// A refusal's number and no result; or 0, the result, and its place among the results.
+// 0, the result, and its place among the results; or a refusal's number, and then the rest says nothing.
 pub struct Found {
     pub refusal: u8,
     pub at: usize,

@@ -9,7 +9,7 @@ ghost use Rattle.state.specs.Operations.{Bounded};
 ghost use Rattle.state.specs.State.{held, Proper};
 ghost use Rattle.unitsteps.specs.Numbered.{locate, locateTwo, spotted};
 
-// Where a unit starts and ends, in the queue; or the number of a refusal, and zeros.
+// Where a unit starts and ends, in the queue; or the number of a refusal, and then the places say nothing.
 pub struct Spot {
     pub refusal: u32,
     pub start: usize,

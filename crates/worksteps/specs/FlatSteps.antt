@@ -1,5 +1,5 @@
--- The work steps on the flat session, by index in the queue, in the shape that the code has. proofs/Steps.antt shows that each
--- is the nested session's step.
+-- The work steps on the flat session, by index in the queue, in the shape that the code has. proofs/Heads.antt, Units.antt and Admits.antt
+-- show that each is the nested session's step.
 -- Assumes nothing.
 use Prim.Native.Nat.{ℕ, zero, suc, _+_, _-_}
 use mathlib.Core.Bool.{Bool, true, false, cond, not, _&&_, _||_}
