@@ -207,17 +207,48 @@ fn busy(nodes: u32, links: u32, targets: u32, stations: [u32; 3], counts: [u32; 
     ]
 }
 
-/// As many results as there can be, all but one with eight keys left.
-pub fn settled() -> Scene {
+/// Images of several sizes. The line is of no form, so that hardly more than the test of the image is timed.
+pub fn images() -> Scene {
+    let row = |name, desk: &Desk| desk.row(name, Entry::Step, "step=", 10);
+    let rows = vec![
+        row("fresh", &Desk::open()),
+        row("32 nodes, 32 maps", &kept(32, 0, 0, 32)),
+        row("32 nodes, 16 results, 16 maps", &kept(32, 16, 0, 16)),
+        row("64 nodes, 64 maps", &kept(64, 0, 0, 64)),
+        row("64 nodes, 64 results", &kept(64, 64, 0, 0)),
+        row("the same, labels 256 apart", &kept(64, 64, 255, 0)),
+    ];
+    let name = "The test of the image: a step line of no form. Nodes have 8 links, maps 8 targets, results 8 keys left";
+    Scene { name, rows }
+}
+
+/// Results, each after so many calls that were claimed since, then nodes, then maps that wait. The 64th result
+/// comes after the nodes, since no add is accepted while 64 calls are live.
+fn kept(nodes: u32, results: u32, between: u32, maps: u32) -> Desk {
     let mut desk = Desk::open();
     let sum = format!("call=sum start=4294967295 to={}", list(57..65));
-    for _ in 0..63 {
+    for _ in 0..results.min(63) {
+        for _ in 0..between {
+            desk.settle("call=sum start=0 to=");
+        }
         desk.serve(&sum);
-        desk.serve("step=admit");
+        desk.serve("step=drain"); // with no node yet: all targets are left
     }
-    desk.add_nodes(64, 8);
-    desk.serve(&sum);
-    desk.serve("step=drain");
+    desk.add_nodes(nodes, 8);
+    for _ in 63..results {
+        desk.serve(&sum);
+        desk.serve("step=drain");
+    }
+    for _ in 0..maps {
+        desk.serve(&format!("call=map a=65537 b=4294967295 to={}", list(1..9)));
+    }
+    desk
+}
+
+/// As many results as there can be, all but one with eight keys left.
+pub fn settled() -> Scene {
+    let desk = kept(64, 64, 0, 0);
+    let sum = format!("call=sum start=4294967295 to={}", list(57..65));
     let rows = vec![
         desk.row("call, 14", Entry::Call, &sum, 14),
         desk.row("step admit, 21", Entry::Step, "step=admit", 21),
