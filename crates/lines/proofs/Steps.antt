@@ -2,7 +2,7 @@
 -- Assumes nothing.
 use Prim.Native.Nat.{ℕ, _+_, _<_, _^_}
 use mathlib.Core.Path.{_≡_, refl, sym, ap, _∙_}
-use mathlib.Core.Bool.{Bool, true, false, cond, false≢true}
+use mathlib.Core.Bool.{Bool, true, false, cond, false≢true, and-true}
 use mathlib.Core.List.{List, []}
 use native.Mathlib.Omega.{arith}
 use lib.Dec.{eqb}
@@ -18,7 +18,7 @@ use Rattle.lines.specs.declared.step.StepKind.{StepKind}
 use Rattle.lines.specs.declared.step.StepKind.the-variants.{Admit, Realise, Move, Finish, Join, Split, Swap, Fuse, Drain}
 use Rattle.lines.specs.declared.step.StepLine.{StepLine}
 use Rattle.lines.specs.declared.fields.Fields.{Fields}
-use Rattle.lines.proofs.KeyLists.{and-end, words-below, below-words}
+use Rattle.lines.proofs.KeyLists.{words-below, below-words}
 use Rattle.lines.proofs.Words.{Grammar, textIn, Never, kind-inj, text-inj}
 
 -- ---- the grammar
@@ -193,13 +193,13 @@ record Formed (k : StepKind) (x y z : ℕ) : Type 0 where
 
 formed : (k : StepKind) (x y z : ℕ) → Spare (stepLiterals k) x y z → Formed k x y z
 formed Admit x y z s = record { key = λ h. absurd (false≢true h); free = λ h. refl; value = rw (s .0, s .1, s .2) }
-formed Realise x y z s = record { key = λ h. and-end (isKey x); free = λ h. absurd (false≢true (sym h)); value = rw (s .0, s .1) }
-formed Move x y z s = record { key = λ h. and-end (isKey x); free = λ h. absurd (false≢true (sym h)); value = rw (s .0, s .1) }
-formed Finish x y z s = record { key = λ h. and-end (isKey x); free = λ h. absurd (false≢true (sym h)); value = rw (s .0, s .1) }
-formed Join x y z s = record { key = λ h. and-end (isKey x); free = λ h. absurd (false≢true (sym h)); value = rw (s .0) }
-formed Split x y z s = record { key = λ h. and-end (isKey x); free = λ h. absurd (false≢true (sym h)); value = refl }
-formed Swap x y z s = record { key = λ h. and-end (isKey x); free = λ h. absurd (false≢true (sym h)); value = rw (s .0) }
-formed Fuse x y z s = record { key = λ h. and-end (isKey x); free = λ h. absurd (false≢true (sym h)); value = rw (s .0) }
+formed Realise x y z s = record { key = λ h. and-true (isKey x); free = λ h. absurd (false≢true (sym h)); value = rw (s .0, s .1) }
+formed Move x y z s = record { key = λ h. and-true (isKey x); free = λ h. absurd (false≢true (sym h)); value = rw (s .0, s .1) }
+formed Finish x y z s = record { key = λ h. and-true (isKey x); free = λ h. absurd (false≢true (sym h)); value = rw (s .0, s .1) }
+formed Join x y z s = record { key = λ h. and-true (isKey x); free = λ h. absurd (false≢true (sym h)); value = rw (s .0) }
+formed Split x y z s = record { key = λ h. and-true (isKey x); free = λ h. absurd (false≢true (sym h)); value = refl }
+formed Swap x y z s = record { key = λ h. and-true (isKey x); free = λ h. absurd (false≢true (sym h)); value = rw (s .0) }
+formed Fuse x y z s = record { key = λ h. and-true (isKey x); free = λ h. absurd (false≢true (sym h)); value = rw (s .0) }
 formed Drain x y z s = record { key = λ h. absurd (false≢true h); free = λ h. refl; value = rw (s .0, s .1, s .2) }
 
 module _ (k : StepKind) (f : Fields) (r : StepLine) where

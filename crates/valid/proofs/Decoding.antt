@@ -16,6 +16,7 @@ use Rattle.graph.specs.Nodes.{Node, Result}
 use Rattle.graph.specs.OneAtATime.{Labelled, addOf, opOf}
 use Rattle.graph.specs.Valid.{Each, Key, ValidTargets, ValidNode, ValidAct, ValidHeld, mostLabels, ValidOp, ValidCall, ValidResult}
 use Rattle.graph.proofs.Answers.{and-left, and-right, by-bool}
+use Rattle.graph.proofs.KeyLaws.{listed-packed}
 use Rattle.queue.specs.Flat.{placed, follows}
 use Rattle.records.specs.declared.node.NodeRecord.{NodeRecord}
 use Rattle.records.specs.declared.op.OpRecord.{OpRecord}
@@ -23,7 +24,7 @@ use Rattle.records.specs.declared.result.ResultRecord.{ResultRecord}
 use Rattle.records.proofs.Codecs.{FitLabels, FitNode, FitOp, FitResult}
 use Rattle.valid.specs.Values.{nodeOf, nodeRecord, resultOf, resultRecord, labelsOf, packedLabels, actOf, heldOf, callOf, taggedOf, Fields, fields, fieldsOf, opRecord, callRecord, taggedRecord}
 use Rattle.valid.specs.Tests.{keysOk, labelsOk, nodeOk, operandOk, numbersOk, mostOf, targetsOk, opOk, resultOk}
-use Rattle.valid.proofs.Packing.{KeysGood, keys-good, keys-packed, packed-ok, listed-packed, packed-fit, LabelsGood, labels-length, labels-good, labels-packed, packed-labels-ok, labels-of-packed}
+use Rattle.valid.proofs.Packing.{KeysGood, keys-good, keys-packed, packed-ok, packed-fit, LabelsGood, labels-length, labels-good, labels-packed, packed-labels-ok, labels-of-packed}
 
 -- NODES
 module _ (i : ℕ) (r : NodeRecord) (f : FitNode r) (e : nodeOk i r ≡ true) where
@@ -55,7 +56,7 @@ module _ (n : Node) (v : ValidNode n) where
   node-ok i e = rw (eq-eqb (n .key) (i + 1) e) (packed-ok false (n .links) links-good)
 
   pub node-back : nodeOf (nodeRecord n) ≡ n
-  node-back = λ i. record { key = n .key; value = n .value; links = listed-packed false (n .links) links-good i }
+  node-back = λ i. record { key = n .key; value = n .value; links = listed-packed (n .links) i }
 
   pub node-fit : FitNode (nodeRecord n)
   node-fit = record { value = v .value; links = packed-fit false (n .links) links-good; spare = omega arith }
@@ -90,7 +91,7 @@ module _ (r : Result) (v : ValidResult r) where
   result-ok prev h = rw (lt-ltb prev (r .label) h) (packed-ok true (r .left) (targets-good (r .left) (v .left)))
 
   pub result-back : resultOf (resultRecord r) ≡ r
-  result-back = λ i. record { label = r .label; value = r .value; left = listed-packed true (r .left) (targets-good (r .left) (v .left)) i }
+  result-back = λ i. record { label = r .label; value = r .value; left = listed-packed (r .left) i }
 
   pub result-fit : r .label < 2 ^ 16 → FitResult (resultRecord r)
   result-fit h = record { label = h; value = v .value; left = packed-fit true (r .left) (targets-good (r .left) (v .left)) }
@@ -350,7 +351,7 @@ record-good p b (opOf o) h = made (fields-good (o .act) (o .held) (h .act) (h .h
         let lg : LabelsGood (mostOf (f .kind)) (o .labels) = record { named = h .named; few = few } in
         record {
           back =
-              (λ i. record { place = p; opens = flag-back b i; call = cond (g .other i) (addOf (getD (packedLabels (o .labels) .label) 0 0) (f .b)) (opOf (record { act = g .act i; held = g .held i; targets = listed-packed true (o .targets) tg i; labels = labels-of-packed (mostOf (f .kind)) (most-four (f .kind)) (o .labels) lg i })) });
+              (λ i. record { place = p; opens = flag-back b i; call = cond (g .other i) (addOf (getD (packedLabels (o .labels) .label) 0 0) (f .b)) (opOf (record { act = g .act i; held = g .held i; targets = listed-packed (o .targets) i; labels = labels-of-packed (mostOf (f .kind)) (most-four (f .kind)) (o .labels) lg i })) });
           facts = λ n prev x y.
               record {
                 place = x;

@@ -15,7 +15,7 @@ use Rattle.graph.specs.OneAtATime.{Labelled, addOf, opOf}
 use Rattle.graph.specs.Sessions.{Session, addsIn, labelsOfCalls, labelsOfResults}
 use Rattle.graph.specs.Valid.{Each, ValidNode, ValidCall, ValidResult, Given, Valid}
 use Rattle.graph.proofs.Answers.{and-left, and-right, by-bool}
-use Rattle.graph.proofs.Limits.{each-left, each-right, rising-above}
+use Rattle.graph.proofs.Limits.{each-left, each-right, rising-above, each-at}
 use Rattle.queue.specs.Flat.{Tagged, Flat, flat, nest, calls, ordered, placed, follows}
 use Rattle.queue.proofs.Nesting.{KeysUp, Formed, flat-nest, nest-flat, keyed-nest, order-line, keyed-stations}
 use Rattle.records.specs.Bytes.{chunk, tab}
@@ -66,11 +66,6 @@ module _ {A : Type 0} (P : A → Type 0) where
   unfolding tab
   tab-each zero f h = tt
   tab-each (suc n) f h = (h 0 (omega arith), tab-each n (λ i. f (suc i)) (λ i l. h (suc i) (omega arith)))
-
-  each-at : (xs : List A) (d : A) → Each P xs → (i : ℕ) → i < length xs → P (getD xs i d)
-  each-at [] d e i h = absurd (omega arith)
-  each-at (x ∷ xs) d e zero h = e .0
-  each-at (x ∷ xs) d e (suc i) h = each-at xs d (e .1) i (omega arith)
 
 module _ {A B : Type 0} (f : A → B) where
   map-each : (P : A → Type 0) (Q : B → Type 0) → ((x : A) → P x → Q (f x)) → (xs : List A) → Each P xs → Each Q (map f xs)

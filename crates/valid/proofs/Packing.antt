@@ -96,10 +96,6 @@ module _ (rise : Bool) (ts : List ℕ) (g : KeysGood rise ts) where
   unfolding keysOk packed
   packed-ok = rw (le-leb (length ts) 8 (g .few)) (places-back rise 0 (8 - length ts) ts (g .keys) (λ b. above-of ts (g .keys) (g .rises b)) (λ b. refl))
 
-  pub listed-packed : listed (packed ts) ≡ ts
-  unfolding packed
-  listed-packed = take-append-seam ts (replicate (8 - length ts) 0)
-
   pub packed-fit : FitKeys (packed ts)
   unfolding packed
   packed-fit = record { places = length-append ts (replicate (8 - length ts) 0) ∙ omega (arith, g .few, length-replicate {A = ℕ} (8 - length ts) 0) }

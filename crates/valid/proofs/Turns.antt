@@ -4,7 +4,7 @@ use mathlib.Core.Path.{_≡_, refl, sym, ap, _∙_}
 use Prim.Native.Nat.{ℕ, zero, suc, _+_, _-_, _%_, _≤_, _<_}
 use native.Mathlib.Numerals.{add-one}
 use native.Mathlib.Omega.{arith}
-use mathlib.Core.Bool.{Bool, true, false, cond, not, _&&_, _||_, or-false, true≢false}
+use mathlib.Core.Bool.{Bool, true, false, cond, not, _&&_, _||_, or-false, true≢false, or-assoc}
 use mathlib.Core.List.{List, [], _∷_, _++_, append-assoc, append-nil}
 use lib.Dec.{eqb, leb, ltb}
 use lib.ListN.{length, getD, set, take, drop, replicate, drop-of-length-le, length-drop, length-set}
@@ -107,11 +107,7 @@ take-four n l e false q = take-all 4 l (omega arith) ∙ sym (take-all n l (omeg
 -- IS IT AMONG THEM
 pub contains-append : (x : ℕ) (s t : List ℕ) → contains x (s ++ t) ≡ (contains x s || contains x t)
 contains-append x [] t = refl
-contains-append x (y ∷ s) t = ap (λ (b : Bool). eqb x y || b) (contains-append x s t) ∙ go (eqb x y) (contains x s) (contains x t)
-  where
-    go : (a b c : Bool) → (a || (b || c)) ≡ ((a || b) || c)
-    go true b c = refl
-    go false b c = refl
+contains-append x (y ∷ s) t = ap (λ (b : Bool). eqb x y || b) (contains-append x s t) ∙ sym (or-assoc (eqb x y) (contains x s) (contains x t))
 
 or-last : (a b : Bool) → (a || (b || false)) ≡ (b || a)
 or-last true true = refl

@@ -13,18 +13,13 @@ use Rattle.graph.specs.OneAtATime.{Labelled}
 use Rattle.graph.specs.Sessions.{Station, Session, labelsOfResults, pending, live}
 use Rattle.graph.specs.Valid.{Each, ValidOp, ValidUnit, ValidStation, ValidCall, Valid}
 use Rattle.graph.proofs.Labels.{total, one, total-append, total-one}
-use Rattle.graph.proofs.Limits.{each-append}
+use Rattle.graph.proofs.Limits.{each-append, each-at}
 use Rattle.queue.specs.Flat.{Tagged, tagUnit, tagUnits, queueOf, waiting, flat, isOp, find, here}
 use Rattle.worksteps.specs.FlatSteps.{noOp}
 use Rattle.worksteps.specs.FlatEvents.{labelsIn, queued}
 use Rattle.worksteps.proofs.Events.{pending-total}
 
 -- a fact of each element holds at each index
-pub each-at : {A : Type 0} (P : A → Type 0) (xs : List A) (i : ℕ) (d : A) → i < length xs → Each P xs → P (getD xs i d)
-each-at P [] i d h g = absurd (omega arith)
-each-at P (x ∷ xs) zero d h g = g .0
-each-at P (x ∷ xs) (suc i) d h g = each-at P xs i d (omega arith) (g .1)
-
 -- EACH OPERATION OF THE QUEUE
 -- in the top stream a valid call, elsewhere a valid operation
 pub record Sits (x : Tagged) : Type 0 where
@@ -49,7 +44,7 @@ sits-waiting (c ∷ cs) g = (record { call = g .0; placed = λ e. absurd (true�
 
 pub sits-at : (s : Session) → Valid s → (i : ℕ) → i < length (flat s .queue) → Sits (getD (flat s .queue) i noOp)
 sits-at s g i h =
-    each-at Sits (flat s .queue) i noOp h (each-append Sits (queueOf (s .stations)) (waiting (s .topStream)) (sits-queue (s .stations) (g .stations)) (sits-waiting (s .topStream) (g .topStream)))
+    each-at Sits (flat s .queue) noOp (each-append Sits (queueOf (s .stations)) (waiting (s .topStream)) (sits-queue (s .stations) (g .stations)) (sits-waiting (s .topStream) (g .topStream))) i h
 
 -- LABELS: those of one operation, among all that wait
 queued-at : (v : ℕ → ℕ) (q : List Tagged) (i : ℕ) → i < length q → total v (labelsIn (getD q i noOp .call)) ≤ total v (queued q)
