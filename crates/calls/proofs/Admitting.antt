@@ -15,6 +15,7 @@ use Rattle.graph.specs.Refusals.{refused, done}
 use Rattle.graph.specs.Sessions.{insert, store}
 use Rattle.graph.specs.Steps.{admit}
 use Rattle.queue.specs.Flat.{Flat, carried, isOp, find, atPlace}
+use Rattle.queue.proofs.Places.{find-within}
 use Rattle.worksteps.specs.FlatSteps.{alter, removeAt, noOp, moveTo, withQueue, admitCall, flatStep}
 use Rattle.worksteps.proofs.Facts.{here-find}
 use Rattle.valid.specs.Values.{labelsOf}
@@ -22,7 +23,6 @@ use Rattle.state.specs.declared.operation.Operation.{Operation}
 use Rattle.state.specs.Operations.{opValue}
 use Rattle.state.specs.Results.{resultWith}
 use Rattle.state.specs.State.{held, Shows, withNodes, withResults}
-use Rattle.state.proofs.ResultLaws.{find-within}
 use Rattle.calls.specs.Admission.{admittedAt, finishedAt}
 
 -- THE STEP, by where the first waiting call stands

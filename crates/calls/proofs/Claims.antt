@@ -11,9 +11,10 @@ use Rattle.graph.specs.Acceptance.{takeResult}
 use Rattle.graph.specs.KeyLists.{contains}
 use Rattle.graph.specs.Refusals.{refused, done}
 use Rattle.queue.specs.Flat.{Flat, find}
+use Rattle.queue.proofs.Places.{find-within}
 use Rattle.worksteps.specs.FlatEvents.{queued, flatClaim}
 use Rattle.state.specs.Results.{hasLabel, takenAt}
-use Rattle.state.proofs.ResultLaws.{find-within, take-none, take-some}
+use Rattle.state.proofs.ResultLaws.{take-none, take-some}
 use Rattle.calls.specs.Claiming.{Finds}
 
 module _ (l : ℕ) (f : Flat) where

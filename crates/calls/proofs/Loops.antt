@@ -4,8 +4,7 @@ use mathlib.Core.Path.{_≡_, refl, sym, ap, _∙_}
 use Prim.Native.Nat.{ℕ, _+_, _≤_, _<_}
 use native.Mathlib.Numerals.{add-one}
 use mathlib.Core.Bool.{Bool, true, false, not, _||_, true≢false}
-use mathlib.Core.List.{List, [], _∷_, _++_}
-use lib.Dec.{eqb}
+use mathlib.Core.List.{List, _∷_}
 use lib.ListN.{length, getD, drop, length-append, drop-of-length-le}
 use lib.Seq.{drop-cons}
 use Rattle.graph.specs.KeyLists.{contains}
@@ -13,6 +12,7 @@ use Rattle.graph.specs.OneAtATime.{Labelled, addOf, opOf}
 use Rattle.queue.specs.Flat.{Tagged, isOp}
 use Rattle.worksteps.specs.FlatSteps.{noOp}
 use Rattle.worksteps.specs.FlatEvents.{labelsIn, queued, addIn, addsQueued}
+use Rattle.valid.proofs.Turns.{contains-append}
 
 -- is the call an add?
 pub adds-one : (c : Labelled) → not (isOp c) ≡ true → addIn c ≡ 1
@@ -22,14 +22,6 @@ adds-one (opOf o) e = absurd (true≢false (sym e))
 pub adds-none : (c : Labelled) → not (isOp c) ≡ false → addIn c ≡ 0
 adds-none (addOf l v) e = absurd (true≢false e)
 adds-none (opOf o) e = refl
-
-pub contains-append : (l : ℕ) (xs ys : List ℕ) → contains l (xs ++ ys) ≡ (contains l xs || contains l ys)
-contains-append l [] ys = refl
-contains-append l (x ∷ xs) ys = go (eqb l x) (contains-append l xs ys)
-  where
-    go : (b : Bool) → contains l (xs ++ ys) ≡ (contains l xs || contains l ys) → (b || contains l (xs ++ ys)) ≡ ((b || contains l xs) || contains l ys)
-    go true e = refl
-    go false e = e
 
 -- the queue has a call at i
 module _ (q : List Tagged) (i : ℕ) (h : i < length q) where

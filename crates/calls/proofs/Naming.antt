@@ -11,16 +11,16 @@ use borrow.Author.Tests.{ne-eqb}
 use Rattle.graph.specs.declared.keys.Keys.{Keys}
 use Rattle.graph.specs.KeyLists.{contains}
 use Rattle.graph.specs.Packed.{listed, packed}
+use Rattle.graph.proofs.Answers.{by-bool}
 use Rattle.queue.specs.Flat.{Tagged}
-use Rattle.queue.proofs.Places.{by-bool}
 use Rattle.records.specs.declared.labels.Labels.{Labels}
 use Rattle.records.specs.declared.op.OpRecord.{OpRecord}
 use Rattle.valid.specs.Values.{labelsOf, packedLabels}
+use Rattle.valid.proofs.Turns.{contains-append}
 use Rattle.worksteps.specs.FlatEvents.{labelsIn}
 use Rattle.state.specs.Operations.{Lists, Reads}
 use Rattle.state.proofs.ResultLaws.{labels-count}
 use Rattle.calls.specs.Admission.{Names}
-use Rattle.calls.proofs.Loops.{contains-append}
 
 abbrev pub only : ℕ → Labels
 only l = record { count = 1; label = l ∷ 0 ∷ 0 ∷ 0 ∷ [] }

@@ -13,6 +13,7 @@ use borrow.Author.Tests.{eq-eqb, ne-eqb, lt-leb, le-leb}
 use Rattle.graph.specs.declared.keys.Keys.{Keys}
 use Rattle.graph.specs.KeyLists.{contains, strike, linked, disjoint, sameKeys}
 use Rattle.graph.specs.Packed.{listed, packed}
+use Rattle.graph.proofs.Striking.{strike-le}
 
 -- strike, from the back
 strike-append : (k t : ℕ) (l : List ℕ) → strike k (l ++ (t ∷ [])) ≡ cond (eqb k t) (strike k l) (strike k l ++ (t ∷ []))
@@ -24,14 +25,6 @@ strike-append k t (u ∷ l) = go (eqb k u) (eqb k t) (strike-append k t l)
     go true d e = e
     go false true e = ap (λ (x : List ℕ). u ∷ x) e
     go false false e = ap (λ (x : List ℕ). u ∷ x) e
-
-length-strike : (k : ℕ) (l : List ℕ) → length (strike k l) ≤ length l
-length-strike k [] = omega arith
-length-strike k (t ∷ l) = go (eqb k t) (length-strike k l)
-  where
-    go : (b : Bool) → length (strike k l) ≤ length l → length (cond b (strike k l) (t ∷ strike k l)) ≤ suc (length l)
-    go true h = omega arith
-    go false h = omega arith
 
 -- the list is at its end
 module _ (l : List ℕ) (i : ℕ) (h : length l ≤ i) where
@@ -80,7 +73,7 @@ module _ (l : List ℕ) (i : ℕ) (h : i < length l) where
 
   -- what is kept of the keys before the place leaves room for one more
   pub strike-few : (k : ℕ) → length (strike k (take i l)) < length l
-  strike-few k = omega (arith, length-strike k (take i l), length-take-le i l (omega arith))
+  strike-few k = omega (arith, strike-le k (take i l), length-take-le i l (omega arith))
 
 -- lists of different lengths
 pub same-length : (l us : List ℕ) → (length l ≡ length us → ⊥) → sameKeys l us ≡ false

@@ -1,13 +1,13 @@
 -- The limits of nodes, operations and results: what acts and fuses keep, so does every effect.
 -- Assumes nothing.
 use mathlib.Core.Path.{_≡_, refl}
-use Prim.Native.Nat.{ℕ, _+_, _*_, _≤_, _<_}
+use Prim.Native.Nat.{ℕ, zero, suc, _+_, _*_, _≤_, _<_}
 use native.Mathlib.Nat.{mod-lt}
 use native.Mathlib.Omega.{arith}
 use mathlib.Core.Bool.{Bool, true, false, cond, _&&_}
 use mathlib.Core.List.{List, [], _∷_, _++_}
 use lib.Dec.{eqb, ltb, lit≤}
-use lib.ListN.{length, length-append}
+use lib.ListN.{length, getD, length-append}
 use borrow.Author.Tests.{leb-true, leb-false, ltb-true, lt-ltb}
 use Rattle.graph.specs.declared.affine.Affine.{Affine}
 use Rattle.graph.specs.declared.act.Act.{Act}
@@ -35,6 +35,11 @@ module _ {A : Type 0} (P : A → Type 0) where
   pub each-right : (xs ys : List A) → Each P (xs ++ ys) → Each P ys
   each-right [] ys h = h
   each-right (x ∷ xs) ys h = each-right xs ys (h .1)
+
+  pub each-at : (xs : List A) (d : A) → Each P xs → (i : ℕ) → i < length xs → P (getD xs i d)
+  each-at [] d e i h = absurd (omega arith)
+  each-at (x ∷ xs) d e zero h = e .0
+  each-at (x ∷ xs) d e (suc i) h = each-at xs d (e .1) i (omega arith)
 
 positive : 0 < modulus
 positive = lit≤ tt

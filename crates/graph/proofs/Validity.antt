@@ -9,7 +9,7 @@ use lib.Dec.{eqb, leb, ltb, lit≤}
 use lib.ListN.{length}
 use borrow.Author.Tests.{leb-true, leb-false, le-leb, ltb-true, ne-eqb, eqb-true, not-false}
 use Rattle.graph.specs.declared.act.Act.{Act}
-use Rattle.graph.specs.Refusals.{Answer, refused, done, Test, unless}
+use Rattle.graph.specs.Refusals.{Answer, refused, done, mapDone, Test, unless}
 use Rattle.graph.specs.Affine.{modulus}
 use Rattle.graph.specs.KeyLists.{isKey, areKeys, above, rising, contains}
 use Rattle.graph.specs.Calls.{Call, add, map, link, unlink, sum, top, pick, near, numbersOf, operandsOf, targetsOf, isAdd, areWords}
@@ -19,7 +19,7 @@ use Rattle.graph.specs.Sessions.{Station, Session, fresh, insert, store,
 use Rattle.graph.specs.Steps.{Step, Change, enter, admitted, changed, admitHead, stepAt, step}
 use Rattle.graph.specs.Acceptance.{callTests, accepted, accept, Claimed, takeResult, claim, keeping}
 use Rattle.graph.specs.Valid.{Each, Key, ValidAct, ValidHeld, mostLabels, ValidOp, ValidUnit, ValidStation, ValidCall, ValidResult, KeysFall, count, Given, Valid}
-use Rattle.graph.proofs.Answers.{Holds, refuses, holds, holds-map, holds-cond, by-bool, and-left, and-right, and-both}
+use Rattle.graph.proofs.Answers.{Holds, refuses, holds, holds-map, holds-cond, by-bool, and-left, and-right, and-both, test-most}
 use Rattle.graph.proofs.Effects.{Effect, realised, moved, finished, reshaped, further, effect-at, effect-size, by-station}
 use Rattle.graph.proofs.Limits.{each-append, above-lower, rising-above, ValidChange, valid-effect, valid-stored, valid-newNode, valid-addResult}
 use Rattle.graph.proofs.Outcome.{sum as sumOf}
@@ -233,6 +233,28 @@ claim-valid l s g =
     go (refused r) h = refuses
     go (done c) (holds h) = holds {a = c} (claimed-valid s c g h)
 
+-- a claim is refused with a number, 31 only where the label is pending; or it gives a result with the label
+abbrev pub Fine : ℕ → Session → Answer Claimed → Type 0
+Fine l s (refused n) = (1 ≤ n) × (n ≡ 31 → contains l (pending s) ≡ true)
+Fine l s (done c) = (c .result .label ≡ l) × ValidResult (c .result)
+
+take-fine : (l : ℕ) (s : Session) (rs : List Result) → Each ValidResult rs → Fine l s (takeResult l rs)
+take-fine l s [] h = (omega arith, λ e. absurd (omega arith))
+take-fine l s (r ∷ rs) h = go (eqb (r .label) l) refl (takeResult l rs) (take-fine l s rs (h .1))
+  where
+    go : (b : Bool) → eqb (r .label) l ≡ b → (a : Answer Claimed) → Fine l s a → Fine l s (cond b (done (record { result = r; others = rs })) (mapDone (λ (c : Claimed). record { result = c .result; others = r ∷ c .others }) a))
+    go true e a ih = (eqb-true (r .label) l e, h .0)
+    go false e (refused n) ih = ih
+    go false e (done c) ih = ih
+
+pub claim-fine : (l : ℕ) (s : Session) → Valid s → Fine l s (claim l s)
+claim-fine l s v = go (leb 1 l && leb l (s .last)) (contains l (pending s)) refl (takeResult l (s .results)) (take-fine l s (s .results) (v .results))
+  where
+    go : (a b : Bool) → contains l (pending s) ≡ b → (x : Answer Claimed) → Fine l s x → Fine l s (cond a (cond b (refused 31) x) (refused 30))
+    go true true p x h = (omega arith, λ e. p)
+    go true false p x h = h
+    go false b p x h = (omega arith, λ e. absurd (omega arith))
+
 -- CALLS
 -- the facts of a call that is accepted: no test applied
 pub record Fits (c : Call) (s : Session) : Type 0 where
@@ -323,10 +345,10 @@ adds-one c l n h f = go (sort c l)
     go (adds x i e) = rw e (omega (arith, f i))
     go (operates a x e) = rw e (omega arith)
 
-adds-last : (cs ds : List Labelled) → addsIn (cs ++ ds) ≡ addsIn cs + addsIn ds
-adds-last [] ds = omega arith
-adds-last (addOf k v ∷ cs) ds = omega (arith, adds-last cs ds)
-adds-last (opOf o ∷ cs) ds = adds-last cs ds
+pub adds-append : (cs ds : List Labelled) → addsIn (cs ++ ds) ≡ addsIn cs + addsIn ds
+adds-append [] ds = omega arith
+adds-append (addOf k v ∷ cs) ds = omega (arith, adds-append cs ds)
+adds-append (opOf o ∷ cs) ds = adds-append cs ds
 
 total-accepted : (v : ℕ → ℕ) (c : Call) (s : Session) → total v (live (accepted c s)) ≡ total v (live s) + v (suc (s .last))
 total-accepted v c s =
@@ -349,10 +371,6 @@ each-given : (m n : ℕ) (ls : List ℕ) → m ≤ n → Each (Given m) ls → E
 each-given m n [] h g = tt
 each-given m n (x ∷ xs) h g = ((g .0 .0, omega (arith, g .0 .1)), each-given m n xs h (g .1))
 
-is-le : (b : Bool) → cond b 1 0 ≤ 1
-is-le true = omega arith
-is-le false = omega arith
-
 pub accepted-valid : (c : Call) (s : Session) → Valid s → Fits c s → Valid (accepted c s)
 accepted-valid c s g f =
     let l : ℕ = suc (s .last) in
@@ -364,11 +382,11 @@ accepted-valid c s g f =
       stations = g .stations;
       topStream = each-append ValidCall (s .topStream) (labelled c l ∷ []) (g .topStream) (valid-labelled c s l f, tt);
       results = g .results;
-      room = omega (arith, adds-last (s .topStream) (labelled c l ∷ []), adds-one c l (length (s .stations) + addsIn (s .topStream)) (g .room) (f .room));
+      room = omega (arith, adds-append (s .topStream) (labelled c l ∷ []), adds-one c l (length (s .stations) + addsIn (s .topStream)) (g .room) (f .room));
       order = g .order;
       given = stray-given l (live t) (omega (arith, total-accepted (stray l) c s));
       once = λ k. by-bool (eqb k l)
-          (λ e. omega (arith, total-accepted (is k) c s, total-is k (live t), total-is k (live s), is-le (eqb k l), fresh-label s (live s) k (omega (arith, eqb-true k l e)) (g .given)))
+          (λ e. omega (arith, total-accepted (is k) c s, total-is k (live t), total-is k (live s), test-most (eqb k l), fresh-label s (live s) k (omega (arith, eqb-true k l e)) (g .given)))
           (λ e. omega (arith, total-accepted (is k) c s, total-is k (live t), total-is k (live s), g .once k, ap {B = ℕ} (λ (b : Bool). cond b 1 0) e));
       places = omega (arith, total-accepted one c s, total-one (live t), total-one (live s), f .free);
       labels = f .more;

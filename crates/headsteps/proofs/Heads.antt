@@ -3,7 +3,7 @@
 use mathlib.Core.Path.{_≡_, refl, sym, _∙_, ap, subst}
 use Prim.Native.Nat.{ℕ, zero, suc, _+_, _-_, _≤_, _<_}
 use native.Mathlib.Omega.{arith}
-use mathlib.Core.Bool.{Bool, true, false, cond, not, _&&_, _||_, true≢false}
+use mathlib.Core.Bool.{Bool, true, false, cond, not, _||_, true≢false}
 use mathlib.Core.List.{List, [], _∷_}
 use lib.Dec.{eqb, leb, ltb}
 use lib.ListN.{length, getD, drop}
@@ -12,14 +12,15 @@ use borrow.Author.Tests.{lt-ltb, le-ltb, eq-eqb, ne-eqb, eqb-true, leb-true}
 use Rattle.graph.specs.Refusals.{Answer, refused, done}
 use Rattle.graph.specs.Sessions.{Session}
 use Rattle.graph.specs.Steps.{realise, move, finish}
+use Rattle.graph.proofs.Answers.{and-left, and-right}
 use Rattle.queue.specs.Flat.{Tagged, Flat, flat, nest, isOp, find, atPlace, breaks, endOf}
 use Rattle.queue.proofs.Places.{length-nodes}
 use Rattle.worksteps.specs.FlatSteps.{firstIn, mapFrom, noOp, noNode, moveTo, withQueue, hitsKey, headUnit, moveFlat, actAt, realiseFrom, realiseFlat, finishesAt, finishPlace, finishFrom, finishFlat, known, atKey, flatStep}
 use Rattle.worksteps.proofs.Turns.{any-first}
 use Rattle.worksteps.proofs.Facts.{here-find, here-at, sits-at}
 use Rattle.worksteps.proofs.Events.{valid-room}
-use Rattle.state.specs.State.{held, Shows}
-use Rattle.live.specs.Live.{Live, Works}
+use Rattle.state.specs.State.{held}
+use Rattle.live.specs.Live.{Live}
 use Rattle.headsteps.specs.Heads.{Head}
 
 -- KEYS
@@ -30,17 +31,9 @@ pub record InNodes (k : ℕ) (f : Flat) : Type 0 where
 
 pub in-nodes : (k : ℕ) (f : Flat) → known k f ≡ true → InNodes k f
 in-nodes k f e =
-    let l : 1 ≤ k = leb-true 1 k (left (leb 1 k) (leb k (length (f .nodes))) e) in
-    let h : k ≤ length (f .nodes) = leb-true k (length (f .nodes)) (right (leb 1 k) (leb k (length (f .nodes))) e) in
+    let l : 1 ≤ k = leb-true 1 k (and-left (leb 1 k) (leb k (length (f .nodes))) e) in
+    let h : k ≤ length (f .nodes) = leb-true k (length (f .nodes)) (and-right (leb 1 k) (leb k (length (f .nodes))) e) in
     record { low = l; inside = omega arith; high = h }
-  where
-    left : (b c : Bool) → (b && c) ≡ true → b ≡ true
-    left true c e = refl
-    left false c e = e
-
-    right : (b c : Bool) → (b && c) ≡ true → c ≡ true
-    right true c e = e
-    right false c e = absurd (true≢false (sym e))
 
 -- SEARCHES
 module _ {A : Type 0} (p : A → Bool) where

@@ -24,6 +24,7 @@ use Rattle.lines.specs.declared.step.StepKind.{StepKind}
 use Rattle.lines.specs.declared.step.StepKind.the-variants.{Admit, Realise, Move, Finish, Join, Split, Swap, Fuse, Drain}
 use Rattle.lines.specs.declared.step.StepLine.{StepLine}
 use Rattle.lines.specs.Answers.{stepRead, refusedStep, stepFormTests, stepForm, stepOf, IsStep, StepRead}
+use Rattle.lines.proofs.Steps.{step-back}
 use Rattle.panel.specs.declared.answer.Answer.the-variants.{Done, Refused}
 use Rattle.panel.specs.declared.tally.Tally.{Tally}
 use Rattle.panel.specs.Answer.{numberOf}
@@ -48,17 +49,6 @@ read-none (work (split at unit after)) = refl
 read-none (work (swap at unit)) = refl
 read-none (work (fuse at unit)) = refl
 read-none drains = refl
-
-read-of : (f : StepForm) → stepOf (stepRead f) ≡ f
-read-of (work admit) = refl
-read-of (work (realise at)) = refl
-read-of (work (move at)) = refl
-read-of (work (finish at)) = refl
-read-of (work (join at unit)) = refl
-read-of (work (split at unit after)) = refl
-read-of (work (swap at unit)) = refl
-read-of (work (fuse at unit)) = refl
-read-of drains = refl
 
 -- a key fits in a byte
 key-small : (k : ℕ) → areKeys (k ∷ []) ≡ true → k < 256
@@ -87,7 +77,7 @@ stepReader =
       formOf = stepOf;
       numbered = λ n. refl;
       unrefused = read-none;
-      back = read-of;
+      back = step-back;
       refuses = λ f. (omega arith, tt);
     }
 

@@ -5,24 +5,22 @@ use mathlib.Core.Path.{_≡_, refl, sym, ap, _∙_}
 use mathlib.Core.Bool.{Bool, true, false, cond, false≢true, _&&_}
 use mathlib.Core.List.{List, _++_}
 use native.Mathlib.Omega.{arith}
-use borrow.Author.Tests.{le-leb, lt-leb, leb-true}
+use borrow.Author.Tests.{le-leb, lt-leb}
 use lib.Dec.{eqb, leb}
 use lib.ListN.{length, getD}
-use Rattle.graph.specs.declared.keys.Keys.{Keys}
 use Rattle.graph.specs.Calls.{Call, add, map, link, unlink, sum, top, pick, near, operandsOf, targetsOf, areWords}
 use Rattle.graph.specs.KeyLists.{areKeys, rising}
 use Rattle.graph.specs.Packed.{listed, packed}
-use Rattle.graph.proofs.KeyLaws.{listed-packed}
 use Rattle.text.specs.Text.{ascii}
 use Rattle.text.proofs.Splits.{Clean, cleanTest, clean-by}
 use Rattle.lines.specs.Forms.{callText, callNumbers}
-use Rattle.lines.specs.Answers.{form, other, callLine, refusedCall, callRead, callAnswer, IsCall, CallRead, callForm, callOf}
+use Rattle.lines.specs.Answers.{form, other, callLine, refusedCall, callRead, callAnswer, CallRead, callForm}
 use Rattle.lines.specs.Reads.{Below, KeysOf, Tailed, Spare, Literals, callWord, callLiterals, callListed, keyOk, CallMade}
 use Rattle.lines.specs.declared.call.CallKind.{CallKind}
 use Rattle.lines.specs.declared.call.CallKind.the-variants.{Add, Map, Link, Unlink, Sum, Top, Pick, Near}
 use Rattle.lines.specs.declared.call.CallLine.{CallLine}
 use Rattle.lines.specs.declared.fields.Fields.{Fields}
-use Rattle.lines.proofs.KeyLists.{and-true, rising-keys, words-below, below-words}
+use Rattle.lines.proofs.KeyLists.{rising-keys, words-below, below-words}
 use Rattle.lines.proofs.Words.{Grammar, textIn, Never, kind-inj, text-inj}
 
 -- ---- the grammar
@@ -255,44 +253,3 @@ module _ (k : CallKind) (f : Fields) (r : CallLine) where
             (λ z y. absurd (false≢true (sym y))) (λ z. absurd (false≢true (sym z)))
 
 -- ---- what an answer with refusal 0 holds
-
--- the limits that a served call keeps
-pub record Served (f : Call) : Type 0 where
-  pub keys : areKeys (operandsOf f ++ targetsOf f) ≡ true
-  pub few : length (targetsOf f) ≤ 8
-  pub sorted : rising (targetsOf f) ≡ true
-  pub answer : callAnswer f ≡ callRead f
-
-served : (f : Call) → areWords (callNumbers f) ≡ true → callAnswer f .refusal ≡ 0 → Served f
-served f w z = go (areKeys (operandsOf f ++ targetsOf f)) (leb (length (targetsOf f)) 8 && rising (targetsOf f)) refl refl
-  where
-    go : (a b : Bool) → areKeys (operandsOf f ++ targetsOf f) ≡ a → leb (length (targetsOf f)) 8 && rising (targetsOf f) ≡ b → Served f
-    go true true ea eb =
-        let p = and-true (leb (length (targetsOf f)) 8) (rising (targetsOf f)) eb in
-        record { keys = ea; few = leb-true (length (targetsOf f)) 8 (p .0); sorted = p .1; answer = tested f true true w ea eb }
-    go true false ea eb = absurd (omega (arith, sym z ∙ ap (λ (q : CallLine). q .refusal) (tested f true false w ea eb)))
-    go false b ea eb = absurd (omega (arith, sym z ∙ ap (λ (q : CallLine). q .refusal) (tested f false b w ea eb)))
-
-targets-of : (f : Call) → callRead f .to ≡ packed (targetsOf f)
-targets-of (add value) = refl
-targets-of (map a b to) = refl
-targets-of (link key to) = refl
-targets-of (unlink key to) = refl
-targets-of (sum start to) = refl
-targets-of (top start to) = refl
-targets-of (pick start to) = refl
-targets-of (near key start to) = refl
-
-pub call-of-read : (f : Call) → callOf (callRead f) ≡ f
-call-of-read f =
-    ap (λ (ks : Keys). callForm (callRead f .kind) (callRead f .x) (callRead f .y) (listed ks)) (targets-of f)
-    ∙ ap (callForm (callRead f .kind) (callRead f .x) (callRead f .y)) (listed-packed (targetsOf f))
-    ∙ call-back f
-
--- the line is the text of the call that the answer holds, and that call keeps its limits
-pub call-served : (line : List ℕ) (r : CallLine) → CallRead line r → r .refusal ≡ 0 → IsCall line (callOf r) × Served (callOf r)
-call-served line r (form f i e) z =
-    let s = served f (i .fits) (ap (λ (q : CallLine). q .refusal) (sym e) ∙ z) in
-    let o : callOf r ≡ f = ap callOf (e ∙ s .answer) ∙ call-of-read f in
-    rw o (i, s)
-call-served line r (other n e) z = absurd (omega (arith, ap (λ (q : CallLine). q .refusal) (sym e) ∙ z))

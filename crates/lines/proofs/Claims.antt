@@ -1,7 +1,7 @@
 -- Claim lines: the form is the label.
 -- Assumes nothing.
 use Prim.Native.Nat.{ℕ, _<_, _≤_, _^_}
-use mathlib.Core.Path.{_≡_, sym, ap, _∙_}
+use mathlib.Core.Path.{_≡_}
 use mathlib.Core.Bool.{true, false}
 use mathlib.Core.List.{List, [], _∷_, _++_}
 use native.Mathlib.Omega.{arith}
@@ -9,7 +9,7 @@ use lib.ListN.{length}
 use Rattle.text.specs.Text.{ascii, decimal}
 use Rattle.text.proofs.Splits.{cancel, same-number}
 use Rattle.lines.specs.Forms.{claimText, claimNumbers}
-use Rattle.lines.specs.Answers.{form, other, claimAnswer, refusedClaim, IsClaim, ClaimRead}
+use Rattle.lines.specs.Answers.{form, other, claimAnswer, refusedClaim, ClaimRead}
 use Rattle.lines.specs.Reads.{FieldsOf}
 use Rattle.lines.proofs.KeyLists.{words-below, below-words}
 use Rattle.lines.specs.declared.claim.ClaimLine.{ClaimLine}
@@ -28,8 +28,3 @@ module _ (line : List ℕ) (f : Fields) (o : FieldsOf (ascii "claim=" ∷ []) fa
 
   pub claim-is : f .ok ≡ true → length line ≤ 255 → f .x < 2 ^ 32 → r ≡ claimAnswer (f .x) → ClaimRead line r
   claim-is e short small q = form (f .x) (record { short = omega arith; fits = below-words (claimNumbers (f .x)) (small, tt); same = o .yes e .2 }) q
-
--- the line is the text of the claim that the answer holds
-pub claim-served : (line : List ℕ) (r : ClaimLine) → ClaimRead line r → r .refusal ≡ 0 → IsClaim line (r .label)
-claim-served line r (form l i e) z = let o : r .label ≡ l = ap (λ (q : ClaimLine). q .label) e in rw o i
-claim-served line r (other n e) z = absurd (omega (arith, ap (λ (q : ClaimLine). q .refusal) (sym e) ∙ z))

@@ -1,8 +1,8 @@
 -- One number more in a list of keys, and a list read number by number.
 -- Assumes nothing.
-use Prim.Native.Nat.{ℕ, suc, _+_, _-_, _<_, _≤_, _^_, min}
+use Prim.Native.Nat.{ℕ, suc, _+_, _<_, _≤_, _^_, min}
 use mathlib.Core.Path.{_≡_, refl, sym, ap, _∙_}
-use mathlib.Core.Bool.{Bool, true, false, false≢true, _&&_}
+use mathlib.Core.Bool.{Bool, true, false, false≢true, _&&_, and-true, and-assoc}
 use mathlib.Core.List.{List, [], _∷_, _++_, append-nil}
 use native.Mathlib.Omega.{arith}
 use native.Mathlib.Numerals.{add-one}
@@ -20,6 +20,7 @@ use Rattle.graph.specs.KeyLists.{isKey, areKeys, above, rising}
 use Rattle.graph.specs.Packed.{packed}
 use Rattle.graph.specs.declared.keys.Keys.{Keys}
 use Rattle.graph.proofs.KeyLaws.{packed-more}
+use Rattle.graph.proofs.Answers.{and-left, and-right}
 use Rattle.lines.specs.Reads.{Outcome, Below, lastOr, KeysOf}
 use Rattle.lines.specs.declared.keylist.KeyList.{KeyList}
 
@@ -31,25 +32,13 @@ outcome-no b e n = record { yes = λ f. absurd (false≢true (sym e ∙ f)); no 
 
 -- ---- one number more
 
-pub and-true : (a b : Bool) → a && b ≡ true → (a ≡ true) × (b ≡ true)
-and-true true b e = (refl, e)
-and-true false b e = absurd (false≢true e)
-
-pub and-end : (a : Bool) → a && true ≡ a
-and-end true = refl
-and-end false = refl
-
-and-assoc : (a b c : Bool) → a && (b && c) ≡ a && b && c
-and-assoc true b c = refl
-and-assoc false b c = refl
-
 areKeys-snoc : (ts : List ℕ) (v : ℕ) → areKeys (ts ++ v ∷ []) ≡ areKeys ts && isKey v
-areKeys-snoc [] v = and-end (isKey v)
-areKeys-snoc (t ∷ ts) v = ap (λ (b : Bool). isKey t && b) (areKeys-snoc ts v) ∙ and-assoc (isKey t) (areKeys ts) (isKey v)
+areKeys-snoc [] v = and-true (isKey v)
+areKeys-snoc (t ∷ ts) v = ap (λ (b : Bool). isKey t && b) (areKeys-snoc ts v) ∙ sym (and-assoc (isKey t) (areKeys ts) (isKey v))
 
 above-snoc : (d : ℕ) (ts : List ℕ) (v : ℕ) → above d (ts ++ v ∷ []) ≡ above d ts && ltb (lastOr d ts) v
-above-snoc d [] v = and-end (ltb d v)
-above-snoc d (t ∷ ts) v = ap (λ (b : Bool). ltb d t && b) (above-snoc t ts v) ∙ and-assoc (ltb d t) (above t ts) (ltb (lastOr t ts) v)
+above-snoc d [] v = and-true (ltb d v)
+above-snoc d (t ∷ ts) v = ap (λ (b : Bool). ltb d t && b) (above-snoc t ts v) ∙ sym (and-assoc (ltb d t) (above t ts) (ltb (lastOr t ts) v))
 
 lastOr-snoc : (d : ℕ) (ts : List ℕ) (v : ℕ) → lastOr d (ts ++ v ∷ []) ≡ v
 lastOr-snoc d [] v = refl
@@ -70,10 +59,10 @@ keys-more ts v k r p en el ek ei es =
       keys = ek ∙ ap (λ (b : Bool). b && isKey v) (p .keys) ∙ sym (areKeys-snoc ts v);
       rising = ei ∙ cc (p .rising, p .last, above-snoc 0 ts v);
       held = λ a l.
-          let ab = and-true (areKeys ts) (isKey v) (sym (areKeys-snoc ts v) ∙ a) in
-          let v64 = leb-true v 64 (and-true (leb 1 v) (leb v 64) (ab .1) .1) in
+          let ab : areKeys ts && isKey v ≡ true = sym (areKeys-snoc ts v) ∙ a in
+          let v64 = leb-true v 64 (and-right (leb 1 v) (leb v 64) (and-right (areKeys ts) (isKey v) ab)) in
           let n : k .count ≡ length ts = omega (arith, p .count) in
-          let h : k .key ≡ packed ts .key = p .held (ab .0) (omega arith) in
+          let h : k .key ≡ packed ts .key = p .held (and-left (areKeys ts) (isKey v) ab) (omega arith) in
           es (omega arith) v64 ∙ cc (ap (λ (q : Keys). q .key) (packed-more ts v (omega arith)));
     }
 
@@ -171,13 +160,13 @@ empty-list (x ∷ xs) e = absurd (omega arith)
 -- keys are at least 1, so a list of them that rises strictly also rises from 0
 pub rising-keys : (ts : List ℕ) → areKeys ts ≡ true → rising ts ≡ above 0 ts
 rising-keys [] e = refl
-rising-keys (t ∷ ts) e = rw (and-true (leb 1 t) (leb t 64) (and-true (isKey t) (areKeys ts) e .0) .0)
+rising-keys (t ∷ ts) e = rw (and-left (leb 1 t) (leb t 64) (and-left (isKey t) (areKeys ts) e))
 
 -- ---- 32-bit numbers, as a test and as facts
 
 pub words-below : (l : List ℕ) → areWords l ≡ true → Below l
 words-below [] e = tt
-words-below (t ∷ ts) e = let p = and-true (ltb t (2 ^ 32)) (areWords ts) e in (ltb-true t (2 ^ 32) (p .0), words-below ts (p .1))
+words-below (t ∷ ts) e = (ltb-true t (2 ^ 32) (and-left (ltb t (2 ^ 32)) (areWords ts) e), words-below ts (and-right (ltb t (2 ^ 32)) (areWords ts) e))
 
 pub below-words : (l : List ℕ) → Below l → areWords l ≡ true
 below-words [] b = refl

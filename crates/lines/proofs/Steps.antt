@@ -2,7 +2,7 @@
 -- Assumes nothing.
 use Prim.Native.Nat.{ℕ, _+_, _<_, _^_}
 use mathlib.Core.Path.{_≡_, refl, sym, ap, _∙_}
-use mathlib.Core.Bool.{Bool, true, false, cond, false≢true}
+use mathlib.Core.Bool.{Bool, true, false, cond, false≢true, and-true}
 use mathlib.Core.List.{List, []}
 use native.Mathlib.Omega.{arith}
 use lib.Dec.{eqb}
@@ -12,13 +12,13 @@ use Rattle.text.specs.Text.{ascii}
 use Rattle.text.proofs.Splits.{Clean, cleanTest, clean-by}
 use Rattle.graph.specs.KeyLists.{isKey, areKeys}
 use Rattle.lines.specs.Forms.{StepForm, work, drain, stepText, stepNumbers, stepKeys}
-use Rattle.lines.specs.Answers.{form, other, stepLine, refusedStep, stepRead, stepAnswer, IsStep, StepRead, stepForm, stepOf}
+use Rattle.lines.specs.Answers.{form, other, stepLine, refusedStep, stepRead, stepAnswer, StepRead, stepForm, stepOf}
 use Rattle.lines.specs.Reads.{Below, Spare, Literals, stepWord, stepLiterals, hasPlace, StepMade}
 use Rattle.lines.specs.declared.step.StepKind.{StepKind}
 use Rattle.lines.specs.declared.step.StepKind.the-variants.{Admit, Realise, Move, Finish, Join, Split, Swap, Fuse, Drain}
 use Rattle.lines.specs.declared.step.StepLine.{StepLine}
 use Rattle.lines.specs.declared.fields.Fields.{Fields}
-use Rattle.lines.proofs.KeyLists.{and-end, words-below, below-words}
+use Rattle.lines.proofs.KeyLists.{words-below, below-words}
 use Rattle.lines.proofs.Words.{Grammar, textIn, Never, kind-inj, text-inj}
 
 -- ---- the grammar
@@ -193,13 +193,13 @@ record Formed (k : StepKind) (x y z : ℕ) : Type 0 where
 
 formed : (k : StepKind) (x y z : ℕ) → Spare (stepLiterals k) x y z → Formed k x y z
 formed Admit x y z s = record { key = λ h. absurd (false≢true h); free = λ h. refl; value = rw (s .0, s .1, s .2) }
-formed Realise x y z s = record { key = λ h. and-end (isKey x); free = λ h. absurd (false≢true (sym h)); value = rw (s .0, s .1) }
-formed Move x y z s = record { key = λ h. and-end (isKey x); free = λ h. absurd (false≢true (sym h)); value = rw (s .0, s .1) }
-formed Finish x y z s = record { key = λ h. and-end (isKey x); free = λ h. absurd (false≢true (sym h)); value = rw (s .0, s .1) }
-formed Join x y z s = record { key = λ h. and-end (isKey x); free = λ h. absurd (false≢true (sym h)); value = rw (s .0) }
-formed Split x y z s = record { key = λ h. and-end (isKey x); free = λ h. absurd (false≢true (sym h)); value = refl }
-formed Swap x y z s = record { key = λ h. and-end (isKey x); free = λ h. absurd (false≢true (sym h)); value = rw (s .0) }
-formed Fuse x y z s = record { key = λ h. and-end (isKey x); free = λ h. absurd (false≢true (sym h)); value = rw (s .0) }
+formed Realise x y z s = record { key = λ h. and-true (isKey x); free = λ h. absurd (false≢true (sym h)); value = rw (s .0, s .1) }
+formed Move x y z s = record { key = λ h. and-true (isKey x); free = λ h. absurd (false≢true (sym h)); value = rw (s .0, s .1) }
+formed Finish x y z s = record { key = λ h. and-true (isKey x); free = λ h. absurd (false≢true (sym h)); value = rw (s .0, s .1) }
+formed Join x y z s = record { key = λ h. and-true (isKey x); free = λ h. absurd (false≢true (sym h)); value = rw (s .0) }
+formed Split x y z s = record { key = λ h. and-true (isKey x); free = λ h. absurd (false≢true (sym h)); value = refl }
+formed Swap x y z s = record { key = λ h. and-true (isKey x); free = λ h. absurd (false≢true (sym h)); value = rw (s .0) }
+formed Fuse x y z s = record { key = λ h. and-true (isKey x); free = λ h. absurd (false≢true (sym h)); value = rw (s .0) }
 formed Drain x y z s = record { key = λ h. absurd (false≢true h); free = λ h. refl; value = rw (s .0, s .1, s .2) }
 
 module _ (k : StepKind) (f : Fields) (r : StepLine) where
@@ -212,17 +212,3 @@ module _ (k : StepKind) (f : Fields) (r : StepLine) where
   made-free h q s =
       let m = formed k (f .x) (f .y) (f .z) s in
       q ∙ sym (tested (stepForm k (f .x) (f .y) (f .z)) true (m .free h) ∙ m .value)
-
--- ---- what an answer with refusal 0 holds
-
--- the line is the text of the step that the answer holds, and its key is one
-pub step-served : (line : List ℕ) (r : StepLine) → StepRead line r → r .refusal ≡ 0 → IsStep line (stepOf r) × (areKeys (stepKeys (stepOf r)) ≡ true)
-step-served line r (form f i e) z = go (areKeys (stepKeys f)) refl
-  where
-    go : (a : Bool) → areKeys (stepKeys f) ≡ a → IsStep line (stepOf r) × (areKeys (stepKeys (stepOf r)) ≡ true)
-    go false ea = let a : stepAnswer f ≡ refusedStep 11 = tested f false ea in absurd (omega (arith, sym z ∙ ap (λ (q : StepLine). q .refusal) (e ∙ a)))
-    go true ea =
-        let a : stepAnswer f ≡ stepRead f = tested f true ea in
-        let o : stepOf r ≡ f = ap stepOf (e ∙ a) ∙ step-back f in
-        rw o (i, ea)
-step-served line r (other n e) z = absurd (omega (arith, ap (λ (q : StepLine). q .refusal) (sym e) ∙ z))

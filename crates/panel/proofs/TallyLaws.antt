@@ -10,6 +10,7 @@ use lib.ListN.{length}
 use borrow.Author.Tests.{ne-eqb}
 use Rattle.graph.specs.Steps.{Step, admit, realise, move, finish, join, split, swap, fuse}
 use Rattle.graph.specs.Runs.{tallyPlace, ofKind, workSteps}
+use Rattle.graph.proofs.Answers.{test-most}
 use Rattle.graph.proofs.Effects.{costs}
 use Rattle.graph.proofs.Drains.{work-cons}
 use Rattle.panel.specs.declared.tally.Tally.{Tally}
@@ -44,15 +45,11 @@ up-rests c n = omega arith
 pub counted-rests : (t : Tally) (ts : List Step) → Rests t → counted t ts ≡ each (λ k c. min (c + ofKind k ts) 4294967295) t
 counted-rests t ts h = counted-kinds t ts ∙ ap (each (λ k c. upBy c (ofKind k ts))) (sym h) ∙ (λ i. each (λ k c. up-rests c (ofKind k ts) i) t)
 
-test-most : (b : Bool) → cond b 1 0 ≤ 1
-test-most true = omega arith
-test-most false = omega arith
-
 kind-most : (k : ℕ) (ts : List Step) → ofKind k ts ≤ length ts
 kind-most k [] = omega arith
 kind-most k (s ∷ ts) = omega (arith, test-most (eqb k (tallyPlace s)), kind-most k ts)
 
-up-from-zero : (n : ℕ) → n ≤ 4294967295 → upBy 0 n ≡ n
+pub up-from-zero : (n : ℕ) → n ≤ 4294967295 → upBy 0 n ≡ n
 up-from-zero n h = omega arith
 
 -- "With one tally, zeros at the start .., each .. number equals its count there"

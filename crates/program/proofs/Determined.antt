@@ -11,6 +11,7 @@ use borrow.Author.Tests.{eqb-true, le-leb, ltb-true}
 use Rattle.graph.specs.Refusals.{Answer, refused, done}
 use Rattle.graph.specs.Sessions.{Session}
 use Rattle.graph.specs.Acceptance.{Claimed, claim as claimOf}
+use Rattle.graph.proofs.Validity.{Fine, claim-fine}
 use Rattle.text.specs.Text.{ascii, pasted}
 use Rattle.lines.specs.Answers.{IsClaim}
 use Rattle.print.specs.Printed.{resultText}
@@ -19,7 +20,7 @@ use Rattle.host.proofs.Determined.{both, claim-forms, call-once, tally-free}
 use Rattle.program.specs.Lines.{begins, told, shown, Line, step, claim, call}
 use Rattle.program.specs.Transcript.{Run, none, next}
 use Rattle.program.proofs.Serving.{take-pasted}
-use Rattle.program.proofs.Rooms.{Fine, claim-fine, result-short}
+use Rattle.program.proofs.Rooms.{result-short}
 
 take-text : (out text : List ℕ) → take (length text) (pasted out 0 text) ≡ text
 take-text out text = let e : length text ≡ 0 + length text = omega arith in ap (λ (k : ℕ). take k (pasted out 0 text)) e ∙ take-pasted out text
@@ -41,7 +42,7 @@ module _ (image : List ℕ) (n : ℕ) (out out′ : List ℕ) where
   refused-same zero = (refl, refl)
   refused-same (suc k) = (refl, refl)
 
-  claim-made : 128 ≤ length out → 128 ≤ length out′ → (s : Session) (l : ℕ) → l < 2 ^ 32 → (a : Answer Claimed) → Fine l a → SameClaim n (claimServed image out s a) (claimServed image out′ s a)
+  claim-made : 128 ≤ length out → 128 ≤ length out′ → (s : Session) (l : ℕ) → l < 2 ^ 32 → (a : Answer Claimed) → Fine l s a → SameClaim n (claimServed image out s a) (claimServed image out′ s a)
   claim-made room room′ s l w (refused k) h = refused-same k
   claim-made room room′ s l w (done c) h =
       let short : length (resultText (c .result)) ≤ 128 = result-short (c .result) (omega (arith, h .0)) (h .1) in

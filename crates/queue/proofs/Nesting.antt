@@ -1,21 +1,23 @@
 -- nest and flat undo one another, and the test of a queue's order says which queues are some session's.
 -- Assumes nothing.
-use mathlib.Core.Path.{_≡_, refl, sym, _∙_, ap, ap₂, subst}
-use Prim.Native.Nat.{ℕ, zero, suc, _+_, _-_, _≤_, _<_}
+use mathlib.Core.Path.{_≡_, refl, sym, _∙_, ap, subst}
+use Prim.Native.Nat.{ℕ, suc, _+_, _≤_, _<_}
 use native.Mathlib.Omega.{arith}
 use native.Mathlib.Nat.{add-zero}
 use mathlib.Core.Bool.{Bool, true, false, cond, not, _&&_, _||_, true≢false}
 use mathlib.Core.List.{List, [], _∷_, _++_, append-assoc, append-nil}
 use lib.Dec.{eqb, leb}
-use lib.ListN.{length, length-append}
+use lib.ListN.{length}
 use borrow.Author.Tests.{ne-eqb, eq-eqb, eqb-true, eqb-false, leb-true, leb-false, le-leb}
 use Rattle.graph.specs.Nodes.{Node, Op, Result}
 use Rattle.graph.specs.OneAtATime.{Labelled, addOf, opOf}
 use Rattle.graph.specs.Sessions.{Station, station, Session}
+use Rattle.graph.specs.Valid.{Each, ValidUnit, ValidStation, KeysFall}
+use Rattle.graph.proofs.Answers.{eqb-same, and-left, and-right, by-bool}
 use Rattle.queue.specs.Flat.{Tagged, Flat, standing, tagUnit, tagUnits, queueOf, nodesOf, waiting, flat, atPlace, Full, Keyed, carried, goesOn, inFront, group, upTo, from, Gathered, gather, calls, nested, nest, isOp, placed, follows, ordered}
-use Rattle.queue.proofs.Places.{No, no-append, no-units, no-waits, length-nodes, eqb-same, and-left, and-right, by-bool}
+use Rattle.queue.proofs.Places.{No, no-append, no-units, no-waits, length-nodes}
 
-abbrev flatSession : List Node → List Tagged → List Result → ℕ → Flat
+abbrev pub flatSession : List Node → List Tagged → List Result → ℕ → Flat
 flatSession ns q rs l = record { nodes = ns; queue = q; results = rs; last = l }
 
 -- WELL-FORMED: a queue of n stations from station k on; b: after an operation of station k
@@ -33,6 +35,16 @@ pub record Formed (f : Flat) : Type 0 where
   pub room : length (f .nodes) ≤ 64
   pub keys : KeysUp 1 (f .nodes)
   pub line : Line (length (f .nodes)) false 1 (f .queue)
+
+-- a valid session's stations have keys and units, as a flat view needs
+full-units : (us : List (List Op)) → Each ValidUnit us → Full us
+full-units [] g = tt
+full-units ([] ∷ us) g = absurd (omega (arith, g .0 .some))
+full-units ((o ∷ os) ∷ us) g = (refl, full-units us (g .1))
+
+pub keyed-stations : (ss : List Station) → KeysFall ss → Each ValidStation ss → Keyed ss
+keyed-stations [] f g = tt
+keyed-stations (s ∷ ss) f g = (f .0, (full-units (s .units) (g .0 .units), keyed-stations ss (f .1) (g .1)))
 
 -- NEST OF FLAT
 group-ops : (k : ℕ) (b : Bool) (o : Op) (os : List Op) (r : List Tagged) → goesOn r ≡ false → group (standing k b o ∷ (tagUnit k false os ++ r)) ≡ (o ∷ os) ∷ group r

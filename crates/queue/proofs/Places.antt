@@ -4,32 +4,17 @@ use mathlib.Core.Path.{_≡_, refl, sym, _∙_, ap}
 use Prim.Native.Nat.{ℕ, zero, suc, _+_, _≤_, _<_}
 use native.Mathlib.Nat.{zero-add, add-zero, suc-add}
 use native.Mathlib.Omega.{arith}
-use mathlib.Core.Bool.{Bool, true, false, cond, not, _&&_, _||_, true≢false}
+use mathlib.Core.Bool.{Bool, true, false, cond, not, _||_, true≢false}
 use mathlib.Core.List.{List, [], _∷_, _++_, append-assoc}
 use lib.Dec.{eqb}
 use lib.ListN.{length, take, drop, length-append}
 use lib.Seq.{slice, take-append-seam, drop-append-seam}
-use borrow.Author.Tests.{ne-eqb, eq-eqb}
-use Rattle.graph.specs.Nodes.{Node, Op}
-use Rattle.graph.specs.OneAtATime.{Labelled, addOf, opOf}
-use Rattle.graph.specs.Sessions.{Station, station, Session}
-use Rattle.queue.specs.Flat.{Tagged, Flat, standing, tagUnit, tagUnits, queueOf, nodesOf, waiting, find, here, atPlace, breaks, isAt, endOf, Full, Keyed}
-
--- TESTS
-pub by-bool : {X : Type 0} (b : Bool) → (b ≡ true → X) → (b ≡ false → X) → X
-by-bool true f g = f refl
-by-bool false f g = g refl
-
-pub and-left : (a b : Bool) → (a && b) ≡ true → a ≡ true
-and-left true b e = refl
-and-left false b e = e
-
-pub and-right : (a b : Bool) → (a && b) ≡ true → b ≡ true
-and-right true b e = e
-and-right false b e = absurd (true≢false (sym e))
-
-pub eqb-same : (k : ℕ) → eqb k k ≡ true
-eqb-same k = eq-eqb k k refl
+use borrow.Author.Tests.{ne-eqb}
+use Rattle.graph.specs.Nodes.{Op}
+use Rattle.graph.specs.OneAtATime.{Labelled}
+use Rattle.graph.specs.Sessions.{Station}
+use Rattle.graph.proofs.Answers.{eqb-same}
+use Rattle.queue.specs.Flat.{Tagged, standing, tagUnit, tagUnits, queueOf, nodesOf, waiting, find, here, atPlace, breaks, isAt, endOf, Full, Keyed}
 
 -- LISTS
 abbrev pub No : {A : Type 0} → (A → Bool) → List A → Type 0
@@ -51,6 +36,14 @@ module _ {A : Type 0} where
 
   pub find-at : (p : A → Bool) (a : List A) (x : A) (b : List A) → No p a → p x ≡ true → find p (a ++ (x ∷ b)) ≡ length a
   find-at p a x b h e = find-no p a (x ∷ b) h ∙ rw e (add-zero _)
+
+  pub find-within : (p : A → Bool) (a : List A) → find p a ≤ length a
+  find-within p [] = omega arith
+  find-within p (x ∷ xs) = go (p x) (find-within p xs)
+    where
+      go : (b : Bool) {n m : ℕ} → n ≤ m → cond b zero (suc n) ≤ suc m
+      go true h = omega arith
+      go false h = omega arith
 
   pub drop-past : (a : List A) (x : A) (b : List A) → drop (suc (length a)) (a ++ (x ∷ b)) ≡ b
   drop-past [] x b = refl

@@ -1,7 +1,7 @@
 -- Demand 3 of lines and images: one theorem, from the session's own.
 -- Assumes nothing.
 use mathlib.Core.Path.{_≡_, refl, sym, ap, subst, _∙_}
-use Prim.Native.Nat.{ℕ, zero, suc, _+_, _*_, _≤_, _-_}
+use Prim.Native.Nat.{ℕ, zero, suc, _+_, _*_, _≤_}
 use native.Mathlib.Omega.{arith}
 use mathlib.Core.Bool.{Bool, true, false, cond, _||_, true≢false}
 use mathlib.Core.List.{List, [], _∷_, _++_, append-assoc}
@@ -33,7 +33,7 @@ use Rattle.lines.specs.Forms.{work, stepText}
 use Rattle.lines.specs.Answers.{IsClaim}
 use Rattle.panel.specs.declared.tally.Tally.{Tally}
 use Rattle.panel.specs.Tally.{upBy, each, counted, zeros}
-use Rattle.panel.proofs.TallyLaws.{counted-kinds}
+use Rattle.panel.proofs.TallyLaws.{counted-kinds, up-from-zero}
 use Rattle.valid.specs.Values.{encode}
 use Rattle.host.specs.Entries.{ImageOf, Steps}
 use Rattle.runs.specs.Runs.{Sent, step, claim, Runs, opening, after, acceptedLines, TextsOf, noLine, aLine, Pending, Wrote, ClaimedIn, here, there, WouldWrite, OneTally, lastTally}
@@ -91,9 +91,6 @@ module _ (meant : List Result) (all : List Result) (right : (pre post : List Res
 done-of : (x : Answer Session) → isDone x ≡ true → (B : Type 0) → ((u : Session) → x ≡ done u → B) → B
 done-of (refused n) e B f = absurd (true≢false (sym e))
 done-of (done u) e B f = f u refl
-
-up-exact : (n : ℕ) → n ≤ 4294967295 → upBy 0 n ≡ n
-up-exact n h = omega arith
 
 -- ONE THEOREM
 module _ (es : List Sent) (h : Runs opening es) where
@@ -198,10 +195,10 @@ module _ (es : List Sent) (h : Runs opening es) where
         taken = to .took;
         bound = few;
         tally = λ o. (
-          ap (λ (t : Tally). t .admit) (tallied o) ∙ up-exact (ofKind 0 (to .steps)) (omega (arith, small)),
-          ap (λ (t : Tally). t .realise) (tallied o) ∙ up-exact (ofKind 1 (to .steps)) (omega (arith, small)),
-          ap (λ (t : Tally). t .«move_on») (tallied o) ∙ up-exact (ofKind 2 (to .steps)) (omega (arith, small)),
-          ap (λ (t : Tally). t .finish) (tallied o) ∙ up-exact (ofKind 3 (to .steps)) (omega (arith, small)),
+          ap (λ (t : Tally). t .admit) (tallied o) ∙ up-from-zero (ofKind 0 (to .steps)) (omega (arith, small)),
+          ap (λ (t : Tally). t .realise) (tallied o) ∙ up-from-zero (ofKind 1 (to .steps)) (omega (arith, small)),
+          ap (λ (t : Tally). t .«move_on») (tallied o) ∙ up-from-zero (ofKind 2 (to .steps)) (omega (arith, small)),
+          ap (λ (t : Tally). t .finish) (tallied o) ∙ up-from-zero (ofKind 3 (to .steps)) (omega (arith, small)),
         );
         drained = one-by-one;
       }

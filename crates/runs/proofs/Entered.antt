@@ -1,24 +1,22 @@
 -- What a function of the host does with the image of a valid session: it refuses the line, or serves its form.
 -- Assumes nothing.
-use mathlib.Core.Path.{_≡_, refl, sym, ap, _∙_}
+use mathlib.Core.Path.{_≡_, refl, sym, ap, _∙_, subst}
 use Prim.Native.Nat.{ℕ, zero, suc, _≤_}
 use native.Mathlib.Omega.{arith}
-use mathlib.Core.Bool.{Bool, true, false, not, cond, true≢false, _&&_}
+use mathlib.Core.Bool.{Bool, true, false, not, cond}
 use mathlib.Core.List.{List, [], _∷_}
-use lib.Dec.{eqb, leb}
+use lib.Dec.{leb}
 use lib.ListN.{length}
-use borrow.Author.Tests.{eqb-true}
-use Rattle.graph.specs.Refusals.{Answer, refused, done, mapDone, numberOf as codeOf}
-use Rattle.graph.specs.KeyLists.{contains, areKeys}
+use Rattle.graph.specs.Refusals.{Answer, refused, done}
+use Rattle.graph.specs.KeyLists.{areKeys}
 use Rattle.graph.specs.Calls.{Call}
-use Rattle.graph.specs.Nodes.{Result}
-use Rattle.graph.specs.Sessions.{Session, pending}
+use Rattle.graph.specs.Sessions.{Session}
 use Rattle.graph.specs.Steps.{Step, step}
-use Rattle.graph.specs.Acceptance.{accept, callTests, accepted, Claimed, takeResult, claim, keeping}
+use Rattle.graph.specs.Acceptance.{accept, callTests, accepted, Claimed, claim, keeping}
 use Rattle.graph.specs.Drain.{drain}
 use Rattle.graph.specs.Runs.{andThen}
 use Rattle.graph.specs.Valid.{Valid}
-use Rattle.graph.proofs.Answers.{isDone}
+use Rattle.graph.proofs.Validity.{Fine, claim-fine}
 use Rattle.lines.specs.Forms.{StepForm, work, drain as drains, stepKeys}
 use Rattle.lines.specs.Answers.{IsCall, IsStep, IsClaim}
 use Rattle.print.specs.Printed.{resultText}
@@ -97,26 +95,6 @@ step-next s v line t r h = go (entered s v h)
     go (aForm f i e) = form f i e
 
 -- CLAIMS
-mapped-refused : {A B : Type 0} {n : ℕ} (f : A → B) (x : Answer A) → mapDone f x ≡ refused n → x ≡ refused n
-mapped-refused f (refused m) e = ap refused (ap codeOf e)
-mapped-refused f (done c) e = absurd (true≢false (ap isDone e))
-
-pub take-refused : (l : ℕ) (rs : List Result) {n : ℕ} → takeResult l rs ≡ refused n → n ≡ 32
-take-refused l [] e = sym (ap codeOf e)
-take-refused l (r ∷ rs) {n} e = first (eqb (r .label) l) (record { result = r; others = rs }) (λ c. record { result = c .result; others = r ∷ c .others }) (takeResult l rs) (take-refused l rs) e
-  where
-    first : (b : Bool) (c : Claimed) (f : Claimed → Claimed) (x : Answer Claimed) → (x ≡ refused n → n ≡ 32) → cond b (done c) (mapDone f x) ≡ refused n → n ≡ 32
-    first true c f x g e = absurd (true≢false (ap isDone e))
-    first false c f x g e = g (mapped-refused f x e)
-
-pub claim-number : (l : ℕ) (s : Session) {n : ℕ} → claim l s ≡ refused n → 1 ≤ n
-claim-number l s {n} e = go (leb 1 l && leb l (s .last)) (contains l (pending s)) (takeResult l (s .results)) (take-refused l (s .results)) e
-  where
-    go : (a b : Bool) (x : Answer Claimed) → (x ≡ refused n → n ≡ 32) → cond a (cond b (refused 31) x) (refused 30) ≡ refused n → 1 ≤ n
-    go true true x g e = let same : 31 ≡ n = ap codeOf e in omega arith
-    go true false x g e = omega (arith, g e)
-    go false b x g e = let same : 30 ≡ n = ap codeOf e in omega arith
-
 pub data ClaimNext (s : Session) (line out : List ℕ) (r : ClaimMade) : Type 0 where
   claimRefuses : isServed (r .answer) ≡ false → r .image ≡ encode s → ClaimNext s line out r
   gives : (l : ℕ) (c : Claimed) → IsClaim line l → claim l s ≡ done c → r .image ≡ encode (keeping s (c .others)) → Wrote out (c .result) r → ClaimNext s line out r
@@ -133,37 +111,9 @@ claim-next s v line out r h = go (entered s v h)
     room l c i q false e = below 33 (omega arith) e
 
     form : (l : ℕ) → IsClaim line l → (x : Answer Claimed) → claim l s ≡ x → r ≡ claimServed (encode s) out s x → ClaimNext s line out r
-    form l i (refused n) q e = below n (claim-number l s q) e
+    form l i (refused n) q e = below n (subst (Fine l s) q (claim-fine l s v) .0) e
     form l i (done c) q e = room l c i q (leb (length (resultText (c .result))) (length out)) e
 
     go : Entered (IsClaim line) (claimRefused (encode s) out) (λ u l. claimServed (encode s) out u (claim l u)) s r → ClaimNext s line out r
     go (noForm h e) = below 10 (omega arith) e
     go (aForm l i e) = form l i (claim l s) refl e
-
--- what is taken has the label
-abbrev labelIn : ℕ → Answer Claimed → ℕ
-labelIn l (refused n) = l
-labelIn l (done d) = d .result .label
-
-abbrev behindFirst : Result → Claimed → Claimed
-behindFirst r d = record { result = d .result; others = r ∷ d .others }
-
-pub taken-label : (l : ℕ) (rs : List Result) {c : Claimed} → takeResult l rs ≡ done c → c .result .label ≡ l
-taken-label l [] e = absurd (true≢false (sym (ap isDone e)))
-taken-label l (r ∷ rs) {c} e = first (eqb (r .label) l) refl (takeResult l rs) (λ d q. taken-label l rs {c = d} q) e
-  where
-    mapped : (x : Answer Claimed) → ((d : Claimed) → x ≡ done d → d .result .label ≡ l) → mapDone (behindFirst r) x ≡ done c → c .result .label ≡ l
-    mapped (refused n) g e = absurd (true≢false (sym (ap isDone e)))
-    mapped (done d) g e = sym (ap (labelIn l) e) ∙ g d refl
-
-    first : (b : Bool) → eqb (r .label) l ≡ b → (x : Answer Claimed) → ((d : Claimed) → x ≡ done d → d .result .label ≡ l) → cond b (done (record { result = r; others = rs })) (mapDone (behindFirst r) x) ≡ done c → c .result .label ≡ l
-    first true q x g e = sym (ap (labelIn l) e) ∙ eqb-true (r .label) l q
-    first false q x g e = mapped x g e
-
-pub claimed-label : (l : ℕ) (s : Session) {c : Claimed} → claim l s ≡ done c → c .result .label ≡ l
-claimed-label l s {c} e = go (leb 1 l && leb l (s .last)) (contains l (pending s)) e
-  where
-    go : (a b : Bool) → cond a (cond b (refused 31) (takeResult l (s .results))) (refused 30) ≡ done c → c .result .label ≡ l
-    go true true e = absurd (true≢false (sym (ap isDone e)))
-    go true false e = taken-label l (s .results) e
-    go false b e = absurd (true≢false (sym (ap isDone e)))

@@ -18,7 +18,7 @@ use Rattle.graph.specs.Valid.{Valid}
 use Rattle.graph.specs.Runs.{Event, calls, steps, drains, claims, Run, event, events}
 use Rattle.graph.specs.Runs as graphRuns
 use Rattle.graph.proofs.Answers.{Holds, holds-at}
-use Rattle.graph.proofs.Validity.{ValidClaim, step-valid, accept-valid, claim-valid}
+use Rattle.graph.proofs.Validity.{ValidClaim, step-valid, accept-valid, claim-valid, Fine, claim-fine}
 use Rattle.graph.proofs.Drains.{done-holds, drain-drains}
 use Rattle.lines.specs.Answers.{IsCall, IsClaim}
 use Rattle.panel.specs.declared.tally.Tally.{Tally}
@@ -27,7 +27,7 @@ use Rattle.panel.proofs.TallyLaws.{counted-append}
 use Rattle.valid.specs.Values.{encode}
 use Rattle.host.specs.Entries.{Called, Stepped, ClaimMade}
 use Rattle.runs.specs.Runs.{Sent, call, step, claim, Runs, after, isServed, acceptedLines, labelsGiven, labelsFrom, TextsOf, noLine, aLine, Wrote, Took, one, several, Taken, nothingSent, afterCall, afterClaim, afterRefusal, afterStep, OneTally, lastTally}
-use Rattle.runs.proofs.Entered.{own, CallNext, StepNext, ClaimNext, call-next, step-next, claim-next, callRefuses, accepts, stepRefuses, takes, drained, claimRefuses, gives, claimed-label}
+use Rattle.runs.proofs.Entered.{own, CallNext, StepNext, ClaimNext, call-next, step-next, claim-next, callRefuses, accepts, stepRefuses, takes, drained, claimRefuses, gives}
 
 -- the results that the served claims of a list wrote, in order
 pub data Gave : List Sent → List Result → Type 0 where
@@ -251,7 +251,7 @@ module _ (x : Run) (v : Valid (x .now)) (es : List Sent) (ih : Onward es) where
   on-claim : (line out : List ℕ) (r : ClaimMade) → ClaimNext (x .now) line out r → Runs (r .image) es → Reached x (claim line out r ∷ es)
   on-claim line out r (claimRefuses below same) h = claim-refused x line out r es below same (ih x v (subst (λ (b : List ℕ). Runs b es) same h))
   on-claim line out r (gives l c i did same w) h =
-      claim-served x line out r es l c (subst (IsClaim line) (sym (claimed-label l (x .now) did)) i) did same w
+      claim-served x line out r es l c (subst (IsClaim line) (sym (subst (Fine l (x .now)) did (claim-fine l (x .now) v) .0)) i) did same w
       (ih _ (holds-at (subst (λ (a : Answer Claimed). Holds (ValidClaim (x .now)) a) did (claim-valid l (x .now) v)) .valid) (subst (λ (b : List ℕ). Runs b es) same h))
 
 pub reached : (x : Run) → Valid (x .now) → (es : List Sent) → Runs (encode (x .now)) es → Reached x es

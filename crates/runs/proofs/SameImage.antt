@@ -1,10 +1,10 @@
 -- Two lists that also claimed the same labels leave images that are equal byte for byte: their sessions are equal.
 -- Assumes nothing.
 use mathlib.Core.Path.{_≡_, refl, sym, ap, subst, _∙_}
-use Prim.Native.Nat.{ℕ, _+_, _≤_, _<_}
+use Prim.Native.Nat.{ℕ, _≤_, _<_}
 use native.Mathlib.Omega.{arith}
 use mathlib.Core.Bool.{Bool, true, false, cond, true≢false}
-use mathlib.Core.List.{List, [], _∷_, _++_}
+use mathlib.Core.List.{List, [], _∷_}
 use mathlib.Core.Option.{none, some}
 use lib.Dec.{eqb, ltb}
 use lib.ListN.{length}
@@ -19,7 +19,7 @@ use Rattle.graph.specs.Runs.{find}
 use Rattle.graph.specs.Valid.{Each, Given, count}
 use Rattle.graph.proofs.Answers.{and-left, and-right}
 use Rattle.graph.proofs.Drains.{Resting, no-units, pending-resting}
-use Rattle.graph.proofs.Limits.{rising-above}
+use Rattle.graph.proofs.Limits.{rising-above, each-right}
 use Rattle.graph.proofs.Demand3.{label-once}
 use Rattle.graph.proofs.Labels.{is, total-append, total-is}
 use Rattle.valid.specs.Values.{encode}
@@ -164,11 +164,7 @@ module _ (es : List Sent) (h : Runs opening es) where
   not-both l q p e f = omega (arith, counted l q (s .results) e, counted l p (main.x es h .claimed) f, results-live l, label-once (main.to es h .made) l)
 
   results-given : Each (Given (s .last)) (labelsOfResults (s .results))
-  results-given = each-right (pending s) (labelsOfResults (s .results)) (main.v es h .given)
-    where
-      each-right : (xs ys : List ℕ) → Each (Given (s .last)) (xs ++ ys) → Each (Given (s .last)) ys
-      each-right [] ys g = g
-      each-right (x ∷ xs) ys g = each-right xs ys (g .1)
+  results-given = each-right (Given (s .last)) (pending s) (labelsOfResults (s .results)) (main.v es h .given)
 
   module _ (np : NonePending es) where
     idle : (l : ℕ) → contains l (pending s) ≡ false

@@ -11,7 +11,7 @@ use lib.Dec.{eqb, leb}
 use lib.IntN.{pos}
 use lib.ListN.{length, length-append}
 use borrow.Author.Tests.{lt-ltb, le-leb, eqb-true}
-use Rattle.graph.specs.Refusals.{Answer, refused, done, mapDone, numberOf as codeOf, unless}
+use Rattle.graph.specs.Refusals.{Answer, refused, done, mapDone, unless}
 use Rattle.graph.specs.KeyLists.{areKeys, contains}
 use Rattle.graph.specs.Calls.{areWords}
 use Rattle.graph.specs.Nodes.{Result}
@@ -22,7 +22,7 @@ use Rattle.graph.specs.Runs.{workSteps, andThen, stepAll, find}
 use Rattle.graph.specs.Valid.{KeysFall, Valid}
 use Rattle.graph.proofs.Answers.{isDone, isDone-map, and-both}
 use Rattle.graph.proofs.Effects.{costs}
-use Rattle.graph.proofs.Validity.{step-valid}
+use Rattle.graph.proofs.Validity.{step-valid, Fine, claim-fine}
 use Rattle.graph.proofs.Drains.{done-holds, work-cons}
 use Rattle.text.specs.Text.{ascii, decimal, pasted}
 use Rattle.text.proofs.Decimals.{len-ten}
@@ -38,7 +38,7 @@ use Rattle.valid.specs.Values.{encode}
 use Rattle.host.specs.Entries.{served, ClaimMade, claimRefused, claimWritten, claimServed, stepServed, Steps}
 use Rattle.runs.specs.Runs.{isServed, Pending, Wrote, WouldWrite}
 use Rattle.runs.specs.Demand.{StepLines, ended, stepped}
-use Rattle.runs.proofs.Entered.{own, Entered, noForm, aForm, entered, take-refused}
+use Rattle.runs.proofs.Entered.{own, Entered, noForm, aForm, entered}
 
 refusal-of : (n : ℕ) → refusalIn (numberOf (Refused n)) ≡ n
 refusal-of zero = refl
@@ -164,12 +164,7 @@ module _ (s : Session) (v : Valid s) (l : ℕ) where
       served s (own s v) l (claim-form l (omega (arith, v .labels))) (sym (ap (claimServed (encode s) out s) is))
 
   refused-31 : claim l s ≡ refused 31 → contains l (pending s) ≡ true
-  refused-31 e = go (leb 1 l && leb l (s .last)) (contains l (pending s)) e
-    where
-      go : (a b : Bool) → cond a (cond b (refused 31) (takeResult l (s .results))) (refused 30) ≡ refused 31 → b ≡ true
-      go true true e = refl
-      go true false e = let unlike : _≡_ {A = ℕ} 31 32 = take-refused l (s .results) e in absurd (omega arith)
-      go false b e = let unlike : _≡_ {A = ℕ} 30 31 = ap codeOf e in absurd (omega arith)
+  refused-31 e = subst (Fine l s) e (claim-fine l s v) .1 refl
 
   pub pending-only : Pending (encode s) l → contains l (pending s) ≡ true
   pending-only h = go (entered s v (h []))

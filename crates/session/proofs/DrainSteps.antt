@@ -1,11 +1,11 @@
 -- The step that drain takes on a live image, by what begins the queue.
 -- Assumes nothing.
 use mathlib.Core.Path.{_≡_, refl, sym, _∙_, ap, subst}
-use Prim.Native.Nat.{ℕ, suc, _+_, _-_, _≤_, _<_}
+use Prim.Native.Nat.{ℕ, _-_, _≤_, _<_}
 use native.Mathlib.Omega.{arith}
-use mathlib.Core.Bool.{Bool, true, false, cond, _&&_, true≢false}
-use mathlib.Core.List.{List, [], _∷_, _++_}
-use lib.Dec.{eqb, leb}
+use mathlib.Core.Bool.{Bool, true, false, true≢false}
+use mathlib.Core.List.{List, [], _∷_}
+use lib.Dec.{eqb}
 use lib.ListN.{length, getD, drop}
 use lib.Seq.{drop-cons}
 use borrow.Author.Tests.{le-leb}
@@ -17,16 +17,15 @@ use Rattle.graph.specs.Steps.{admit, realise, move, finish}
 use Rattle.graph.specs.Valid.{Each, KeysFall, Valid}
 use Rattle.graph.specs.Runs.{tallyPlace}
 use Rattle.graph.proofs.Answers.{eqb-same}
-use Rattle.graph.proofs.Limits.{each-append}
-use Rattle.queue.specs.Flat.{Tagged, Flat, tagUnit, tagUnits, queueOf, waiting, flat, nest, find, atPlace, endOf}
+use Rattle.graph.proofs.Limits.{each-append, each-at}
+use Rattle.queue.specs.Flat.{Tagged, Flat, tagUnit, tagUnits, queueOf, waiting, flat, nest, endOf}
 use Rattle.queue.proofs.Places.{length-nodes}
 use Rattle.worksteps.specs.FlatSteps.{mapFrom, firstIn, noOp, noNode, moveTo, withQueue, hitsKey, actAt, finishesAt, finishPlace, admitCall, known, flatStep}
 use Rattle.worksteps.specs.FlatEvents.{FlatTaken, flatDrainStep}
-use Rattle.worksteps.proofs.Facts.{each-at}
 use Rattle.state.specs.State.{held, Shows}
 use Rattle.live.specs.Live.{Live, Leaves, Works}
 use Rattle.headsteps.specs.Heads.{Head}
-use Rattle.session.specs.DrainStep.{Begins, placeTaken, LeavesTaken, DrainsOne}
+use Rattle.session.specs.DrainStep.{Begins, DrainsOne}
 use Rattle.session.proofs.Draining.{taken, drain-empty, drain-admits, admits-first, drain-realises, drain-finishes, drain-moves}
 
 -- ANSWERS
@@ -61,8 +60,8 @@ stands-waiting n (c ∷ cs) = (record { known = λ e. absurd (true≢false e) },
 stands-at : (s : Session) → Valid s → (i : ℕ) → i < length (flat s .queue) → Stands (length (flat s .nodes)) (getD (flat s .queue) i noOp)
 stands-at s g i h =
     let n = length (flat s .nodes) in
-    each-at (Stands n) (flat s .queue) i noOp h
-    (each-append (Stands n) (queueOf (s .stations)) (waiting (s .topStream)) (stands-queue n (s .stations) (g .falling) (omega (arith, length-nodes (s .stations)))) (stands-waiting n (s .topStream)))
+    each-at (Stands n) (flat s .queue) noOp
+    (each-append (Stands n) (queueOf (s .stations)) (waiting (s .topStream)) (stands-queue n (s .stations) (g .falling) (omega (arith, length-nodes (s .stations)))) (stands-waiting n (s .topStream))) i h
 
 module _ (image : List ℕ) (l : Live image) (k : ℕ) (b : Begins image k) where
   abbrev f : Flat

@@ -3,7 +3,7 @@
 use mathlib.Core.Path.{_≡_, refl, sym, ap, _∙_}
 use Prim.Native.Nat.{ℕ, zero, suc, _+_, _≤_, _<_}
 use native.Mathlib.Omega.{arith}
-use mathlib.Core.List.{List, [], _∷_, _++_, map}
+use mathlib.Core.List.{List, [], _∷_, _++_, map, map-append}
 use lib.ListN.{length, getD, set, take, drop, length-map}
 use Rattle.graph.specs.Nodes.{Node, Result}
 use Rattle.queue.specs.Flat.{Tagged}
@@ -18,10 +18,6 @@ use Rattle.state.specs.State.{held, Proper, Shows, withNodes, withResult
 
 -- LISTS
 module _ {A B : Type 0} (f : A → B) where
-  map-append : (xs ys : List A) → map f (xs ++ ys) ≡ map f xs ++ map f ys
-  map-append [] ys = refl
-  map-append (x ∷ xs) ys = ap (λ (l : List B). f x ∷ l) (map-append xs ys)
-
   map-take : (n : ℕ) (xs : List A) → map f (take n xs) ≡ take n (map f xs)
   map-take zero xs = refl
   map-take (suc n) [] = refl
@@ -38,10 +34,10 @@ module _ {A B : Type 0} (f : A → B) where
   map-set (y ∷ ys) (suc i) x = ap (λ (l : List B). f y ∷ l) (map-set ys i x)
 
   map-remove : (xs : List A) (p : ℕ) → map f (removeAt p xs) ≡ removeAt p (map f xs)
-  map-remove xs p = map-append (take p xs) (drop (p + 1) xs) ∙ (λ i. map-take p xs i ++ map-drop (p + 1) xs i)
+  map-remove xs p = map-append f (take p xs) (drop (p + 1) xs) ∙ (λ i. map-take p xs i ++ map-drop (p + 1) xs i)
 
   map-insert : (xs : List A) (p : ℕ) (x : A) → map f (insertAt p x xs) ≡ insertAt p (f x) (map f xs)
-  map-insert xs p x = map-append (take p xs) (x ∷ drop p xs) ∙ (λ i. map-take p xs i ++ (f x ∷ map-drop p xs i))
+  map-insert xs p x = map-append f (take p xs) (x ∷ drop p xs) ∙ (λ i. map-take p xs i ++ (f x ∷ map-drop p xs i))
 
   -- an element in the list does not depend on what stands for one outside
   pub getD-of : (xs : List A) (i : ℕ) (d : A) (e : B) → i < length xs → getD (map f xs) i e ≡ f (getD xs i d)

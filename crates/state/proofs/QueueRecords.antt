@@ -14,12 +14,13 @@ use Rattle.graph.specs.declared.act.Act.{Act}
 use Rattle.graph.specs.declared.act.Act.the-variants.{Map, Link, Unlink, Sum, Top, Pick, Near}
 use Rattle.graph.specs.declared.keys.Keys.{Keys}
 use Rattle.graph.proofs.KeyLaws.{listed-packed, normal}
+use Rattle.graph.proofs.Answers.{by-bool}
 use Rattle.queue.specs.Flat.{Tagged, isOp}
-use Rattle.queue.proofs.Places.{by-bool}
 use Rattle.worksteps.specs.FlatSteps.{moveTo, openAs, opIn}
 use Rattle.records.specs.declared.labels.Labels.{Labels}
 use Rattle.records.specs.declared.op.OpRecord.{OpRecord}
 use Rattle.valid.specs.Values.{Fields, actOf, heldOf, fieldsOf, callOf, taggedOf, callRecord, taggedRecord, labelsOf}
+use Rattle.valid.proofs.Decoding.{flag-kept}
 use Rattle.state.specs.declared.operation.Operation.{Operation}
 use Rattle.state.specs.Operations.{opValue, Normal, Carries, Lists, Reads}
 
@@ -87,11 +88,6 @@ call-of Sum h p opens ts ls e = refl
 call-of Top h p opens ts ls e = refl
 call-of Pick h p opens ts ls e = refl
 call-of (Near k) h p opens ts ls e = refl
-
-flag-kept : (n : ℕ) → n ≤ 1 → cond (eqb n 1) 1 0 ≡ n
-flag-kept zero h = refl
-flag-kept (suc zero) h = refl
-flag-kept (suc (suc n)) h = absurd (omega arith)
 
 pub reads : (x : Tagged) (r : OpRecord) → x ≡ taggedOf r → taggedRecord x ≡ r → Reads x r
 reads x r e f = record { is = e; clean = ap taggedRecord (sym e) ∙ f }

@@ -1,7 +1,7 @@
 -- The results that an image holds: by index, by label, and one more at its place.
 -- Assumes nothing.
 use mathlib.Core.Path.{_≡_, refl, sym, ap, _∙_}
-use Prim.Native.Nat.{ℕ, zero, suc, _+_, _≤_, _<_}
+use Prim.Native.Nat.{ℕ, zero, suc, _+_, _<_}
 use native.Mathlib.Numerals.{add-one}
 use native.Mathlib.Omega.{arith}
 use mathlib.Core.Bool.{Bool, true, false, cond}
@@ -25,15 +25,6 @@ use Rattle.valid.specs.Values.{labelsOf, packedLabels, resultOf, resultRecord}
 use Rattle.state.specs.State.{held, Proper, Shows, withResults}
 use Rattle.state.specs.Results.{IsOutcome, noResult, resultWith, hasLabel, placeOf, takenAt}
 use Rattle.state.proofs.Holding.{ResultsStand, stands-length, stands-at, clean-at, stands-insert, stands-remove, results-stand, results-shown}
-
-module _ {A : Type 0} (p : A → Bool) where
-  pub find-within : (l : List A) → find p l ≤ length l
-  find-within [] = omega arith
-  find-within (x ∷ xs) = go (p x) (find-within xs)
-    where
-      go : (b : Bool) {n m : ℕ} → n ≤ m → cond b zero (suc n) ≤ suc m
-      go true h = omega arith
-      go false h = omega arith
 
 -- BY LABEL
 pub insert-place : (r : Result) (rs : List Result) → insertAt (placeOf (r .label) rs) r rs ≡ insert r rs

@@ -9,12 +9,11 @@ use lib.Dec.{eqb, ltb}
 use lib.ListN.{length, getD, drop, length-drop}
 use borrow.Author.Tests.{ltb-true, ltb-false, eq-eqb, ne-eqb}
 use Rattle.graph.specs.Refusals.{Answer, refused, done, mapDone}
-use Rattle.graph.proofs.Answers.{Holds, refuses, holds, holds-cond, holds-at}
+use Rattle.graph.proofs.Answers.{Holds, refuses, holds, holds-cond, holds-at, by-bool}
 use Rattle.queue.specs.Flat.{Tagged, Flat, find, breaks, atPlace, isAt, endOf}
-use Rattle.queue.proofs.Places.{by-bool}
+use Rattle.queue.proofs.Places.{find-within}
 use Rattle.worksteps.specs.FlatSteps.{noOp, unitStart, unitFrom, withNext, neighbours, onQueue, atKey, withQueue, known}
 use Rattle.worksteps.proofs.Facts.{here-past}
-use Rattle.state.proofs.ResultLaws.{find-within}
 use Rattle.unitsteps.specs.declared.units.Spot.{Spot}
 use Rattle.unitsteps.specs.Numbered.{andThen, Span, locate, alone, locateTwo, spotted}
 

@@ -1,37 +1,25 @@
 -- The live labels of a session, nested and flat: the same labels in another order.
 -- Assumes nothing.
 use mathlib.Core.Path.{_≡_, refl, sym, ap, ap₂, subst, _∙_}
-use Prim.Native.Nat.{ℕ, zero, suc, _+_, _≤_, _<_}
+use Prim.Native.Nat.{ℕ, _+_, _≤_}
 use native.Mathlib.Omega.{arith}
-use mathlib.Core.Bool.{Bool, true, false, cond, not, _&&_, _||_, true≢false}
+use mathlib.Core.Bool.{Bool, true, false, cond, not, _||_}
 use mathlib.Core.List.{List, [], _∷_, _++_, append-assoc}
 use lib.Dec.{eqb, leb}
 use lib.ListN.{length, length-append}
-use borrow.Author.Tests.{eqb-true, leb-true, le-leb, ne-eqb, not-true}
+use borrow.Author.Tests.{eqb-true, leb-true, le-leb, not-true}
 use Rattle.graph.specs.KeyLists.{contains}
 use Rattle.graph.specs.Nodes.{Op}
 use Rattle.graph.specs.OneAtATime.{Labelled, addOf, opOf}
 use Rattle.graph.specs.Sessions.{Station, Session, labelsOfUnit, labelsOfUnits, labelsOfStations, labelsOfCalls, labelsOfResults, pending, live, addsIn}
 use Rattle.graph.specs.Valid.{Each, count, Given}
+use Rattle.graph.proofs.Answers.{and-left, and-right, eqb-same}
+use Rattle.graph.proofs.Labels.{count-out}
+use Rattle.graph.proofs.Validity.{adds-append}
 use Rattle.queue.specs.Flat.{Tagged, Flat, tagUnit, tagUnits, queueOf, waiting, flat, calls}
-use Rattle.queue.proofs.Places.{and-left, and-right, by-bool, eqb-same}
 use Rattle.queue.proofs.Nesting.{calls-waits}
 use Rattle.valid.specs.Tests.{givenOnce}
 use Rattle.valid.proofs.Decoding.{labelsOfCall}
-
--- EACH
-module _ {A : Type 0} (P : A → Type 0) where
-  pub each-append : (xs ys : List A) → Each P xs → Each P ys → Each P (xs ++ ys)
-  each-append [] ys a b = b
-  each-append (x ∷ xs) ys a b = (a .0, each-append xs ys (a .1) b)
-
-  pub each-left : (xs ys : List A) → Each P (xs ++ ys) → Each P xs
-  each-left [] ys h = tt
-  each-left (x ∷ xs) ys h = (h .0, each-left xs ys (h .1))
-
-  pub each-right : (xs ys : List A) → Each P (xs ++ ys) → Each P ys
-  each-right [] ys h = h
-  each-right (x ∷ xs) ys h = each-right xs ys (h .1)
 
 -- COUNTS
 pub count-append : (l : ℕ) (xs ys : List ℕ) → count l (xs ++ ys) ≡ count l xs + count l ys
@@ -50,14 +38,6 @@ module _ (P : ℕ → Type 0) where
   pub count-each : (xs : List ℕ) → ((l : ℕ) → 1 ≤ count l xs → P l) → Each P xs
   count-each [] f = tt
   count-each (x ∷ xs) f = (f x (rw (eqb-same x) (omega arith)), count-each xs (λ l h. f l (omega arith)))
-
-absent : (x : ℕ) (xs : List ℕ) → contains x xs ≡ false → count x xs ≡ 0
-absent x [] e = refl
-absent x (y ∷ ys) e = go (eqb x y) refl e (absent x ys)
-  where
-    go : (b : Bool) → eqb x y ≡ b → (b || contains x ys) ≡ false → (contains x ys ≡ false → count x ys ≡ 0) → cond b 1 0 + count x ys ≡ 0
-    go true q h f = absurd (true≢false h)
-    go false q h f = omega (arith, f h)
 
 not-in : (x : ℕ) (xs : List ℕ) → count x xs ≡ 0 → contains x xs ≡ false
 not-in x [] e = refl
@@ -79,7 +59,7 @@ fresh-of last (x ∷ xs) e =
     let e1 = and-right (leb 1 x) _ e in
     let e2 = and-right (leb x last) _ e1 in
     let r = fresh-of last xs (and-right (not (contains x xs)) _ e2) in
-    let none : count x xs ≡ 0 = absent x xs (not-true (contains x xs) (and-left _ _ e2)) in
+    let none : count x xs ≡ 0 = count-out x xs (not-true (contains x xs) (and-left _ _ e2)) in
     record { given = ((leb-true 1 x (and-left _ _ e), leb-true x last (and-left _ _ e1)), r .given); once = λ l. go l (eqb l x) refl none (r .once l) }
   where
     go : (l : ℕ) (b : Bool) → eqb l x ≡ b → count x xs ≡ 0 → count l xs ≤ 1 → cond b 1 0 + count l xs ≤ 1
@@ -152,11 +132,6 @@ pub live-length : (s : Session) → length (liveFlat (flat s)) ≡ length (live 
 live-length s = live-same length refl length-append s
 
 -- ADDS
-adds-append : (a b : List Labelled) → addsIn (a ++ b) ≡ addsIn a + addsIn b
-adds-append [] b = omega arith
-adds-append (addOf l v ∷ a) b = omega (arith, adds-append a b)
-adds-append (opOf o ∷ a) b = adds-append a b
-
 unit-adds : (k : ℕ) (b : Bool) (os : List Op) → addsIn (calls (tagUnit k b os)) ≡ 0
 unit-adds k b [] = refl
 unit-adds k b (o ∷ os) = unit-adds k false os

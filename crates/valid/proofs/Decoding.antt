@@ -1,31 +1,30 @@
 -- Records that pass the tests stand for valid nodes, operations and results, and are their records; and back.
 -- Assumes nothing.
-use mathlib.Core.Path.{_≡_, refl, sym, ap, ap₂, subst, _∙_}
+use mathlib.Core.Path.{_≡_, refl, sym, ap, subst, _∙_}
 use Prim.Native.Nat.{ℕ, zero, suc, _+_, _-_, _≤_, _<_, _^_}
 use native.Mathlib.Omega.{arith}
-use mathlib.Core.Bool.{Bool, true, false, cond, not, _&&_, _||_, true≢false}
+use mathlib.Core.Bool.{Bool, true, false, cond, _&&_, true≢false}
 use mathlib.Core.List.{List, [], _∷_, _++_}
 use lib.Dec.{eqb, leb, ltb}
-use lib.ListN.{length, getD, take, replicate, length-append, length-replicate, List·getD-append, List·getD-eq-default, getD-replicate}
-use lib.Seq.{length-take-le}
-use native.Mathlib.Decide.{decLt}
-use borrow.Author.Tests.{eqb-true, eqb-false, ltb-true, leb-true, leb-false, lt-ltb, le-leb, eq-eqb, ne-eqb}
+use lib.ListN.{length, getD, take, replicate, length-append, length-replicate}
+use borrow.Author.Tests.{eqb-true, eqb-false, ltb-true, leb-true, lt-ltb, le-leb, eq-eqb}
 use Rattle.graph.specs.declared.act.Act.{Act}
 use Rattle.graph.specs.declared.act.Act.the-variants.{Map, Link, Unlink, Sum, Top, Pick, Near}
-use Rattle.graph.specs.KeyLists.{rising, isKey}
+use Rattle.graph.specs.KeyLists.{isKey}
 use Rattle.graph.specs.Packed.{listed, packed}
-use Rattle.graph.specs.Nodes.{Node, Op, Result}
+use Rattle.graph.specs.Nodes.{Node, Result}
 use Rattle.graph.specs.OneAtATime.{Labelled, addOf, opOf}
 use Rattle.graph.specs.Valid.{Each, Key, ValidTargets, ValidNode, ValidAct, ValidHeld, mostLabels, ValidOp, ValidCall, ValidResult}
-use Rattle.queue.specs.Flat.{Tagged, placed, follows}
-use Rattle.queue.proofs.Places.{and-left, and-right, by-bool}
+use Rattle.graph.proofs.Answers.{and-left, and-right, by-bool}
+use Rattle.graph.proofs.KeyLaws.{listed-packed}
+use Rattle.queue.specs.Flat.{placed, follows}
 use Rattle.records.specs.declared.node.NodeRecord.{NodeRecord}
 use Rattle.records.specs.declared.op.OpRecord.{OpRecord}
 use Rattle.records.specs.declared.result.ResultRecord.{ResultRecord}
-use Rattle.records.proofs.Codecs.{FitKeys, FitLabels, FitNode, FitOp, FitResult}
+use Rattle.records.proofs.Codecs.{FitLabels, FitNode, FitOp, FitResult}
 use Rattle.valid.specs.Values.{nodeOf, nodeRecord, resultOf, resultRecord, labelsOf, packedLabels, actOf, heldOf, callOf, taggedOf, Fields, fields, fieldsOf, opRecord, callRecord, taggedRecord}
-use Rattle.valid.specs.Tests.{keysOk, labelsOk, nodeOk, takesKey, operandOk, numbersOk, mostOf, targetsOk, opOk, resultOk}
-use Rattle.valid.proofs.Packing.{KeysGood, keys-good, keys-packed, packed-ok, listed-packed, packed-fit, LabelsGood, labels-length, labels-good, labels-packed, packed-labels-ok, labels-of-packed}
+use Rattle.valid.specs.Tests.{keysOk, labelsOk, nodeOk, operandOk, numbersOk, mostOf, targetsOk, opOk, resultOk}
+use Rattle.valid.proofs.Packing.{KeysGood, keys-good, keys-packed, packed-ok, packed-fit, LabelsGood, labels-length, labels-good, labels-packed, packed-labels-ok, labels-of-packed}
 
 -- NODES
 module _ (i : ℕ) (r : NodeRecord) (f : FitNode r) (e : nodeOk i r ≡ true) where
@@ -57,7 +56,7 @@ module _ (n : Node) (v : ValidNode n) where
   node-ok i e = rw (eq-eqb (n .key) (i + 1) e) (packed-ok false (n .links) links-good)
 
   pub node-back : nodeOf (nodeRecord n) ≡ n
-  node-back = λ i. record { key = n .key; value = n .value; links = listed-packed false (n .links) links-good i }
+  node-back = λ i. record { key = n .key; value = n .value; links = listed-packed (n .links) i }
 
   pub node-fit : FitNode (nodeRecord n)
   node-fit = record { value = v .value; links = packed-fit false (n .links) links-good; spare = omega arith }
@@ -92,7 +91,7 @@ module _ (r : Result) (v : ValidResult r) where
   result-ok prev h = rw (lt-ltb prev (r .label) h) (packed-ok true (r .left) (targets-good (r .left) (v .left)))
 
   pub result-back : resultOf (resultRecord r) ≡ r
-  result-back = λ i. record { label = r .label; value = r .value; left = listed-packed true (r .left) (targets-good (r .left) (v .left)) i }
+  result-back = λ i. record { label = r .label; value = r .value; left = listed-packed (r .left) i }
 
   pub result-fit : r .label < 2 ^ 16 → FitResult (resultRecord r)
   result-fit h = record { label = h; value = v .value; left = packed-fit true (r .left) (targets-good (r .left) (v .left)) }
@@ -173,10 +172,10 @@ pub op-passes : (n prev : ℕ) (o : OpRecord) → OpFacts n prev o → opOk n pr
 unfolding opOk
 op-passes n prev o f = rw (f .place, f .next, f .kind, f .operand, f .numbers, f .none, f .targets, f .labels, f .opens) (f .spare)
 
-flag : (x : ℕ) → x ≤ 1 → cond (eqb x 1) 1 0 ≡ x
-flag zero h = refl
-flag (suc zero) h = refl
-flag (suc (suc x)) h = absurd (omega arith)
+pub flag-kept : (x : ℕ) → x ≤ 1 → cond (eqb x 1) 1 0 ≡ x
+flag-kept zero h = refl
+flag-kept (suc zero) h = refl
+flag-kept (suc (suc x)) h = absurd (omega arith)
 
 one-label : (l : List ℕ) (n : ℕ) → n ≡ 1 → 1 ≤ length l → getD l 0 0 ∷ [] ≡ take n l
 one-label [] n e h = absurd (omega arith)
@@ -221,7 +220,7 @@ module _ (n prev : ℕ) (o : OpRecord) (fit : FitOp o) (e : opOk n prev o ≡ tr
       λ i.
       record {
         station = o .station;
-        opens = flag (o .opens) (leb-true (o .opens) 1 (facts .opens)) i;
+        opens = flag-kept (o .opens) (leb-true (o .opens) 1 (facts .opens)) i;
         kind = p i .kind;
         key = p i .key;
         a = p i .a;
@@ -352,7 +351,7 @@ record-good p b (opOf o) h = made (fields-good (o .act) (o .held) (h .act) (h .h
         let lg : LabelsGood (mostOf (f .kind)) (o .labels) = record { named = h .named; few = few } in
         record {
           back =
-              (λ i. record { place = p; opens = flag-back b i; call = cond (g .other i) (addOf (getD (packedLabels (o .labels) .label) 0 0) (f .b)) (opOf (record { act = g .act i; held = g .held i; targets = listed-packed true (o .targets) tg i; labels = labels-of-packed (mostOf (f .kind)) (most-four (f .kind)) (o .labels) lg i })) });
+              (λ i. record { place = p; opens = flag-back b i; call = cond (g .other i) (addOf (getD (packedLabels (o .labels) .label) 0 0) (f .b)) (opOf (record { act = g .act i; held = g .held i; targets = listed-packed (o .targets) i; labels = labels-of-packed (mostOf (f .kind)) (most-four (f .kind)) (o .labels) lg i })) });
           facts = λ n prev x y.
               record {
                 place = x;

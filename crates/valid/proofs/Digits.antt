@@ -11,7 +11,7 @@ use lib.Dec.{eqb, leb, ltb}
 use lib.ListN.{length, getD, drop, replicate}
 use borrow.Author.Tests.{eq-eqb, ne-eqb, eqb-true, eqb-false, le-leb, lt-leb, le-ltb, leb-true, leb-false, ltb-true, ltb-false}
 use Rattle.graph.specs.Valid.{Each}
-use Rattle.queue.proofs.Places.{and-left, and-right}
+use Rattle.graph.proofs.Answers.{and-left, and-right}
 use Rattle.records.specs.Bytes.{allZero, le16, le64, bytes8}
 use Rattle.records.specs.Records.{labelsAt}
 use Rattle.valid.specs.Tests.{keyAbove, floorAfter, keyPlaces}

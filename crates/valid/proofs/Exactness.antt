@@ -4,19 +4,20 @@ use mathlib.Core.Path.{_≡_, refl, sym, ap, ap₂, subst, _∙_}
 use Prim.Native.Nat.{ℕ, zero, suc, _+_, _≤_, _<_, _^_}
 use native.Mathlib.Omega.{arith}
 use native.Mathlib.Numerals.{add-one}
-use mathlib.Core.Bool.{Bool, true, false, cond, _&&_, true≢false}
+use mathlib.Core.Bool.{Bool, true, false, _&&_, true≢false}
 use mathlib.Core.List.{List, [], _∷_, _++_, map}
 use lib.Dec.{eqb, leb, ltb}
 use lib.ListN.{length, getD, length-append, length-map}
-use borrow.Author.Tests.{eqb-true, leb-true, le-leb, lt-ltb, ltb-true}
+use borrow.Author.Tests.{leb-true, le-leb, lt-ltb, ltb-true}
 use Rattle.graph.specs.KeyLists.{above, rising}
 use Rattle.graph.specs.Nodes.{Node, Result}
 use Rattle.graph.specs.OneAtATime.{Labelled, addOf, opOf}
 use Rattle.graph.specs.Sessions.{Session, addsIn, labelsOfCalls, labelsOfResults}
 use Rattle.graph.specs.Valid.{Each, ValidNode, ValidCall, ValidResult, Given, Valid}
+use Rattle.graph.proofs.Answers.{and-left, and-right, by-bool}
+use Rattle.graph.proofs.Limits.{each-left, each-right, rising-above, each-at}
 use Rattle.queue.specs.Flat.{Tagged, Flat, flat, nest, calls, ordered, placed, follows}
-use Rattle.queue.proofs.Places.{and-left, and-right, by-bool, length-nodes}
-use Rattle.queue.proofs.Nesting.{KeysUp, Formed, flat-nest, nest-flat, keyed-nest, order-line}
+use Rattle.queue.proofs.Nesting.{KeysUp, Formed, flat-nest, nest-flat, keyed-nest, order-line, keyed-stations}
 use Rattle.records.specs.Bytes.{chunk, tab}
 use Rattle.records.specs.declared.node.NodeRecord.{NodeRecord}
 use Rattle.records.specs.declared.op.OpRecord.{OpRecord}
@@ -26,12 +27,12 @@ use Rattle.image.specs.Layout.{Region, place, recordAt, listedIn, blank, Sound,
 use Rattle.image.proofs.Parts.{next-place}
 use Rattle.image.proofs.Regions.{count-of}
 use Rattle.image.proofs.Whole.{chunk-bytes, image-is, Fit, view-is, image-sound, image-canonical}
-use Rattle.valid.specs.Values.{nodeOf, nodeRecord, resultOf, resultRecord, labelsOf, callOf, taggedOf, taggedRecord, flatOf, viewOf, encode, sessionOf}
+use Rattle.valid.specs.Values.{nodeOf, nodeRecord, resultOf, resultRecord, callOf, taggedOf, taggedRecord, flatOf, viewOf, encode, sessionOf}
 use Rattle.valid.specs.Exact.{Exact}
-use Rattle.valid.specs.Tests.{walk, nodeOk, opOk, resultOk, nodesOk, opsOk, resultsOk, isAdd, addsAmong, opLabels, resultLabels, liveLabels, givenOnce}
+use Rattle.valid.specs.Tests.{walk, nodeOk, opOk, resultOk, nodesOk, opsOk, resultsOk, addsAmong, opLabels, resultLabels, liveLabels, givenOnce}
 use Rattle.valid.proofs.Decoding.{node-key, node-valid, node-there, node-ok, node-back, node-fit, result-over, result-valid, result-there, result-ok, result-back, result-fit, op-facts, op-passes, call-valid, op-there, op-labels-same, RecordGood, record-good, labelsOfCall, Small}
-use Rattle.valid.proofs.Counting.{each-append, each-left, each-right, Fresh, fresh-of, fresh-ok, labels-cons, liveFlat}
-use Rattle.valid.proofs.Facts.{ValidTagged, FlatValid, flat-valid, valid-flat, keyed-of}
+use Rattle.valid.proofs.Counting.{Fresh, fresh-of, fresh-ok, labels-cons, liveFlat}
+use Rattle.valid.proofs.Facts.{ValidTagged, FlatValid, flat-valid, valid-flat}
 
 -- the tests of what an image shows, one by one
 pub record Tested (v : View) : Type 0 where
@@ -65,11 +66,6 @@ module _ {A : Type 0} (P : A → Type 0) where
   unfolding tab
   tab-each zero f h = tt
   tab-each (suc n) f h = (h 0 (omega arith), tab-each n (λ i. f (suc i)) (λ i l. h (suc i) (omega arith)))
-
-  each-at : (xs : List A) (d : A) → Each P xs → (i : ℕ) → i < length xs → P (getD xs i d)
-  each-at [] d e i h = absurd (omega arith)
-  each-at (x ∷ xs) d e zero h = e .0
-  each-at (x ∷ xs) d e (suc i) h = each-at xs d (e .1) i (omega arith)
 
 module _ {A B : Type 0} (f : A → B) where
   map-each : (P : A → Type 0) (Q : B → Type 0) → ((x : A) → P x → Q (f x)) → (xs : List A) → Each P xs → Each Q (map f xs)
@@ -105,10 +101,6 @@ results-pass : (prev : ℕ) (rs : List Result) → above prev (labelsOfResults r
 unfolding walk
 results-pass prev [] a v = refl
 results-pass prev (r ∷ rs) a v = rw (result-ok r (v .0) prev (ltb-true prev (r .label) (and-left _ _ a))) (results-pass (r .label) rs (and-right (ltb prev (r .label)) _ a) (v .1))
-
-rising-of : (ls : List ℕ) → above 0 ls ≡ true → rising ls ≡ true
-rising-of [] e = refl
-rising-of (l ∷ ls) e = and-right (ltb 0 l) _ e
 
 above-of : (last : ℕ) (ls : List ℕ) → Each (Given last) ls → rising ls ≡ true → above 0 ls ≡ true
 above-of last [] g e = refl
@@ -190,7 +182,7 @@ module _ (s : List ℕ) (y : Bytes s) (p : Passes s) where
         queue = walk-each (opOk (length (view s .nodes))) (λ q o. o .station) taggedOf FitOp ValidTagged (λ q o f e. call-valid (length (view s .nodes)) q o f e) 0 (view s .ops) ops-fit (p .shown .ops);
         results = walk-each resultOk (λ q r. r .label) resultOf FitResult ValidResult (λ q r f e. result-valid q r f e) 0 (view s .results) results-fit (p .shown .results);
         room = omega (arith, p .shown .room, same-count, adds-of (view s .ops));
-        rise = rising-of (labelsOfResults (map resultOf (view s .results))) (results-rise 0 (view s .results) results-fit (p .shown .results));
+        rise = rising-above 0 (labelsOfResults (map resultOf (view s .results))) (results-rise 0 (view s .results) results-fit (p .shown .results));
         fresh = subst (λ (ls : List ℕ). Fresh (view s .last) ls) live-of (fresh-of (view s .last) (liveLabels (view s)) (and-right keep _ (p .shown .live)));
         places = subst (λ (ls : List ℕ). length ls ≤ 64) live-of (leb-true (length (liveLabels (view s))) 64 (and-left _ _ (p .shown .live)));
         labels = omega (arith, y 4, y 5);
@@ -332,7 +324,7 @@ module _ (x : Session) (h : Valid x) where
 
   pub valid-back : x ≡ sessionOf (encode x)
   unfolding sessionOf
-  valid-back = sym (ap (λ (u : View). nest (flatOf u)) shown ∙ ap nest (back (flat x) f) ∙ nest-flat x (keyed-of (x .stations) (h .falling) (h .stations)) (omega (arith, h .room)))
+  valid-back = sym (ap (λ (u : View). nest (flatOf u)) shown ∙ ap nest (back (flat x) f) ∙ nest-flat x (keyed-stations (x .stations) (h .falling) (h .stations)) (omega (arith, h .room)))
 
 -- THE ANSWER
 pub exactly : (s : List ℕ) (r : Bool) → Bytes s → (r ≡ true → Passes s) → (Passes s → r ≡ true) → Exact s r

@@ -1,21 +1,21 @@
 -- A session is valid exactly where its flat view is.
 -- Assumes nothing.
-use mathlib.Core.Path.{_≡_, refl, sym, ap, ap₂, subst, _∙_}
-use Prim.Native.Nat.{ℕ, zero, suc, _+_, _≤_, _<_}
+use mathlib.Core.Path.{_≡_, sym}
+use Prim.Native.Nat.{ℕ, _+_, _≤_}
 use native.Mathlib.Omega.{arith}
-use native.Mathlib.Nat.{not-suc-le-zero}
 use mathlib.Core.Bool.{Bool, true, false, true≢false}
-use mathlib.Core.List.{List, [], _∷_, _++_}
-use lib.ListN.{length, length-append}
+use mathlib.Core.List.{List, [], _∷_}
+use lib.ListN.{length}
 use Rattle.graph.specs.KeyLists.{isNil, rising}
-use Rattle.graph.specs.Nodes.{Node, Op, Result}
-use Rattle.graph.specs.OneAtATime.{Labelled, addOf, opOf}
+use Rattle.graph.specs.Nodes.{Op}
+use Rattle.graph.specs.OneAtATime.{Labelled}
 use Rattle.graph.specs.Sessions.{Station, Session, live, addsIn, labelsOfResults}
-use Rattle.graph.specs.Valid.{Each, ValidNode, ValidOp, ValidUnit, ValidStation, ValidCall, ValidResult, KeysFall, count, Given, Valid}
+use Rattle.graph.specs.Valid.{Each, ValidNode, ValidOp, ValidUnit, ValidStation, ValidCall, ValidResult, KeysFall, Given, Valid}
+use Rattle.graph.proofs.Limits.{each-append, each-left, each-right}
 use Rattle.queue.specs.Flat.{Tagged, Flat, tagUnit, tagUnits, queueOf, nodesOf, waiting, flat, calls, ordered, Full, Keyed}
 use Rattle.queue.proofs.Places.{length-nodes}
-use Rattle.queue.proofs.Nesting.{KeysUp, Formed, formed-flat, order-line, line-order}
-use Rattle.valid.proofs.Counting.{each-append, each-left, each-right, each-count, count-each, Fresh, liveFlat, live-count, live-length, adds-same}
+use Rattle.queue.proofs.Nesting.{KeysUp, Formed, formed-flat, line-order, keyed-stations}
+use Rattle.valid.proofs.Counting.{each-count, count-each, Fresh, liveFlat, live-count, live-length, adds-same}
 
 abbrev pub ValidTagged : Tagged → Type 0
 ValidTagged x = ValidCall (x .call)
@@ -33,18 +33,6 @@ pub record FlatValid (f : Flat) : Type 0 where
   pub labels : f .last ≤ 65535
 
 -- FROM NESTED TO FLAT
-not-nil : (u : List Op) → 1 ≤ length u → isNil u ≡ false
-not-nil [] h = absurd (not-suc-le-zero h)
-not-nil (o ∷ os) h = refl
-
-full-units : (us : List (List Op)) → Each ValidUnit us → Full us
-full-units [] h = tt
-full-units (u ∷ us) h = (not-nil u (h .0 .some), full-units us (h .1))
-
-pub keyed-of : (ss : List Station) → KeysFall ss → Each ValidStation ss → Keyed ss
-keyed-of [] k v = tt
-keyed-of (s ∷ ss) k v = (k .0, (full-units (s .units) (v .0 .units), keyed-of ss (k .1) (v .1)))
-
 unit-calls : (k : ℕ) (b : Bool) (os : List Op) → Each ValidOp os → Each ValidTagged (tagUnit k b os)
 unit-calls k b [] h = tt
 unit-calls k b (o ∷ os) h = (h .0, unit-calls k false os (h .1))
@@ -67,7 +55,7 @@ waiting-calls (c ∷ cs) h = (h .0, waiting-calls cs (h .1))
 
 pub flat-valid : (s : Session) → Valid s → FlatValid (flat s)
 flat-valid s v =
-    let K = keyed-of (s .stations) (v .falling) (v .stations) in
+    let K = keyed-stations (s .stations) (v .falling) (v .stations) in
     let few : length (s .stations) ≤ 64 = omega (arith, v .room) in
     let n : length (nodesOf (s .stations)) ≡ length (s .stations) = length-nodes (s .stations) in
     let F : Formed (flat s) = formed-flat s K few in

@@ -1,20 +1,21 @@
 -- Key lists and label lists in their structs: what the tests say of them.
 -- Assumes nothing.
-use mathlib.Core.Path.{_≡_, refl, sym, ap, ap₂, subst, _∙_}
+use mathlib.Core.Path.{_≡_, refl, sym, ap, subst, _∙_}
 use Prim.Native.Nat.{ℕ, zero, suc, _+_, _-_, _≤_, _<_}
 use native.Mathlib.Nat.{not-suc-le-zero, le-of-suc-le-suc}
 use native.Mathlib.Omega.{arith}
-use mathlib.Core.Bool.{Bool, true, false, cond, not, _&&_, true≢false}
+use mathlib.Core.Bool.{Bool, true, false, _&&_, true≢false}
 use mathlib.Core.List.{List, [], _∷_, _++_}
 use lib.Dec.{eqb, leb, ltb}
-use lib.ListN.{length, take, drop, replicate, length-append, length-replicate, length-take, length-drop, take-append-drop}
+use lib.ListN.{length, take, drop, replicate, length-append, length-replicate, length-drop, take-append-drop}
 use lib.Seq.{length-take-le, take-append-seam, drop-append-seam}
-use borrow.Author.Tests.{eqb-true, ltb-true, leb-true, lt-ltb, le-leb, eq-eqb}
+use borrow.Author.Tests.{eqb-true, ltb-true, leb-true, lt-ltb, le-leb}
 use Rattle.graph.specs.declared.keys.Keys.{Keys}
 use Rattle.graph.specs.KeyLists.{above, rising}
 use Rattle.graph.specs.Packed.{listed, packed}
 use Rattle.graph.specs.Valid.{Each, Key}
-use Rattle.queue.proofs.Places.{and-left, and-right}
+use Rattle.graph.proofs.Answers.{and-left, and-right}
+use Rattle.graph.proofs.Limits.{rising-above}
 use Rattle.records.specs.declared.labels.Labels.{Labels}
 use Rattle.records.specs.Bytes.{allZero}
 use Rattle.records.proofs.Codecs.{FitKeys, FitLabels}
@@ -54,10 +55,6 @@ places rise (suc n) low (x ∷ xs) h e =
       rest = ap (λ (l : List ℕ). x ∷ l) (r .rest ∙ ap (λ (k : ℕ). take n xs ++ replicate k 0) q);
     }
 
-rising-of : (ts : List ℕ) → above 0 ts ≡ true → rising ts ≡ true
-rising-of [] e = refl
-rising-of (t ∷ ts) e = and-right (ltb 0 t) _ e
-
 module _ (rise : Bool) (ks : Keys) (f : FitKeys ks) (e : keysOk rise ks ≡ true) where
   count-few : ks .count ≤ 8
   unfolding keysOk
@@ -71,7 +68,7 @@ module _ (rise : Bool) (ks : Keys) (f : FitKeys ks) (e : keysOk rise ks ≡ true
   listed-length = length-take-le (ks .count) (ks .key) (omega (arith, f .places, count-few))
 
   pub keys-good : KeysGood rise (listed ks)
-  keys-good = record { few = omega (arith, listed-length, count-few); keys = key-places .keys; rises = λ b. rising-of (listed ks) (key-places .over b) }
+  keys-good = record { few = omega (arith, listed-length, count-few); keys = key-places .keys; rises = λ b. rising-above 0 (listed ks) (key-places .over b) }
 
   pub keys-packed : packed (listed ks) ≡ ks
   unfolding packed
@@ -98,10 +95,6 @@ module _ (rise : Bool) (ts : List ℕ) (g : KeysGood rise ts) where
   pub packed-ok : keysOk rise (packed ts) ≡ true
   unfolding keysOk packed
   packed-ok = rw (le-leb (length ts) 8 (g .few)) (places-back rise 0 (8 - length ts) ts (g .keys) (λ b. above-of ts (g .keys) (g .rises b)) (λ b. refl))
-
-  pub listed-packed : listed (packed ts) ≡ ts
-  unfolding packed
-  listed-packed = take-append-seam ts (replicate (8 - length ts) 0)
 
   pub packed-fit : FitKeys (packed ts)
   unfolding packed

@@ -4,14 +4,14 @@ use mathlib.Core.Path.{_≡_, refl, sym, ap, _∙_}
 use Prim.Native.Nat.{ℕ, zero, suc, _+_, _-_, _%_, _≤_, _<_}
 use native.Mathlib.Numerals.{add-one}
 use native.Mathlib.Omega.{arith}
-use mathlib.Core.Bool.{Bool, true, false, cond, not, _&&_, _||_, or-false, true≢false}
+use mathlib.Core.Bool.{Bool, true, false, cond, not, _&&_, _||_, or-false, true≢false, or-assoc}
 use mathlib.Core.List.{List, [], _∷_, _++_, append-assoc, append-nil}
 use lib.Dec.{eqb, leb, ltb}
 use lib.ListN.{length, getD, set, take, drop, replicate, drop-of-length-le, length-drop, length-set}
 use lib.Seq.{drop-cons, take-suc, take-all, take-suc-set, take-add, take-take, take-append-add, take-at, drop-at, drop-append-le, length-take-le, getD-drop, getD-set-same, getD-set-other}
 use borrow.Author.Tests.{eq-eqb, eqb-true, eqb-false, ne-eqb, le-leb, lt-leb, ltb-false}
 use Rattle.graph.specs.KeyLists.{contains}
-use Rattle.queue.proofs.Places.{and-right}
+use Rattle.graph.proofs.Answers.{and-right}
 use Rattle.records.specs.declared.op.OpRecord.{OpRecord}
 use Rattle.records.specs.declared.result.ResultRecord.{ResultRecord}
 use Rattle.valid.specs.Values.{labelsOf}
@@ -105,13 +105,9 @@ take-four n l e true q = refl
 take-four n l e false q = take-all 4 l (omega arith) ∙ sym (take-all n l (omega (arith, ltb-false n 4 q)))
 
 -- IS IT AMONG THEM
-contains-append : (x : ℕ) (s t : List ℕ) → contains x (s ++ t) ≡ (contains x s || contains x t)
+pub contains-append : (x : ℕ) (s t : List ℕ) → contains x (s ++ t) ≡ (contains x s || contains x t)
 contains-append x [] t = refl
-contains-append x (y ∷ s) t = ap (λ (b : Bool). eqb x y || b) (contains-append x s t) ∙ go (eqb x y) (contains x s) (contains x t)
-  where
-    go : (a b c : Bool) → (a || (b || c)) ≡ ((a || b) || c)
-    go true b c = refl
-    go false b c = refl
+contains-append x (y ∷ s) t = ap (λ (b : Bool). eqb x y || b) (contains-append x s t) ∙ sym (or-assoc (eqb x y) (contains x s) (contains x t))
 
 or-last : (a b : Bool) → (a || (b || false)) ≡ (b || a)
 or-last true true = refl

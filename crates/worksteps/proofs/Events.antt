@@ -1,7 +1,7 @@
 -- Acceptance, claims and drain, flat and nested.
 -- Assumes nothing.
 use mathlib.Core.Path.{_≡_, refl, sym, _∙_, ap, ap₂}
-use Prim.Native.Nat.{ℕ, suc, _+_, _≤_, _<_}
+use Prim.Native.Nat.{ℕ, suc, _+_, _≤_}
 use native.Mathlib.Omega.{arith}
 use mathlib.Core.Bool.{Bool, true, false, cond, _&&_, _||_, true≢false}
 use mathlib.Core.List.{List, [], _∷_, _++_, append-assoc}
@@ -17,27 +17,18 @@ use Rattle.graph.specs.OneAtATime.{Labelled, addOf, opOf, labelled}
 use Rattle.graph.specs.Sessions.{Station, Session, labelsOfUnit, labelsOfUnits, labelsOfStations, labelsOfCalls, labelsOfResults, pending, live, addsIn}
 use Rattle.graph.specs.Steps.{Step, admit, realise, move, finish, step}
 use Rattle.graph.specs.Acceptance.{callTests, accepted, accept, takeResult, claim}
-use Rattle.graph.specs.Drain.{orHere, backmost, Taken, taking, orElse, drainStepAt, drainStep, weightOfUnit, weightOfUnits, weightOfStations, weightOfCalls, weightOf}
-use Rattle.graph.specs.Valid.{Each, count, ValidUnit, ValidStation, KeysFall, Valid}
+use Rattle.graph.specs.Drain.{orHere, backmost, Taken, taking, orElse, drainStepAt, drainStep}
+use Rattle.graph.specs.Valid.{count, Valid}
 use Rattle.graph.proofs.Outcome.{sum}
 use Rattle.graph.proofs.Labels.{total, byLabel, is, one, total-append, total-is, total-one, total-results}
 use Rattle.queue.specs.Flat.{Tagged, tagUnit, tagUnits, queueOf, nodesOf, waiting, flat, Full, Keyed}
 use Rattle.queue.proofs.Places.{length-nodes}
+use Rattle.queue.proofs.Nesting.{keyed-stations, flatSession}
 use Rattle.worksteps.specs.FlatSteps.{flatStep}
-use Rattle.worksteps.specs.FlatEvents.{labelsIn, queued, addsQueued, flatLive, flatTests, flatAccepted, flatAccept, flatClaim, firstPlace, FlatTaken, flatTaking, flatDrainStepAt, flatDrainStep, weightOfQueue}
-use Rattle.worksteps.proofs.Focus.{flatOf}
+use Rattle.worksteps.specs.FlatEvents.{labelsIn, queued, addsQueued, flatLive, flatTests, flatAccepted, flatAccept, flatClaim, firstPlace, FlatTaken, flatTaking, flatDrainStepAt, flatDrainStep}
 use Rattle.worksteps.proofs.Units.{step-bridge}
 
 -- a valid session has a flat view
-full-units : (us : List (List Op)) → Each ValidUnit us → Full us
-full-units [] g = tt
-full-units ([] ∷ us) g = absurd (omega (arith, g .0 .some))
-full-units ((o ∷ os) ∷ us) g = (refl, full-units us (g .1))
-
-keyed-stations : (ss : List Station) → KeysFall ss → Each ValidStation ss → Keyed ss
-keyed-stations [] f g = tt
-keyed-stations (s ∷ ss) f g = (f .0, (full-units (s .units) (g .0 .units), keyed-stations ss (f .1) (g .1)))
-
 pub valid-keyed : (s : Session) → Valid s → Keyed (s .stations)
 valid-keyed s g = keyed-stations (s .stations) (g .falling) (g .stations)
 
@@ -139,7 +130,7 @@ waiting-append (c ∷ cs) ds = ap (λ (z : List Tagged). record { place = 65; op
 
 accepted-same : (c : Call) (s : Session) → flatAccepted c (flat s) ≡ flat (accepted c s)
 accepted-same c s i =
-    flatOf (nodesOf (s .stations)) ((append-assoc (queueOf (s .stations)) (waiting (s .topStream)) (waiting (labelled c (suc (s .last)) ∷ [])) ∙ ap (λ (z : List Tagged). queueOf (s .stations) ++ z) (sym (waiting-append (s .topStream) (labelled c (suc (s .last)) ∷ [])))) i) (s .results) (suc (s .last))
+    flatSession (nodesOf (s .stations)) ((append-assoc (queueOf (s .stations)) (waiting (s .topStream)) (waiting (labelled c (suc (s .last)) ∷ [])) ∙ ap (λ (z : List Tagged). queueOf (s .stations) ++ z) (sym (waiting-append (s .topStream) (labelled c (suc (s .last)) ∷ [])))) i) (s .results) (suc (s .last))
 
 tests-same : (c : Call) (s : Session) → flatTests c (flat s) ≡ callTests c s
 tests-same c s i = formTests c ++ (on (isAdd c && leb 64 (adds-same s i)) 13 ∷ on (leb 64 (live-same s i)) 14 ∷ on (leb 65535 (s .last)) 15 ∷ [])
@@ -209,29 +200,3 @@ drain-bridge s g =
     let K = valid-keyed s g in
     let room = valid-room s g in
     ap (λ (b : Option ℕ). flatDrainStepAt b (flat s)) (first-same s K room) ∙ drain-at (backmost (s .stations)) s K room
-
--- WEIGHT
-weight-append : (a b : List Tagged) → weightOfQueue (a ++ b) ≡ weightOfQueue a + weightOfQueue b
-weight-append [] b = omega arith
-weight-append (x ∷ xs) b = omega (arith, weight-append xs b)
-
-weight-unit : (d : ℕ) (c : Bool) (os : List Op) → d < 64 → weightOfQueue (tagUnit (suc d) c os) ≡ weightOfUnit d os
-weight-unit d c [] h = refl
-weight-unit d c (o ∷ os) h = rw (ne-eqb (suc d) 65 (λ e. omega arith)) (omega (arith, weight-unit d false os h))
-
-weight-units : (d : ℕ) (us : List (List Op)) → d < 64 → weightOfQueue (tagUnits (suc d) us) ≡ weightOfUnits d us
-weight-units d [] h = refl
-weight-units d (u ∷ us) h = omega (arith, weight-append (tagUnit (suc d) true u) (tagUnits (suc d) us), weight-unit d true u h, weight-units d us h)
-
-weight-queue : (ss : List Station) → Keyed ss → length ss ≤ 64 → weightOfQueue (queueOf ss) ≡ weightOfStations ss
-weight-queue [] K room = refl
-weight-queue (s ∷ ss) K room =
-    omega (arith, weight-append (queueOf ss) (tagUnits (s .node .key) (s .units)), weight-queue ss (K .1 .1) (omega arith), ap (λ (k : ℕ). weightOfQueue (tagUnits k (s .units))) (K .0), weight-units (length ss) (s .units) (omega arith))
-
-weight-waiting : (cs : List Labelled) → weightOfQueue (waiting cs) ≡ weightOfCalls cs
-weight-waiting [] = refl
-weight-waiting (c ∷ cs) = omega (arith, weight-waiting cs)
-
-pub weight-same : (s : Session) → Valid s → weightOfQueue (flat s .queue) ≡ weightOf s
-weight-same s g =
-    omega (arith, weight-append (queueOf (s .stations)) (waiting (s .topStream)), weight-queue (s .stations) (valid-keyed s g) (valid-room s g), weight-waiting (s .topStream))

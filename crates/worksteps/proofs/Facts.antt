@@ -4,27 +4,22 @@ use mathlib.Core.Path.{_≡_, refl, sym, _∙_, ap}
 use Prim.Native.Nat.{ℕ, zero, suc, _+_, _≤_, _<_}
 use native.Mathlib.Omega.{arith}
 use mathlib.Core.Bool.{Bool, true, false, cond, true≢false}
-use mathlib.Core.List.{List, [], _∷_, _++_}
+use mathlib.Core.List.{List, [], _∷_}
 use lib.Dec.{eqb, ltb, leb·suc-suc, leb·suc-zero}
 use lib.ListN.{length, getD, drop}
 use borrow.Author.Tests.{lt-ltb}
 use Rattle.graph.specs.Nodes.{Op, Result}
 use Rattle.graph.specs.OneAtATime.{Labelled}
 use Rattle.graph.specs.Sessions.{Station, Session, labelsOfResults, pending, live}
-use Rattle.graph.specs.Valid.{Each, ValidOp, ValidUnit, ValidStation, ValidCall, count, Valid}
-use Rattle.graph.proofs.Labels.{total, is, one, total-append, total-is, total-one}
-use Rattle.graph.proofs.Limits.{each-append}
+use Rattle.graph.specs.Valid.{Each, ValidOp, ValidUnit, ValidStation, ValidCall, Valid}
+use Rattle.graph.proofs.Labels.{total, one, total-append, total-one}
+use Rattle.graph.proofs.Limits.{each-append, each-at}
 use Rattle.queue.specs.Flat.{Tagged, tagUnit, tagUnits, queueOf, waiting, flat, isOp, find, here}
 use Rattle.worksteps.specs.FlatSteps.{noOp}
 use Rattle.worksteps.specs.FlatEvents.{labelsIn, queued}
 use Rattle.worksteps.proofs.Events.{pending-total}
 
 -- a fact of each element holds at each index
-pub each-at : {A : Type 0} (P : A → Type 0) (xs : List A) (i : ℕ) (d : A) → i < length xs → Each P xs → P (getD xs i d)
-each-at P [] i d h g = absurd (omega arith)
-each-at P (x ∷ xs) zero d h g = g .0
-each-at P (x ∷ xs) (suc i) d h g = each-at P xs i d (omega arith) (g .1)
-
 -- EACH OPERATION OF THE QUEUE
 -- in the top stream a valid call, elsewhere a valid operation
 pub record Sits (x : Tagged) : Type 0 where
@@ -49,7 +44,7 @@ sits-waiting (c ∷ cs) g = (record { call = g .0; placed = λ e. absurd (true�
 
 pub sits-at : (s : Session) → Valid s → (i : ℕ) → i < length (flat s .queue) → Sits (getD (flat s .queue) i noOp)
 sits-at s g i h =
-    each-at Sits (flat s .queue) i noOp h (each-append Sits (queueOf (s .stations)) (waiting (s .topStream)) (sits-queue (s .stations) (g .stations)) (sits-waiting (s .topStream) (g .topStream)))
+    each-at Sits (flat s .queue) noOp (each-append Sits (queueOf (s .stations)) (waiting (s .topStream)) (sits-queue (s .stations) (g .stations)) (sits-waiting (s .topStream) (g .topStream))) i h
 
 -- LABELS: those of one operation, among all that wait
 queued-at : (v : ℕ → ℕ) (q : List Tagged) (i : ℕ) → i < length q → total v (labelsIn (getD q i noOp .call)) ≤ total v (queued q)
@@ -61,12 +56,7 @@ module _ (s : Session) (g : Valid s) (i : ℕ) (h : i < length (flat s .queue)) 
   labels-live : (v : ℕ → ℕ) → total v (labelsIn (getD (flat s .queue) i noOp .call)) + total v (labelsOfResults (s .results)) ≤ total v (live s)
   labels-live v = omega (arith, queued-at v (flat s .queue) i h, pending-total v s, total-append v (pending s) (labelsOfResults (s .results)))
 
-  -- its labels and those of the results stand once, and there is room for its results
-  pub labels-once : (l : ℕ) → count l (labelsIn (getD (flat s .queue) i noOp .call) ++ labelsOfResults (s .results)) ≤ 1
-  labels-once l =
-      let xs = labelsIn (getD (flat s .queue) i noOp .call) in
-      omega (arith, labels-live (is l), total-append (is l) xs (labelsOfResults (s .results)), total-is l (xs ++ labelsOfResults (s .results)), total-is l (live s), g .once l)
-
+  -- there is room for its results
   pub labels-room : length (s .results) + length (labelsIn (getD (flat s .queue) i noOp .call)) ≤ 64
   labels-room =
       omega (arith, labels-live one, total-one (labelsIn (getD (flat s .queue) i noOp .call)), total-one (labelsOfResults (s .results)), total-one (live s), length-results (s .results), g .places)

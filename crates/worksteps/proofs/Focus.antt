@@ -15,20 +15,18 @@ use Rattle.graph.specs.Steps.{Change, behind, at, changed}
 use Rattle.graph.proofs.Answers.{by-bool}
 use Rattle.queue.specs.Flat.{Tagged, Flat, tagUnits, queueOf, nodesOf, waiting, flat, atPlace, Keyed}
 use Rattle.queue.proofs.Places.{No, no-append, no-units, Beyond, beyond-below, no-waits, length-nodes}
+use Rattle.queue.proofs.Nesting.{flatSession}
 use Rattle.worksteps.specs.FlatSteps.{atKey}
 
 -- THE FOCUS: stations from some place on, with what stands around their nodes and operations
-abbrev pub flatOf : List Node → List Tagged → List Result → ℕ → Flat
-flatOf ns q rs l = record { nodes = ns; queue = q; results = rs; last = l }
-
 abbrev pub put : List Node → List Tagged → List Result → ℕ → List Station → Flat
-put N A rs l ss = flatOf (nodesOf ss ++ N) (queueOf ss ++ A) rs l
+put N A rs l ss = flatSession (nodesOf ss ++ N) (queueOf ss ++ A) rs l
 
 abbrev pub back : List Node → List Tagged → List Result → ℕ → Change → Flat
 back N A rs l c = put N A (store (c .gone) rs) l (c .now)
 
 pub put-cons : (N : List Node) (A : List Tagged) (rs : List Result) (l : ℕ) (s : Station) (ss : List Station) → put N A rs l (s ∷ ss) ≡ put (s .node ∷ N) (tagUnits (s .node .key) (s .units) ++ A) rs l ss
-put-cons N A rs l s ss i = flatOf (append-assoc (nodesOf ss) (s .node ∷ []) N i) (append-assoc (queueOf ss) (tagUnits (s .node .key) (s .units)) A i) rs l
+put-cons N A rs l s ss i = flatSession (append-assoc (nodesOf ss) (s .node ∷ []) N i) (append-assoc (queueOf ss) (tagUnits (s .node .key) (s .units)) A i) rs l
 
 module _ (k : ℕ) (g : Flat → Answer Flat) (f : Station → List Station → Answer Change) (rs : List Result) (l : ℕ) where
   -- the two steps agree at the station with key k, whatever stands around it
@@ -63,7 +61,7 @@ module _ (k : ℕ) (g : Flat → Answer Flat) (f : Station → List Station → 
 
 -- a whole session
 flat-put : (s : Session) → flat s ≡ put [] (waiting (s .topStream)) (s .results) (s .last) (s .stations)
-flat-put s i = flatOf (sym (append-nil (nodesOf (s .stations))) i) (queueOf (s .stations) ++ waiting (s .topStream)) (s .results) (s .last)
+flat-put s i = flatSession (sym (append-nil (nodesOf (s .stations))) i) (queueOf (s .stations) ++ waiting (s .topStream)) (s .results) (s .last)
 
 map-after : (s : Session) (x : Answer Change) → mapDone (back [] (waiting (s .topStream)) (s .results) (s .last)) x ≡ mapDone flat (mapDone (changed s (s .topStream)) x)
 map-after s (refused r) = refl

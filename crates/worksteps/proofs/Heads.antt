@@ -17,8 +17,9 @@ use Rattle.graph.specs.Steps.{Change, only, anyHits, moveAt, realiseUnit, reali
 use Rattle.graph.proofs.Answers.{eqb-same}
 use Rattle.queue.specs.Flat.{Tagged, Flat, standing, tagUnit, tagUnits, queueOf, nodesOf, flat, find, atPlace, Full, Keyed}
 use Rattle.queue.proofs.Places.{No, no-append, find-none, find-at, drop-past, drop-mid, slice-mid, no-queue, beyond-below, length-nodes, ends-units, is-at, end-of}
+use Rattle.queue.proofs.Nesting.{flatSession}
 use Rattle.worksteps.specs.FlatSteps.{any, alter, removeAt, mapFrom, firstIn, noOp, noNode, moveTo, openAs, withOp, opIn, hitsKey, onHead, headUnit, moveFlat, actAt, realiseFrom, realiseFlat, finishesAt, takeOut, finishPlace, finishFrom, finishFlat, flatStep}
-use Rattle.worksteps.proofs.Focus.{flatOf, put, back, Agrees, step-focus}
+use Rattle.worksteps.proofs.Focus.{put, back, Agrees, step-focus}
 
 module _ {A : Type 0} where
   mapFrom-mid : (f : A → A) (a b c : List A) → mapFrom f (length a) (length (a ++ b)) (a ++ (b ++ c)) ≡ a ++ (map f b ++ c)
@@ -28,20 +29,20 @@ pub regroup : (B U T A : List Tagged) → (B ++ (U ++ T)) ++ A ≡ B ++ (U ++ (T
 regroup B U T A = append-assoc B (U ++ T) A ∙ ap (λ (x : List Tagged). B ++ x) (append-assoc U T A)
 
 module _ (k : ℕ) (g : ℕ → ℕ → Flat → Answer Flat) where
-  pub head-none : (ns : List Node) (q : List Tagged) (rs : List Result) (l : ℕ) → No (atPlace k) q → headUnit k g (flatOf ns q rs l) ≡ refused 21
-  head-none ns q rs l h = ap (λ (p : ℕ). onHead k g p (flatOf ns q rs l)) (find-none (atPlace k) q h) ∙ rw (drop-length q)
+  pub head-none : (ns : List Node) (q : List Tagged) (rs : List Result) (l : ℕ) → No (atPlace k) q → headUnit k g (flatSession ns q rs l) ≡ refused 21
+  head-none ns q rs l h = ap (λ (p : ℕ). onHead k g p (flatSession ns q rs l)) (find-none (atPlace k) q h) ∙ rw (drop-length q)
 
   pub head-unit : (ns : List Node) (B : List Tagged) (o : Op) (os : List Op) (us : List (List Op)) (A : List Tagged) (rs : List Result) (l : ℕ) → No (atPlace k) B → No (atPlace k) A → Full us
-      → headUnit k g (flatOf ns (B ++ (tagUnit k true (o ∷ os) ++ (tagUnits k us ++ A))) rs l) ≡ g (length B) (length (B ++ tagUnit k true (o ∷ os))) (flatOf ns (B ++ (tagUnit k true (o ∷ os) ++ (tagUnits k us ++ A))) rs l)
+      → headUnit k g (flatSession ns (B ++ (tagUnit k true (o ∷ os) ++ (tagUnits k us ++ A))) rs l) ≡ g (length B) (length (B ++ tagUnit k true (o ∷ os))) (flatSession ns (B ++ (tagUnit k true (o ∷ os) ++ (tagUnits k us ++ A))) rs l)
   head-unit ns B o os us A rs l b a F =
-      ap (λ (p : ℕ). onHead k g p (flatOf ns (B ++ (tagUnit k true (o ∷ os) ++ (tagUnits k us ++ A))) rs l)) (find-at (atPlace k) B (standing k true o) (tagUnit k false os ++ (tagUnits k us ++ A)) b (eqb-same k))
+      ap (λ (p : ℕ). onHead k g p (flatSession ns (B ++ (tagUnit k true (o ∷ os) ++ (tagUnits k us ++ A))) rs l)) (find-at (atPlace k) B (standing k true o) (tagUnit k false os ++ (tagUnits k us ++ A)) b (eqb-same k))
       ∙ rw (is-at k true B o (tagUnit k false os ++ (tagUnits k us ++ A)), end-of k B true o os (tagUnits k us ++ A) (ends-units k us A F a))
 
 module _ (k : ℕ) (g : ℕ → ℕ → Flat → Answer Flat) (F : Node → List Station → List (List Op) → Answer Change) (rs : List Result) (l : ℕ) where
   -- the two steps agree on a head unit
   abbrev pub UnitAgrees : Type 0
   UnitAgrees = (N : List Node) (A : List Tagged) (n : Node) (o : Op) (os : List Op) (us : List (List Op)) (ss : List Station) → n .key ≡ k → k ≡ suc (length ss) → Keyed ss
-      → g (length (queueOf ss)) (length (queueOf ss ++ tagUnit k true (o ∷ os))) (flatOf ((nodesOf ss ++ (n ∷ [])) ++ N) (queueOf ss ++ (tagUnit k true (o ∷ os) ++ (tagUnits k us ++ A))) rs l)
+      → g (length (queueOf ss)) (length (queueOf ss ++ tagUnit k true (o ∷ os))) (flatSession ((nodesOf ss ++ (n ∷ [])) ++ N) (queueOf ss ++ (tagUnit k true (o ∷ os) ++ (tagUnits k us ++ A))) rs l)
       ≡ mapDone (back N A rs l) (F n ss ((o ∷ os) ∷ us))
 
   module _ (nil : (n : Node) (ss : List Station) → F n ss [] ≡ refused 21) (h : UnitAgrees) where
@@ -50,8 +51,8 @@ module _ (k : ℕ) (g : ℕ → ℕ → Flat → Answer Flat) (F : Node → List
     heads N A n [] ss e d f K a = rw (nil n ss) (head-none k g ((nodesOf ss ++ (n ∷ [])) ++ N) ((queueOf ss ++ []) ++ A) rs l (no-append (atPlace k) (queueOf ss ++ []) A (no-append (atPlace k) (queueOf ss) [] (no-queue k ss K (beyond-below k ss (omega arith))) tt) a))
     heads N A n ([] ∷ us) ss e d f K a = absurd (true≢false (f .0))
     heads N A n ((o ∷ os) ∷ us) ss e d f K a =
-        ap (λ (j : ℕ). headUnit k g (flatOf ((nodesOf ss ++ (n ∷ [])) ++ N) ((queueOf ss ++ (tagUnit j true (o ∷ os) ++ tagUnits j us)) ++ A) rs l)) e
-        ∙ ap (λ (q : List Tagged). headUnit k g (flatOf ((nodesOf ss ++ (n ∷ [])) ++ N) q rs l)) (regroup (queueOf ss) (tagUnit k true (o ∷ os)) (tagUnits k us) A)
+        ap (λ (j : ℕ). headUnit k g (flatSession ((nodesOf ss ++ (n ∷ [])) ++ N) ((queueOf ss ++ (tagUnit j true (o ∷ os) ++ tagUnits j us)) ++ A) rs l)) e
+        ∙ ap (λ (q : List Tagged). headUnit k g (flatSession ((nodesOf ss ++ (n ∷ [])) ++ N) q rs l)) (regroup (queueOf ss) (tagUnit k true (o ∷ os)) (tagUnits k us) A)
         ∙ head-unit k g _ (queueOf ss) o os us A rs l (no-queue k ss K (beyond-below k ss (omega arith))) a (f .1)
         ∙ h N A n o os us ss e d K
 
@@ -90,14 +91,14 @@ module _ (k : ℕ) (rs : List Result) (l : ℕ) where
       R = tagUnits k us ++ A
 
       new : Flat
-      new = flatOf ((nodesOf (s ∷ ss) ++ (n ∷ [])) ++ N) (mapFrom (moveTo (k - 1)) (length B) (length (B ++ U)) (B ++ (U ++ R))) rs l
+      new = flatSession ((nodesOf (s ∷ ss) ++ (n ∷ [])) ++ N) (mapFrom (moveTo (k - 1)) (length B) (length (B ++ U)) (B ++ (U ++ R))) rs l
 
       test : (eqb k 1 || any (hitsKey k) (slice (length B) (length (B ++ U)) (B ++ (U ++ R)))) ≡ anyHits (o ∷ os) n
       test = rw (ne-eqb k 1 (λ x. omega arith), slice-mid B U R) (any-ops k true (o ∷ os) n e)
 
       go : (b : Bool) → cond b (refused 22) (done new) ≡ mapDone (back N A rs l) (cond b (refused 22) (done (only (station n us ∷ station (s .node) (s .units ++ ((o ∷ os) ∷ [])) ∷ ss))))
       go true = refl
-      go false = ap (λ (x : List Tagged). done (flatOf ((nodesOf (s ∷ ss) ++ (n ∷ [])) ++ N) x rs l))
+      go false = ap (λ (x : List Tagged). done (flatSession ((nodesOf (s ∷ ss) ++ (n ∷ [])) ++ N) x rs l))
           (mapFrom-mid (moveTo (k - 1)) (queueOf (s ∷ ss)) (tagUnit k true (o ∷ os)) (tagUnits k us ++ A)
           ∙ ap (λ (j : ℕ). queueOf (s ∷ ss) ++ (map (moveTo j) (tagUnit k true (o ∷ os)) ++ (tagUnits k us ++ A))) (omega (arith, K .0))
           ∙ move-queue (s .node .key) k (queueOf ss) (s .units) us (o ∷ os) A
@@ -156,22 +157,22 @@ realiseUnit-none n [] h = refl
 realiseUnit-none n (x ∷ a) h = rw (h .0, realiseUnit-none n a (h .1))
 
 realise-at : (k e p : ℕ) (C : List Node) (n : Node) (N : List Node) (D : List Tagged) (y : Tagged) (E : List Tagged) (rs : List Result) (l : ℕ) → p ≡ length D → p < e → k - 1 ≡ length C
-    → realiseFrom k e p (flatOf (C ++ (n ∷ N)) (D ++ (y ∷ E)) rs l) ≡ done (flatOf (C ++ (actOn (opIn y) n ∷ N)) (D ++ (withOp y (actBy (opIn y) n) ∷ E)) rs l)
+    → realiseFrom k e p (flatSession (C ++ (n ∷ N)) (D ++ (y ∷ E)) rs l) ≡ done (flatSession (C ++ (actOn (opIn y) n ∷ N)) (D ++ (withOp y (actBy (opIn y) n) ∷ E)) rs l)
 realise-at k e p C n N D y E rs l d lt c =
-    ap (λ (b : Bool). cond b (done (actAt k p (getD (D ++ (y ∷ E)) p noOp) (getD (C ++ (n ∷ N)) (k - 1) noNode) (flatOf (C ++ (n ∷ N)) (D ++ (y ∷ E)) rs l))) (refused 22)) (lt-ltb p e lt)
-    ∙ (λ i. done (actAt k p (getD-at D y E noOp p (sym d) i) (getD-at C n N noNode (k - 1) (sym c) i) (flatOf (C ++ (n ∷ N)) (D ++ (y ∷ E)) rs l)))
-    ∙ (λ i. done (flatOf (set-at C n N (actOn (opIn y) n) (k - 1) (sym c) i) (set-at D y E (withOp y (actBy (opIn y) n)) p (sym d) i) rs l))
+    ap (λ (b : Bool). cond b (done (actAt k p (getD (D ++ (y ∷ E)) p noOp) (getD (C ++ (n ∷ N)) (k - 1) noNode) (flatSession (C ++ (n ∷ N)) (D ++ (y ∷ E)) rs l))) (refused 22)) (lt-ltb p e lt)
+    ∙ (λ i. done (actAt k p (getD-at D y E noOp p (sym d) i) (getD-at C n N noNode (k - 1) (sym c) i) (flatSession (C ++ (n ∷ N)) (D ++ (y ∷ E)) rs l)))
+    ∙ (λ i. done (flatSession (set-at C n N (actOn (opIn y) n) (k - 1) (sym c) i) (set-at D y E (withOp y (actBy (opIn y) n)) p (sym d) i) rs l))
 
 pub regroup-key : (j k : ℕ) → j ≡ k → (B : List Tagged) (u : List Op) (us : List (List Op)) (A : List Tagged) → B ++ (tagUnit k true u ++ (tagUnits k us ++ A)) ≡ (B ++ (tagUnit j true u ++ tagUnits j us)) ++ A
 regroup-key j k e B u us A = sym (regroup B (tagUnit k true u) (tagUnits k us) A) ∙ ap (λ (j : ℕ). (B ++ (tagUnit j true u ++ tagUnits j us)) ++ A) (sym e)
 
 module _ (k : ℕ) (rs : List Result) (l : ℕ) (N : List Node) (A : List Tagged) (n : Node) (us : List (List Op)) (ss : List Station) (key : n .key ≡ k) (stands : k ≡ suc (length ss)) where
   realise-first : {u : List Op} → First (λ o. hits o n) u
-      → realiseFlat k (length (queueOf ss)) (length (queueOf ss ++ tagUnit k true u)) (flatOf ((nodesOf ss ++ (n ∷ [])) ++ N) (queueOf ss ++ (tagUnit k true u ++ (tagUnits k us ++ A))) rs l)
+      → realiseFlat k (length (queueOf ss)) (length (queueOf ss ++ tagUnit k true u)) (flatSession ((nodesOf ss ++ (n ∷ [])) ++ N) (queueOf ss ++ (tagUnit k true u ++ (tagUnits k us ++ A))) rs l)
       ≡ mapDone (back N A rs l) (realiseAt n ss (u ∷ us))
   realise-first (none u h) =
       rw (realiseUnit-none n u h)
-      (ap (λ (p : ℕ). realiseFrom k (length (queueOf ss ++ tagUnit k true u)) p (flatOf ((nodesOf ss ++ (n ∷ [])) ++ N) (queueOf ss ++ (tagUnit k true u ++ (tagUnits k us ++ A))) rs l))
+      (ap (λ (p : ℕ). realiseFrom k (length (queueOf ss ++ tagUnit k true u)) p (flatSession ((nodesOf ss ++ (n ∷ [])) ++ N) (queueOf ss ++ (tagUnit k true u ++ (tagUnits k us ++ A))) rs l))
       (first-none (hitsKey k) (queueOf ss) (tagUnit k true u) (tagUnits k us ++ A) (no-tagged (λ o. hits o n) (hitsKey k) k true (λ d o. ap (λ (j : ℕ). contains j (o .targets)) key) u h))
       ∙ rw (le-ltb (length (queueOf ss ++ tagUnit k true u)) (length (queueOf ss ++ tagUnit k true u)) (omega arith)))
   realise-first (found a o b h e) =
@@ -182,12 +183,12 @@ module _ (k : ℕ) (rs : List Result) (l : ℕ) (N : List Node) (A : List Tagged
       let R : List Tagged = tagUnits k us ++ A in
       let ns : List Node = (nodesOf ss ++ (n ∷ [])) ++ N in
       rw (realiseUnit-found n a o b h e)
-      (ap (λ (U : List Tagged). realiseFlat k (length B) (length (B ++ U)) (flatOf ns (B ++ (U ++ R)) rs l)) (ops-split k true a o b)
-      ∙ ap (λ (p : ℕ). realiseFrom k (length (B ++ (X ++ (y ∷ Y)))) p (flatOf ns (B ++ ((X ++ (y ∷ Y)) ++ R)) rs l))
+      (ap (λ (U : List Tagged). realiseFlat k (length B) (length (B ++ U)) (flatSession ns (B ++ (U ++ R)) rs l)) (ops-split k true a o b)
+      ∙ ap (λ (p : ℕ). realiseFrom k (length (B ++ (X ++ (y ∷ Y)))) p (flatSession ns (B ++ ((X ++ (y ∷ Y)) ++ R)) rs l))
       (first-at (hitsKey k) B X y Y R (no-tagged (λ o. hits o n) (hitsKey k) k true (λ d o. ap (λ (j : ℕ). contains j (o .targets)) key) a h) (ap (λ (j : ℕ). contains j (o .targets)) (sym key) ∙ e))
-      ∙ (λ i. realiseFrom k (length (B ++ (X ++ (y ∷ Y)))) (length (B ++ X)) (flatOf (append-assoc (nodesOf ss) (n ∷ []) N i) (regroup-at B X y Y R i) rs l))
+      ∙ (λ i. realiseFrom k (length (B ++ (X ++ (y ∷ Y)))) (length (B ++ X)) (flatSession (append-assoc (nodesOf ss) (n ∷ []) N i) (regroup-at B X y Y R i) rs l))
       ∙ realise-at k (length (B ++ (X ++ (y ∷ Y)))) (length (B ++ X)) (nodesOf ss) n N (B ++ X) y (Y ++ R) rs l refl (before-end B X y Y) (omega (arith, length-nodes ss))
-      ∙ (λ i. done (flatOf (sym (append-assoc (nodesOf ss) (actOn o n ∷ []) N) i)
+      ∙ (λ i. done (flatSession (sym (append-assoc (nodesOf ss) (actOn o n ∷ []) N) i)
       ((sym (regroup-at B X (withOp y (actBy (opIn y) n)) Y R) ∙ ap (λ (U : List Tagged). B ++ (U ++ R)) (sym (ops-split k true a (actBy o n) b)) ∙ regroup-key (n .key) k key B (a ++ (actBy o n ∷ b)) us A) i) rs l)))
 
 pub realise-agrees : (k : ℕ) (rs : List Result) (l : ℕ) → Agrees k (headUnit k (realiseFlat k)) (λ s ss. realiseAt (s .node) ss (s .units)) rs l
@@ -244,18 +245,18 @@ out-at k B a o (x ∷ b) R =
     ∙ ap (λ (U : List Tagged). B ++ (U ++ R)) (sym (ops-split k true a x b)))
 
 finish-at : (e p : ℕ) (ns : List Node) (D : List Tagged) (y : Tagged) (E : List Tagged) (rs : List Result) (l : ℕ) → p ≡ length D → p < e
-    → finishFrom e p (flatOf ns (D ++ (y ∷ E)) rs l) ≡ done (flatOf ns (takeOut p e y (D ++ (y ∷ E))) (store (stored (opIn y)) rs) l)
+    → finishFrom e p (flatSession ns (D ++ (y ∷ E)) rs l) ≡ done (flatSession ns (takeOut p e y (D ++ (y ∷ E))) (store (stored (opIn y)) rs) l)
 finish-at e p ns D y E rs l d lt =
-    ap (λ (b : Bool). cond b (done (finishPlace p e (getD (D ++ (y ∷ E)) p noOp) (flatOf ns (D ++ (y ∷ E)) rs l))) (refused 22)) (lt-ltb p e lt)
-    ∙ (λ i. done (finishPlace p e (getD-at D y E noOp p (sym d) i) (flatOf ns (D ++ (y ∷ E)) rs l)))
+    ap (λ (b : Bool). cond b (done (finishPlace p e (getD (D ++ (y ∷ E)) p noOp) (flatSession ns (D ++ (y ∷ E)) rs l))) (refused 22)) (lt-ltb p e lt)
+    ∙ (λ i. done (finishPlace p e (getD-at D y E noOp p (sym d) i) (flatSession ns (D ++ (y ∷ E)) rs l)))
 
 module _ (k : ℕ) (rs : List Result) (l : ℕ) (N : List Node) (A : List Tagged) (n : Node) (us : List (List Op)) (ss : List Station) (key : n .key ≡ k) (stands : k ≡ suc (length ss)) where
   finish-first : {u : List Op} → First (λ o. mayFinish o n (isNil ss)) u
-      → finishFlat k (length (queueOf ss)) (length (queueOf ss ++ tagUnit k true u)) (flatOf ((nodesOf ss ++ (n ∷ [])) ++ N) (queueOf ss ++ (tagUnit k true u ++ (tagUnits k us ++ A))) rs l)
+      → finishFlat k (length (queueOf ss)) (length (queueOf ss ++ tagUnit k true u)) (flatSession ((nodesOf ss ++ (n ∷ [])) ++ N) (queueOf ss ++ (tagUnit k true u ++ (tagUnits k us ++ A))) rs l)
       ≡ mapDone (back N A rs l) (finishAt n ss (u ∷ us))
   finish-first (none u h) =
       rw (finishUnit-none n ss u h)
-      (ap (λ (p : ℕ). finishFrom (length (queueOf ss ++ tagUnit k true u)) p (flatOf ((nodesOf ss ++ (n ∷ [])) ++ N) (queueOf ss ++ (tagUnit k true u ++ (tagUnits k us ++ A))) rs l))
+      (ap (λ (p : ℕ). finishFrom (length (queueOf ss ++ tagUnit k true u)) p (flatSession ((nodesOf ss ++ (n ∷ [])) ++ N) (queueOf ss ++ (tagUnit k true u ++ (tagUnits k us ++ A))) rs l))
       (first-none (finishesAt k) (queueOf ss) (tagUnit k true u) (tagUnits k us ++ A) (no-tagged (λ o. mayFinish o n (isNil ss)) (finishesAt k) k true (done-same k n ss key stands) u h))
       ∙ rw (le-ltb (length (queueOf ss ++ tagUnit k true u)) (length (queueOf ss ++ tagUnit k true u)) (omega arith)))
   finish-first (found a o b h e) =
@@ -266,12 +267,12 @@ module _ (k : ℕ) (rs : List Result) (l : ℕ) (N : List Node) (A : List Tagged
       let R : List Tagged = tagUnits k us ++ A in
       let ns : List Node = (nodesOf ss ++ (n ∷ [])) ++ N in
       rw (finishUnit-found n ss a o b h e)
-      (ap (λ (U : List Tagged). finishFlat k (length B) (length (B ++ U)) (flatOf ns (B ++ (U ++ R)) rs l)) (ops-split k true a o b)
-      ∙ ap (λ (p : ℕ). finishFrom (length (B ++ (X ++ (y ∷ Y)))) p (flatOf ns (B ++ ((X ++ (y ∷ Y)) ++ R)) rs l))
+      (ap (λ (U : List Tagged). finishFlat k (length B) (length (B ++ U)) (flatSession ns (B ++ (U ++ R)) rs l)) (ops-split k true a o b)
+      ∙ ap (λ (p : ℕ). finishFrom (length (B ++ (X ++ (y ∷ Y)))) p (flatSession ns (B ++ ((X ++ (y ∷ Y)) ++ R)) rs l))
       (first-at (finishesAt k) B X y Y R (no-tagged (λ o. mayFinish o n (isNil ss)) (finishesAt k) k true (done-same k n ss key stands) a h) (sym (done-same k n ss key stands (isNil a) o) ∙ e))
-      ∙ (λ i. finishFrom (length (B ++ (X ++ (y ∷ Y)))) (length (B ++ X)) (flatOf ns (regroup-at B X y Y R i) rs l))
+      ∙ (λ i. finishFrom (length (B ++ (X ++ (y ∷ Y)))) (length (B ++ X)) (flatSession ns (regroup-at B X y Y R i) rs l))
       ∙ finish-at (length (B ++ (X ++ (y ∷ Y)))) (length (B ++ X)) ns (B ++ X) y (Y ++ R) rs l refl (before-end B X y Y)
-      ∙ (λ i. done (flatOf ns
+      ∙ (λ i. done (flatSession ns
       ((out-at k B a o b R ∙ regroup-key (n .key) k key B (a ++ b) us A ∙ ap (λ (z : List Tagged). (B ++ z) ++ A) (sym (tagUnits-put (n .key) (a ++ b) us))) i) (store (stored o) rs) l)))
 
 pub finish-agrees : (k : ℕ) (rs : List Result) (l : ℕ) → Agrees k (headUnit k (finishFlat k)) (λ s ss. finishAt (s .node) ss (s .units)) rs l

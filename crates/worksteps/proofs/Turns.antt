@@ -5,7 +5,7 @@ use Prim.Native.Nat.{ℕ, zero, suc, _+_, _≤_, _<_}
 use native.Mathlib.Nat.{add-zero}
 use native.Mathlib.Omega.{arith}
 use mathlib.Core.Bool.{Bool, true, false, cond, _||_}
-use mathlib.Core.List.{List, [], _∷_, _++_, append-assoc, map}
+use mathlib.Core.List.{List, [], _∷_, _++_, append-assoc, map, map-append}
 use lib.Dec.{ltb, leb·suc-suc}
 use lib.ListN.{length, take, drop, getD, length-append, length-map, take-append-drop}
 use lib.Seq.{slice, slice-empty, slice-cons, length-slice, length-take-le, drop-cons, drop-append-le, take-suc}
@@ -14,14 +14,6 @@ use Rattle.queue.specs.Flat.{find}
 use Rattle.worksteps.specs.FlatSteps.{any, alter, mapFrom, firstIn}
 
 module _ {A : Type 0} (p : A → Bool) where
-  find-le : (xs : List A) → find p xs ≤ length xs
-  find-le [] = omega arith
-  find-le (x ∷ xs) = go (p x) (find-le xs)
-    where
-      go : (b : Bool) → find p xs ≤ length xs → cond b zero (suc (find p xs)) ≤ suc (length xs)
-      go true h = omega arith
-      go false h = omega arith
-
   any-find : (xs : List A) → any p xs ≡ ltb (find p xs) (length xs)
   any-find [] = sym (le-ltb 0 0 (omega arith))
   any-find (x ∷ xs) = go (p x) (any-find xs)
@@ -31,10 +23,7 @@ module _ {A : Type 0} (p : A → Bool) where
       go false e = e ∙ sym (leb·suc-suc (suc (find p xs)) (length xs))
 
   module _ (xs : List A) (e : ℕ) (fits : e ≤ length xs) where
-    -- the search's answer is at most e, and below it exactly where there is one
-    pub first-le : (a : ℕ) → a ≤ e → firstIn p a e xs ≤ e
-    first-le a h = omega (arith, find-le (slice a e xs), length-slice a e xs fits)
-
+    -- the search's answer is below e exactly where there is one
     pub any-first : (a : ℕ) → a ≤ e → any p (slice a e xs) ≡ ltb (firstIn p a e xs) e
     any-first a h = any-find (slice a e xs) ∙ go (find p (slice a e xs)) (length (slice a e xs)) (omega (arith, length-slice a e xs fits))
       where
@@ -70,10 +59,6 @@ module _ {A : Type 0} (f : A → A) where
   slice-snoc a j xs d h k =
       ap (drop a) (take-suc xs j d k) ∙ drop-append-le a (take j xs) (getD xs j d ∷ []) (omega (arith, length-take-le j xs (omega arith)))
 
-  map-append : (xs ys : List A) → map f (xs ++ ys) ≡ map f xs ++ map f ys
-  map-append [] ys = refl
-  map-append (x ∷ xs) ys = ap (λ (r : List A). f x ∷ r) (map-append xs ys)
-
   pub mapFrom-none : (a : ℕ) (xs : List A) → mapFrom f a a xs ≡ xs
   mapFrom-none a xs = ap (λ (ys : List A). take a xs ++ (map f ys ++ drop a xs)) (slice-empty a xs) ∙ take-append-drop a xs
 
@@ -85,4 +70,4 @@ module _ {A : Type 0} (f : A → A) where
       ∙ ap (λ (i : ℕ). alter i f (left ++ (getD xs j d ∷ drop (suc j) xs))) (sym size)
       ∙ alter-seam left (getD xs j d) (drop (suc j) xs)
       ∙ append-assoc (take a xs) (map f (slice a j xs)) (f (getD xs j d) ∷ drop (suc j) xs)
-      ∙ ap (λ (ys : List A). take a xs ++ ys) (sym (append-assoc (map f (slice a j xs)) (f (getD xs j d) ∷ []) (drop (suc j) xs)) ∙ ap (λ (ys : List A). ys ++ drop (suc j) xs) (sym (ap (map f) (slice-snoc a j xs d h k) ∙ map-append (slice a j xs) (getD xs j d ∷ []))))
+      ∙ ap (λ (ys : List A). take a xs ++ ys) (sym (append-assoc (map f (slice a j xs)) (f (getD xs j d) ∷ []) (drop (suc j) xs)) ∙ ap (λ (ys : List A). ys ++ drop (suc j) xs) (sym (ap (map f) (slice-snoc a j xs d h k) ∙ map-append f (slice a j xs) (getD xs j d ∷ []))))

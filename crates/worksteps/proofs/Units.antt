@@ -16,8 +16,9 @@ use Rattle.graph.specs.Steps.{Step, admit, realise, move, finish, join, split, 
 use Rattle.graph.proofs.Answers.{eqb-same}
 use Rattle.queue.specs.Flat.{Tagged, standing, tagUnit, tagUnits, queueOf, nodesOf, flat, find, atPlace, isAt, Full, Keyed}
 use Rattle.queue.proofs.Places.{No, no-append, find-none, find-at, no-queue, beyond-below, length-ops, ends-units, is-at, is-not-at, end-of}
+use Rattle.queue.proofs.Nesting.{flatSession}
 use Rattle.worksteps.specs.FlatSteps.{alter, removeAt, noOp, openAs, unitFrom, withNext, pairFrom, joinFlat, splitFlat, neighbours, swapFlat, fuseFlat, onQueue, flatStep}
-use Rattle.worksteps.proofs.Focus.{flatOf, back, Agrees, step-focus}
+use Rattle.worksteps.proofs.Focus.{back, Agrees, step-focus}
 use Rattle.worksteps.proofs.Heads.{regroup-at, ops-split, remove-seam, move-bridge, realise-bridge, finish-bridge}
 use Rattle.worksteps.proofs.Admits.{admit-bridge}
 use Rattle.worksteps.proofs.Turns.{alter-seam}
@@ -80,9 +81,9 @@ module _ (k : ℕ) (g : ℕ → ℕ → List Tagged → Answer (List Tagged)) (f
 
     module _ (i : ℕ) (rs : List Result) (l : ℕ) where
       map-only : (N : List Node) (A : List Tagged) (n : Node) (ss : List Station) → n .key ≡ k → (ns : List Node) → ns ≡ (nodesOf ss ++ (n ∷ [])) ++ N → (x : Answer (List (List Op)))
-          → mapDone (λ q. flatOf ns q rs l) (mapDone (λ xs. queueOf ss ++ (tagUnits k xs ++ A)) x) ≡ mapDone (back N A rs l) (mapDone (λ us. only (station n us ∷ ss)) x)
+          → mapDone (λ q. flatSession ns q rs l) (mapDone (λ xs. queueOf ss ++ (tagUnits k xs ++ A)) x) ≡ mapDone (back N A rs l) (mapDone (λ us. only (station n us ∷ ss)) x)
       map-only N A n ss e ns d (refused r) = refl
-      map-only N A n ss e ns d (done xs) = λ j. done (flatOf (d j) ((sym (append-assoc (queueOf ss) (tagUnits k xs) A) ∙ ap (λ (z : ℕ). (queueOf ss ++ tagUnits z xs) ++ A) (sym e)) j) rs l)
+      map-only N A n ss e ns d (done xs) = λ j. done (flatSession (d j) ((sym (append-assoc (queueOf ss) (tagUnits k xs) A) ∙ ap (λ (z : ℕ). (queueOf ss ++ tagUnits z xs) ++ A) (sym e)) j) rs l)
 
       -- where the search for the station leads
       start : (B A : List Tagged) (us : List (List Op)) → Full us → No (atPlace k) B → No (atPlace k) A → unitFrom k g i (find (atPlace k) (B ++ (tagUnits k us ++ A))) (B ++ (tagUnits k us ++ A)) ≡ unitFrom k g i (length B) (B ++ (tagUnits k us ++ A))
@@ -97,8 +98,8 @@ module _ (k : ℕ) (g : ℕ → ℕ → List Tagged → Answer (List Tagged)) (f
       units-agree N A s ss e K a =
           let ns : List Node = (nodesOf ss ++ (s .node ∷ [])) ++ N in
           let b : No (atPlace k) (queueOf ss) = no-queue k ss (K .1 .1) (beyond-below k ss (omega (arith, K .0))) in
-          ap (λ (q : List Tagged). mapDone (λ r. flatOf ns r rs l) (unitFrom k g i (find (atPlace k) q) q)) (append-assoc (queueOf ss) (tagUnits (s .node .key) (s .units)) A ∙ ap (λ (j : ℕ). queueOf ss ++ (tagUnits j (s .units) ++ A)) e)
-          ∙ ap (mapDone (λ r. flatOf ns r rs l)) (start (queueOf ss) A (s .units) (K .1 .0) b a ∙ run i (queueOf ss) A (s .units) (K .1 .0) a)
+          ap (λ (q : List Tagged). mapDone (λ r. flatSession ns r rs l) (unitFrom k g i (find (atPlace k) q) q)) (append-assoc (queueOf ss) (tagUnits (s .node .key) (s .units)) A ∙ ap (λ (j : ℕ). queueOf ss ++ (tagUnits j (s .units) ++ A)) e)
+          ∙ ap (mapDone (λ r. flatSession ns r rs l)) (start (queueOf ss) A (s .units) (K .1 .0) b a ∙ run i (queueOf ss) A (s .units) (K .1 .0) a)
           ∙ map-only N A (s .node) ss e ns refl (f i (s .units))
 
 -- TWO UNITS

@@ -3,8 +3,9 @@
 use native.Mathlib.Omega.{arith}
 use Rattle.state.specs.State.{held}
 use Rattle.state.specs.Results.{isAbove}
-use Rattle.state.proofs.ResultLaws.{result-count, find-within, result-put}
+use Rattle.state.proofs.ResultLaws.{result-count, result-put}
 use borrow.Author.Needs.{needs}
+use Rattle.queue.proofs.Places.{find-within}
 use Rattle.state.proofs.results.store_one.Statement.{statement}
 use Rattle.state.proofs.results.store_one.Tie as tie
 

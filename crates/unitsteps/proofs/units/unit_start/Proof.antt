@@ -5,9 +5,9 @@ use Prim.Native.Nat.{ℕ, _≤_, _<_, _-_, _+_}
 use mathlib.Core.Bool.{true, false}
 use lib.ListN.{length}
 use Rattle.queue.specs.Flat.{find, atPlace, isAt}
+use Rattle.queue.proofs.Places.{find-within}
 use borrow.Author.Tests.{not-true, not-false}
 use Rattle.state.specs.State.{held}
-use Rattle.state.proofs.ResultLaws.{find-within}
 use Rattle.worksteps.specs.FlatSteps.{unitStart}
 use Rattle.unitsteps.proofs.Located.{unit-next, unit-none, at-within}
 use borrow.Author.Needs.{needs}

@@ -7,11 +7,11 @@ use lib.ListN.{length}
 use mathlib.Core.List.{List}
 use Prim.Native.Nat.{ℕ, _+_}
 use borrow.Author.Tests.{not-true, not-false, le-leb, leb-true}
-use Rattle.queue.proofs.Places.{and-left, and-right}
 use Rattle.image.specs.Layout.{Sound, view}
 use Rattle.valid.specs.Tests.{opsOk, addsAmong}
 use Rattle.valid.proofs.Exactness.{Passes, exactly, refused}
 use borrow.Author.Needs.{needs}
+use Rattle.graph.proofs.Answers.{and-left, and-right}
 use Rattle.valid.proofs.session.image_valid.Statement.{statement}
 use Rattle.valid.proofs.session.image_valid.Tie as tie
 
