@@ -9,13 +9,12 @@ use lib.ListN.{length}
 use Rattle.graph.specs.Refusals.{Answer, refused, mapDone, Test, on, unless}
 use Rattle.graph.specs.KeyLists.{contains}
 use Rattle.graph.specs.Calls.{Call, isAdd, formTests}
-use Rattle.graph.specs.Nodes.{Result}
 use Rattle.graph.specs.OneAtATime.{Labelled, addOf, opOf, labelled}
 use Rattle.graph.specs.Steps.{Step, admit, realise, move, finish}
 use Rattle.graph.specs.Acceptance.{Claimed, takeResult}
-use Rattle.graph.specs.Drain.{orElse, weightOfCall}
+use Rattle.graph.specs.Drain.{orElse}
 use Rattle.queue.specs.Flat.{Tagged, Flat}
-use Rattle.worksteps.specs.FlatSteps.{opIn, flatStep}
+use Rattle.worksteps.specs.FlatSteps.{flatStep}
 
 -- the labels that wait in the queue
 abbrev pub labelsIn : Labelled → List ℕ
@@ -60,9 +59,6 @@ flatAccept c f = unless (flatTests c f) (flatAccepted c f)
 abbrev pub flatClaim : ℕ → Flat → Answer Claimed
 flatClaim l f = cond (leb 1 l && leb l (f .last)) (cond (contains l (queued (f .queue))) (refused 31) (takeResult l (f .results))) (refused 30)
 
-abbrev pub flatKeeping : Flat → List Result → Flat
-flatKeeping f rs = record { nodes = f .nodes; queue = f .queue; results = rs; last = f .last }
-
 -- drain: the queue's first operation stands at the back station that has one
 abbrev pub firstPlace : List Tagged → Option ℕ
 firstPlace [] = none
@@ -81,11 +77,3 @@ flatDrainStepAt (some k) f = orElse (flatTaking (realise k) f) (orElse (flatTaki
 
 abbrev pub flatDrainStep : Flat → Answer FlatTaken
 flatDrainStep f = flatDrainStepAt (firstPlace (f .queue)) f
-
--- how many steps can follow, at most: a station's key is one more than the stations behind it
-abbrev pub weightIn : Tagged → ℕ
-weightIn x = cond (eqb (x .place) 65) (weightOfCall (x .call)) (length (opIn x .targets) + x .place)
-
-abbrev pub weightOfQueue : List Tagged → ℕ
-weightOfQueue [] = 0
-weightOfQueue (x ∷ xs) = weightIn x + weightOfQueue xs
