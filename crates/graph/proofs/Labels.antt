@@ -66,6 +66,10 @@ stray-given last (x ∷ xs) h = go (leb 1 x && leb x last) refl (stray-given las
     go true e ih h = ((leb-true 1 x (and-left _ _ e), leb-true x last (and-right (leb 1 x) _ e)), ih (omega arith))
     go false e ih h = absurd (omega arith)
 
+pub length-labels : (rs : List Result) → length (labelsOfResults rs) ≡ length rs
+length-labels [] = refl
+length-labels (r ∷ rs) = ap suc (length-labels rs)
+
 pub count-out : (l : ℕ) (xs : List ℕ) → contains l xs ≡ false → count l xs ≡ 0
 count-out l [] e = refl
 count-out l (x ∷ xs) e = rw (or-left (eqb l x) (contains l xs) e) (omega (arith, count-out l xs (or-right (eqb l x) _ e)))

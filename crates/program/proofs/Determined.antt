@@ -1,4 +1,4 @@
--- The lines determine what is printed of them and the image after them.
+-- The lines determine what is printed of them and the image after them, and so an input the whole output.
 -- Assumes nothing.
 use mathlib.Core.Path.{_≡_, refl, sym, ap, subst, _∙_}
 use mathlib.Core.Bool.{Bool, true, false, _&&_, true≢false}
@@ -11,16 +11,18 @@ use borrow.Author.Tests.{eqb-true, le-leb, ltb-true}
 use Rattle.graph.specs.Refusals.{Answer, refused, done}
 use Rattle.graph.specs.Sessions.{Session}
 use Rattle.graph.specs.Acceptance.{Claimed, claim as claimOf}
+use Rattle.graph.specs.Valid.{Valid}
 use Rattle.graph.proofs.Validity.{Fine, claim-fine}
 use Rattle.text.specs.Text.{ascii, pasted}
 use Rattle.lines.specs.Answers.{IsClaim}
 use Rattle.print.specs.Printed.{resultText}
-use Rattle.host.specs.Entries.{Called, ClaimMade, claimRefused, claimServed, Claims}
+use Rattle.listing.specs.Listed.{listingOf}
+use Rattle.host.specs.Entries.{Called, ClaimMade, claimRefused, claimServed, Claims, Listed, listRefused, listServed}
 use Rattle.host.proofs.Determined.{both, claim-forms, call-once, tally-free}
-use Rattle.program.specs.Lines.{begins, told, shown, Line, step, claim, call}
-use Rattle.program.specs.Transcript.{Run, none, next}
+use Rattle.program.specs.Lines.{begins, told, shown, lengthIn, Line, step, claim, call}
+use Rattle.program.specs.Transcript.{Run, none, next, Ends, Transcript}
 use Rattle.program.proofs.Serving.{take-pasted}
-use Rattle.program.proofs.Rooms.{result-short}
+use Rattle.program.proofs.Rooms.{result-short, listing-short}
 
 take-text : (out text : List ℕ) → take (length text) (pasted out 0 text) ≡ text
 take-text out text = let e : length text ≡ 0 + length text = omega arith in ap (λ (k : ℕ). take k (pasted out 0 text)) e ∙ take-pasted out text
@@ -86,3 +88,30 @@ run-same e (next {between = b} {l = line} {n = n} {text = text} x r) (next {betw
     let l = line-same (subst (λ (z : List ℕ). Line z line n b text) e x) y in
     let k = run-same {image = b} {image′ = c} (l .0) r s in
     (k .0, λ i. l .1 i ++ k .1 i)
+
+-- ---- the listing at the end
+
+abbrev SameListing : Listed → Listed → Type 0
+SameListing x y = take (lengthIn (x .answer)) (x .output) ≡ take (lengthIn (y .answer)) (y .output)
+
+refused-listing : (out out′ : List ℕ) (k : ℕ) → SameListing (listRefused out k) (listRefused out′ k)
+refused-listing out out′ zero = refl
+refused-listing out out′ (suc k) = refl
+
+served-listing : (out out′ : List ℕ) → 16512 ≤ length out → 16512 ≤ length out′ → (s : Session) → Valid s → SameListing (listServed out s) (listServed out′ s)
+served-listing out out′ room room′ s v =
+    let short = listing-short s v in
+    rw (le-leb (length (listingOf s)) (length out) (omega arith), le-leb (length (listingOf s)) (length out′) (omega arith))
+    (take-text out (listingOf s) ∙ sym (take-text out′ (listingOf s)))
+
+ends-same : {image t t′ : List ℕ} → Ends image t → Ends image t′ → t ≡ t′
+ends-same x y =
+    sym (x .printed)
+    ∙ both (λ (f g : Unit {0}) (i j : Unit {0}). refl) SameListing (refused-listing (x .out) (y .out)) (λ s f i j. served-listing (x .out) (y .out) (x .room) (y .room) s (i .valid)) (x .lists) (y .lists)
+    ∙ y .printed
+
+-- AN INPUT DETERMINES THE WHOLE OUTPUT
+pub transcript-same : {input output output′ : List ℕ} → Transcript input output → Transcript input output′ → output ≡ output′
+transcript-same x y =
+    let r = run-same refl (x .runs) (y .runs) in
+    sym (x .whole) ∙ (λ i. r .1 i ++ ends-same (x .ends) (subst (λ (a : List ℕ). Ends a (y .listing)) (sym (r .0)) (y .ends)) i) ∙ y .whole

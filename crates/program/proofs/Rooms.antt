@@ -1,14 +1,19 @@
--- The line of a valid result has at most 128 bytes: no claim that is lent as many is refused for want of room.
+-- A line of a valid session has at most 128 bytes, and a listing 129 such lines: nothing that is lent as much is refused for want of room.
 -- Assumes nothing.
-use mathlib.Core.List.{List, [], _∷_}
-use Prim.Native.Nat.{ℕ, _*_, _≤_, _<_, _^_}
+use mathlib.Core.Path.{_≡_, refl, ap}
+use mathlib.Core.List.{List, [], _∷_, _++_}
+use Prim.Native.Nat.{ℕ, suc, _+_, _*_, _≤_, _<_, _^_}
 use native.Mathlib.Omega.{arith}
 use lib.ListN.{length, length-append}
 use Rattle.text.specs.Text.{ascii, decimal, further, commas}
 use Rattle.text.proofs.Decimals.{len-ten}
-use Rattle.graph.specs.Nodes.{Result}
-use Rattle.graph.specs.Valid.{Each, Key, ValidResult}
-use Rattle.print.specs.Printed.{resultText}
+use Rattle.graph.specs.Nodes.{Node, Result}
+use Rattle.graph.specs.Sessions.{Station, Session, graphOf, labelsOfResults, pending, live}
+use Rattle.graph.specs.Valid.{Each, Key, ValidNode, ValidStation, ValidResult, KeysFall, Given, Valid}
+use Rattle.graph.proofs.Labels.{length-labels}
+use Rattle.graph.proofs.Limits.{each-right}
+use Rattle.print.specs.Printed.{lineOf, resultText, nodeText, headText, texts}
+use Rattle.listing.specs.Listed.{listingOf}
 
 further-short : (ts : List ℕ) → Each Key ts → length (further ts) ≤ 11 * length ts
 unfolding further
@@ -24,6 +29,48 @@ commas-short (t ∷ ts) h =
     let ih : length (further ts) ≤ 11 * length ts = further-short ts (h .1) in
     omega (arith, length-append (decimal t) (further ts), len-ten t (omega (arith, h .0 .1)))
 
+-- two numbers and up to eight keys
+line-short : (a b c : List ℕ) (x y : ℕ) (ks : List ℕ) → length a + length b + length c ≤ 19 → x < 2 ^ 32 → y < 2 ^ 32 → length ks ≤ 8 → Each Key ks → length (lineOf a x b y c ks) ≤ 128
+line-short a b c x y ks h k l few v = simp length-append (omega (arith, h, len-ten x k, len-ten y l, commas-short ks v, few))
+
 pub result-short : (r : Result) → r .label < 2 ^ 32 → ValidResult r → length (resultText r) ≤ 128
 unfolding ascii
-result-short r l v = simp length-append (omega (arith, len-ten (r .label) l, len-ten (r .value) (v .value), commas-short (r .left) (v .left .keys), v .left .few))
+result-short r l v = line-short (ascii "label=") (ascii " value=") (ascii " left=") (r .label) (r .value) (r .left) (omega arith) l (v .value) (v .left .few) (v .left .keys)
+
+node-short : (n : Node) → n .key < 2 ^ 32 → ValidNode n → length (nodeText n) ≤ 128
+unfolding ascii
+node-short n k v = line-short (ascii "key=") (ascii " value=") (ascii " links=") (n .key) (n .value) (n .links) (omega arith) k (v .value) (v .few) (v .keys)
+
+head-short : (n m k : ℕ) → n < 2 ^ 32 → m < 2 ^ 32 → k < 2 ^ 32 → length (headText n m k) ≤ 128
+unfolding ascii
+head-short n m k a b c = simp length-append (omega (arith, len-ten n a, len-ten m b, len-ten k c))
+
+nodes-short : (ss : List Station) → length ss ≤ 64 → KeysFall ss → Each ValidStation ss → length (texts nodeText (graphOf ss)) ≤ 128 * length ss
+nodes-short [] h k v = omega arith
+nodes-short (s ∷ ss) h k v =
+    omega (arith, length-append (nodeText (s .node)) (texts nodeText (graphOf ss)), node-short (s .node) (omega (arith, h, k .0)) (v .0 .node), nodes-short ss (omega (arith, h)) (k .1) (v .1))
+
+results-short : (rs : List Result) (last : ℕ) → last ≤ 65535 → Each ValidResult rs → Each (Given last) (labelsOfResults rs) → length (texts resultText rs) ≤ 128 * length rs
+results-short [] last h v g = omega arith
+results-short (r ∷ rs) last h v g =
+    omega (arith, length-append (resultText r) (texts resultText rs), result-short r (omega (arith, h, g .0 .1)) (v .0), results-short rs last h (v .1) (g .1))
+
+nodes-length : (ss : List Station) → length (graphOf ss) ≡ length ss
+nodes-length [] = refl
+nodes-length (s ∷ ss) = ap suc (nodes-length ss)
+
+-- the head and up to 128 lines: no listing that is lent as much is refused for want of room
+pub listing-short : (s : Session) → Valid s → length (listingOf s) ≤ 16512
+listing-short s v =
+    let nodes : List Node = graphOf (s .stations) in
+    let results : List Result = s .results in
+    let labels : length (labelsOfResults results) ≡ length results = length-labels results in
+    let both : length (live s) ≡ length (pending s) + length (labelsOfResults results) = length-append (pending s) (labelsOfResults results) in
+    let few : length (s .stations) ≤ 64 = omega (arith, v .room) in
+    let head : List ℕ = headText (length nodes) (length results) (length (pending s)) in
+    let short : length head ≤ 128 =
+    head-short (length nodes) (length results) (length (pending s)) (omega (arith, nodes-length (s .stations), few)) (omega (arith, labels, both, v .places)) (omega (arith, both, v .places)) in
+    let a = nodes-short (s .stations) few (v .falling) (v .stations) in
+    let b = results-short results (s .last) (v .labels) (v .results) (each-right (Given (s .last)) (pending s) (labelsOfResults results) (v .given)) in
+    let whole : length (listingOf s) ≡ length (head ++ texts nodeText nodes) + length (texts resultText results) = length-append (head ++ texts nodeText nodes) (texts resultText results) in
+    omega (arith, whole, length-append head (texts nodeText nodes), short, a, b, few, labels, both, v .places)

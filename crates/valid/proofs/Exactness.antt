@@ -15,6 +15,7 @@ use Rattle.graph.specs.OneAtATime.{Labelled, addOf, opOf}
 use Rattle.graph.specs.Sessions.{Session, addsIn, labelsOfCalls, labelsOfResults}
 use Rattle.graph.specs.Valid.{Each, ValidNode, ValidCall, ValidResult, Given, Valid}
 use Rattle.graph.proofs.Answers.{and-left, and-right, by-bool}
+use Rattle.graph.proofs.Labels.{length-labels}
 use Rattle.graph.proofs.Limits.{each-left, each-right, rising-above, each-at}
 use Rattle.queue.specs.Flat.{Tagged, Flat, flat, nest, calls, ordered, placed, follows}
 use Rattle.queue.proofs.Nesting.{KeysUp, Formed, flat-nest, nest-flat, keyed-nest, order-line, keyed-stations}
@@ -240,10 +241,6 @@ queue-few : (q : List Tagged) → Each ValidTagged q → length q ≤ length (la
 queue-few [] v = omega arith
 queue-few (x ∷ xs) v =
     omega (arith, ap length (labels-cons (x .call) (calls xs)), length-append (labelsOfCall (x .call)) (labelsOfCalls (calls xs)), named (x .call) (v .0), queue-few xs (v .1))
-
-length-labels : (rs : List Result) → length (labelsOfResults rs) ≡ length rs
-length-labels [] = refl
-length-labels (r ∷ rs) = ap suc (length-labels rs)
 
 module _ (f : Flat) (v : FlatValid f) where
   small : Small (liveFlat f)

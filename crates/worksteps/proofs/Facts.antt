@@ -1,6 +1,6 @@
 -- What a valid session's queue has at an index: the facts that the steps on the image rely on.
 -- Assumes nothing.
-use mathlib.Core.Path.{_≡_, refl, sym, _∙_, ap}
+use mathlib.Core.Path.{_≡_, refl, sym, _∙_}
 use Prim.Native.Nat.{ℕ, zero, suc, _+_, _≤_, _<_}
 use native.Mathlib.Omega.{arith}
 use mathlib.Core.Bool.{Bool, true, false, cond, true≢false}
@@ -8,11 +8,11 @@ use mathlib.Core.List.{List, [], _∷_}
 use lib.Dec.{eqb, ltb, leb·suc-suc, leb·suc-zero}
 use lib.ListN.{length, getD, drop}
 use borrow.Author.Tests.{lt-ltb}
-use Rattle.graph.specs.Nodes.{Op, Result}
+use Rattle.graph.specs.Nodes.{Op}
 use Rattle.graph.specs.OneAtATime.{Labelled}
 use Rattle.graph.specs.Sessions.{Station, Session, labelsOfResults, pending, live}
 use Rattle.graph.specs.Valid.{Each, ValidOp, ValidUnit, ValidStation, ValidCall, Valid}
-use Rattle.graph.proofs.Labels.{total, one, total-append, total-one}
+use Rattle.graph.proofs.Labels.{total, one, total-append, total-one, length-labels}
 use Rattle.graph.proofs.Limits.{each-append, each-at}
 use Rattle.queue.specs.Flat.{Tagged, tagUnit, tagUnits, queueOf, waiting, flat, isOp, find, here}
 use Rattle.worksteps.specs.FlatSteps.{noOp}
@@ -59,11 +59,7 @@ module _ (s : Session) (g : Valid s) (i : ℕ) (h : i < length (flat s .queue)) 
   -- there is room for its results
   pub labels-room : length (s .results) + length (labelsIn (getD (flat s .queue) i noOp .call)) ≤ 64
   labels-room =
-      omega (arith, labels-live one, total-one (labelsIn (getD (flat s .queue) i noOp .call)), total-one (labelsOfResults (s .results)), total-one (live s), length-results (s .results), g .places)
-    where
-      length-results : (rs : List Result) → length (labelsOfResults rs) ≡ length rs
-      length-results [] = refl
-      length-results (r ∷ rs) = ap suc (length-results rs)
+      omega (arith, labels-live one, total-one (labelsIn (getD (flat s .queue) i noOp .call)), total-one (labelsOfResults (s .results)), total-one (live s), length-labels (s .results), g .places)
 
 -- FOUND: an index that a search gives is below the length exactly where something stands there
 module _ {A : Type 0} where
