@@ -13,7 +13,7 @@ use Rattle.graph.specs.Refusals.{Answer}
 use Rattle.graph.specs.KeyLists.{isNil}
 use Rattle.graph.specs.Nodes.{Node, Op, hits, actOn, actBy, mayFinish, stored}
 use Rattle.graph.specs.Sessions.{Station, station, Session}
-use Rattle.graph.specs.Steps.{Step, admit, realise, move, finish, join, split, swap, fuse, Change, only, behind, at, Realised, realiseUnit, realiseAt, anyHits, atTail, moveAt, Finished, finishUnit, putUnit, finishAt, unitAt, pairAt, joinUnits, maySplit, splitUnit, onSingles, maySwap, swapOps, mayFuse, fused, fuseOps, onUnits, admitHead, atStation, stepAt, step}
+use Rattle.graph.specs.Steps.{Step, admit, realise, move, finish, join, split, swap, fuse, Change, only, behind, at, any, anyHits, FirstOp, firstOp, realiseAt, atTail, moveAt, putUnit, finishAt, unitAt, pairAt, joinUnits, maySplit, splitUnit, onSingles, maySwap, swapOps, mayFuse, fused, fuseOps, onUnits, admitHead, atStation, stepAt, step}
 use Rattle.graph.proofs.Answers.{Holds, refuses, holds, holds-map, holds-cond, and-left, and-right}
 
 -- units alone: join, split, swap and fuse, among units before and after them
@@ -49,55 +49,22 @@ costs (split k i j) = 0
 costs (swap k i) = 0
 costs (fuse k i) = 0
 
--- the operation that realise and finish take, with those before and after it
-record RealisedOp (n : Node) (u : List Op) (r : Realised) : Type 0 where
-  pre : List Op
-  op : Op
-  post : List Op
-  passed : anyHits pre n ≡ false
-  hit : hits op n ≡ true
-  was : u ≡ pre ++ (op ∷ post)
-  node : r .node ≡ actOn op n
-  unit : r .unit ≡ pre ++ (actBy op n ∷ post)
+-- what realise and finish take is in the unit, and the rule holds of it, but of none before it
+record Taken (p : Op → Bool) (u : List Op) (f : FirstOp) : Type 0 where
+  passed : any p (f .before) ≡ false
+  hit : p (f .op) ≡ true
+  was : u ≡ f .before ++ (f .op ∷ f .after)
 
-realised-op : (n : Node) (u : List Op) → Holds (RealisedOp n u) (realiseUnit n u)
-realised-op n [] = refuses
-realised-op n (o ∷ os) =
-    holds-cond (hits o n) (λ e. holds (record { pre = []; op = o; post = os; passed = refl; hit = e; was = refl; node = refl; unit = refl }))
-    (λ e. holds-map _ (λ r h. record {
-      pre = o ∷ h .pre;
-      op = h .op;
-      post = h .post;
-      passed = rw e (h .passed);
-      hit = h .hit;
-      was = ap (λ (x : List Op). o ∷ x) (h .was);
-      node = h .node;
-      unit = ap (λ (x : List Op). o ∷ x) (h .unit);
-    }) (realised-op n os))
-
-record FinishedOp (n : Node) (last : Bool) (u : List Op) (f : Finished) : Type 0 where
-  pre : List Op
-  post : List Op
-  may : mayFinish (f .op) n last ≡ true
-  was : u ≡ pre ++ (f .op ∷ post)
-  rest : f .others ≡ pre ++ post
-
-finished-op : (n : Node) (last : Bool) (u : List Op) → Holds (FinishedOp n last u) (finishUnit n last u)
-finished-op n last [] = refuses
-finished-op n last (o ∷ os) =
-    holds-cond (mayFinish o n last) (λ e. holds (record { pre = []; post = os; may = e; was = refl; rest = refl }))
-    (λ e. holds-map _ (λ f h. record {
-      pre = o ∷ h .pre;
-      post = h .post;
-      may = h .may;
-      was = ap (λ (x : List Op). o ∷ x) (h .was);
-      rest = ap (λ (x : List Op). o ∷ x) (h .rest);
-    }) (finished-op n last os))
+taken : (p : Op → Bool) (u : List Op) → Holds (Taken p u) (firstOp p u)
+taken p [] = refuses
+taken p (o ∷ os) =
+    holds-cond (p o) (λ e. holds (record { passed = refl; hit = e; was = refl }))
+    (λ e. holds-map _ (λ f h. record { passed = rw e (h .passed); hit = h .hit; was = ap (λ (x : List Op). o ∷ x) (h .was) }) (taken p os))
 
 -- each kind at its station
 effect-realise : (n : Node) (ss : List Station) (us : List (List Op)) → Holds (Effect 1 (station n us ∷ ss)) (realiseAt n ss us)
 effect-realise n ss [] = refuses
-effect-realise n ss (u ∷ us) = holds-map _ (λ r h. rw (h .was, h .node, h .unit) (realised n (h .pre) (h .op) (h .post) us ss (h .passed) (h .hit))) (realised-op n u)
+effect-realise n ss (u ∷ us) = holds-map _ (λ f h. rw (h .was) (realised n (f .before) (f .op) (f .after) us ss (h .passed) (h .hit))) (taken (λ o. hits o n) u)
 
 effect-move : (n : Node) (ss : List Station) (us : List (List Op)) → Holds (Effect 1 (station n us ∷ ss)) (moveAt n ss us)
 effect-move n ss [] = refuses
@@ -106,7 +73,7 @@ effect-move n (s ∷ ss) (u ∷ us) = holds-cond _ (λ e. refuses) (λ e. holds 
 
 effect-finish : (n : Node) (ss : List Station) (us : List (List Op)) → Holds (Effect 1 (station n us ∷ ss)) (finishAt n ss us)
 effect-finish n ss [] = refuses
-effect-finish n ss (u ∷ us) = holds-map _ (λ f h. rw (h .was, h .rest) (finished n (h .pre) (f .op) (h .post) us ss (h .may))) (finished-op n (isNil ss) u)
+effect-finish n ss (u ∷ us) = holds-map _ (λ f h. rw (h .was) (finished n (f .before) (f .op) (f .after) us ss (h .hit))) (taken (λ o. mayFinish o n (isNil ss)) u)
 
 reshaped-unit : (i : ℕ) (f : List Op → Answer (List (List Op))) → ((u : List Op) → Holds (Reshaped (u ∷ [])) (f u)) → (us : List (List Op)) → Holds (Reshaped us) (unitAt i f us)
 reshaped-unit zero f h us = refuses

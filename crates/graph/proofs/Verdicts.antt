@@ -13,7 +13,7 @@ use Rattle.graph.specs.KeyLists.{isNil}
 use Rattle.graph.specs.Nodes.{Node, Op, hits, mayFinish}
 use Rattle.graph.specs.OneAtATime.{Labelled}
 use Rattle.graph.specs.Sessions.{Station, Session}
-use Rattle.graph.specs.Steps.{Step, admit, realise, move, finish, join, split, swap, fuse, Change, behind, at, realiseUnit, realiseAt, anyHits, moveAt, finishUnit, finishAt, unitAt, pairAt, joinUnits, maySplit, splitUnit, onSingles, maySwap, swapOps, mayFuse, fuseOps, admitHead, atStation, step}
+use Rattle.graph.specs.Steps.{Step, admit, realise, move, finish, join, split, swap, fuse, Change, behind, at, any, anyHits, firstOp, onHead, moveUnit, unitAt, pairAt, joinUnits, maySplit, splitUnit, onSingles, maySwap, swapOps, mayFuse, fuseOps, admitHead, atStation, step}
 use Rattle.graph.specs.Allowed.{fromKey, unitsOf, fromUnit, anyFinishes, singles, firstUnit, firstTwo, rule, allowed, stepTests}
 use Rattle.graph.proofs.Answers.{isDone, isDone-map}
 
@@ -50,17 +50,9 @@ enough : (m n : ℕ) (r : Bool) (k : ℕ) → m ≤ n → by r ≡ k → cond (n
 enough m n r k h e = rw (le-leb m n h) e
 
 -- the head unit
-realise-unit : (n : Node) (u : List Op) → Says (realiseUnit n u) (by (anyHits u n)) (anyHits u n)
-realise-unit n [] = record { number = refl; done = refl }
-realise-unit n (o ∷ os) = says-or (hits o n) (anyHits os n) _ (says-map _ (realise-unit n os))
-
-finish-unit : (n : Node) (last : Bool) (u : List Op) → Says (finishUnit n last u) (by (anyFinishes u n last)) (anyFinishes u n last)
-finish-unit n last [] = record { number = refl; done = refl }
-finish-unit n last (o ∷ os) = says-or (mayFinish o n last) (anyFinishes os n last) _ (says-map _ (finish-unit n last os))
-
-move-unit : {A : Type 0} (b : Bool) (a : A) → Says (cond b (refused 22) (done a)) (by (not b && true)) (not b && true)
-move-unit true a = record { number = refl; done = refl }
-move-unit false a = record { number = refl; done = refl }
+first-says : (p : Op → Bool) (u : List Op) → Says (firstOp p u) (by (any p u)) (any p u)
+first-says p [] = record { number = refl; done = refl }
+first-says p (o ∷ os) = says-or (p o) (any p os) _ (says-map _ (first-says p os))
 
 and-false : (b : Bool) → (b && false) ≡ false
 and-false true = refl
@@ -72,27 +64,27 @@ Here f i needed r = (s : Station) (ss : List Station) → Says (f s ss) (among n
 here-some : {A : Type 0} {x : Answer A} (m n : ℕ) (r : Bool) → m ≤ n → Says x (by r) r → Says x (cond (not (leb m n)) 21 (by r)) r
 here-some m n r h s = record { number = s .number ∙ sym (enough m n r (by r) h refl); done = s .done }
 
+head-says : (f : List Op → List (List Op) → Answer Change) (g : List Op → Bool) → ((u : List Op) (us : List (List Op)) → Says (f u us) (by (g u)) (g u)) → (us : List (List Op)) →
+    Says (onHead f us) (among 1 us (firstUnit g us)) (firstUnit g us)
+head-says f g h [] = record { number = refl; done = refl }
+head-says f g h (u ∷ us) = here-some 1 (suc (length us)) (g u) (omega arith) (h u us)
+
 here-realise : (k : ℕ) → Here (atStation (realise k)) 1 1 (rule (realise k))
-here-realise k s ss = go (s .units)
-  where
-    go : (us : List (List Op)) → Says (realiseAt (s .node) ss us) (among 1 us (firstUnit (λ u. anyHits u (s .node)) us)) (firstUnit (λ u. anyHits u (s .node)) us)
-    go [] = record { number = refl; done = refl }
-    go (u ∷ us) = here-some 1 (suc (length us)) (anyHits u (s .node)) (omega arith) (says-map _ (realise-unit (s .node) u))
+here-realise k s ss = head-says _ (λ u. anyHits u (s .node)) (λ u us. says-map _ (first-says (λ o. hits o (s .node)) u)) (s .units)
 
 here-finish : (k : ℕ) → Here (atStation (finish k)) 1 1 (rule (finish k))
-here-finish k s ss = go (s .units)
+here-finish k s ss = head-says _ (λ u. anyFinishes u (s .node) (isNil ss)) (λ u us. says-map _ (first-says (λ o. mayFinish o (s .node) (isNil ss)) u)) (s .units)
+
+move-says : (n : Node) (u : List Op) (us : List (List Op)) (ss : List Station) → Says (moveUnit n u us ss) (by (not (anyHits u n) && not (isNil ss))) (not (anyHits u n) && not (isNil ss))
+move-says n u us [] = rw (and-false (not (anyHits u n))) (record { number = refl; done = refl })
+move-says n u us (s ∷ ss) = go (anyHits u n) _
   where
-    go : (us : List (List Op)) → Says (finishAt (s .node) ss us) (among 1 us (firstUnit (λ u. anyFinishes u (s .node) (isNil ss)) us)) (firstUnit (λ u. anyFinishes u (s .node) (isNil ss)) us)
-    go [] = record { number = refl; done = refl }
-    go (u ∷ us) = here-some 1 (suc (length us)) (anyFinishes u (s .node) (isNil ss)) (omega arith) (says-map _ (finish-unit (s .node) (isNil ss) u))
+    go : {A : Type 0} (b : Bool) (a : A) → Says (cond b (refused 22) (done a)) (by (not b && true)) (not b && true)
+    go true a = record { number = refl; done = refl }
+    go false a = record { number = refl; done = refl }
 
 here-move : (k : ℕ) → Here (atStation (move k)) 1 1 (rule (move k))
-here-move k s ss = go (s .units) ss
-  where
-    go : (us : List (List Op)) (ss : List Station) → Says (moveAt (s .node) ss us) (among 1 us (firstUnit (λ u. not (anyHits u (s .node)) && not (isNil ss)) us)) (firstUnit (λ u. not (anyHits u (s .node)) && not (isNil ss)) us)
-    go [] ss = record { number = refl; done = refl }
-    go (u ∷ us) [] = here-some 1 (suc (length us)) (not (anyHits u (s .node)) && false) (omega arith) (rw (and-false (not (anyHits u (s .node)))) (record { number = refl; done = refl }))
-    go (u ∷ us) (t ∷ ts) = here-some 1 (suc (length us)) (not (anyHits u (s .node)) && true) (omega arith) (move-unit (anyHits u (s .node)) _)
+here-move k s ss = head-says _ (λ u. not (anyHits u (s .node)) && not (isNil ss)) (λ u us. move-says (s .node) u us ss) (s .units)
 
 -- numbered units
 unit-says : (i : ℕ) (f : List Op → Answer (List (List Op))) (g : List Op → Bool) → ((u : List Op) → Says (f u) (by (g u)) (g u)) → (us : List (List Op)) →

@@ -12,15 +12,12 @@ use Rattle.graph.specs.Nodes.{Result}
 use Rattle.graph.specs.OneAtATime.{labelled}
 use Rattle.graph.specs.Sessions.{Session, pending, live, addsIn}
 
--- "13 an add after 64 accepted (nodes and waiting adds); 14 a call while 64 are live; 15 a call after 65,535 accepted",
--- after the tests of the form
+-- "13 an add after 64 accepted (nodes and waiting adds); 14 a call while 64 are live; 15 a call after 65,535 accepted"
+abbrev pub roomTests : Call → (adds live accepted : ℕ) → List Test
+roomTests c adds live accepted = on (isAdd c && leb 64 adds) 13 ∷ on (leb 64 live) 14 ∷ on (leb 65535 accepted) 15 ∷ []
+
 abbrev pub callTests : Call → Session → List Test
-callTests c s =
-    formTests c
-    ++ (on (isAdd c && leb 64 (length (s .stations) + addsIn (s .topStream))) 13
-    ∷ on (leb 64 (length (live s))) 14
-    ∷ on (leb 65535 (s .last)) 15
-    ∷ [])
+callTests c s = formTests c ++ roomTests c (length (s .stations) + addsIn (s .topStream)) (length (live s)) (s .last)
 
 -- the call at the end of the top stream, with the next label, which is the answer
 abbrev pub accepted : Call → Session → Session

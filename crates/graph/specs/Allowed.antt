@@ -11,7 +11,7 @@ use Rattle.graph.specs.Refusals.{Test, on}
 use Rattle.graph.specs.KeyLists.{isNil}
 use Rattle.graph.specs.Nodes.{Node, Op, mayFinish}
 use Rattle.graph.specs.Sessions.{Station, Session}
-use Rattle.graph.specs.Steps.{Step, admit, realise, move, finish, join, split, swap, fuse, anyHits, maySplit, maySwap, mayFuse}
+use Rattle.graph.specs.Steps.{Step, admit, realise, move, finish, join, split, swap, fuse, any, anyHits, maySplit, maySwap, mayFuse}
 
 -- the stations from the one with this key on: none where no node has it
 abbrev pub fromKey : ℕ → List Station → List Station
@@ -29,9 +29,9 @@ fromUnit (suc zero) us = us
 fromUnit (suc (suc i)) [] = []
 fromUnit (suc (suc i)) (u ∷ us) = fromUnit (suc i) us
 
+-- may any operation of the unit finish at this node?
 abbrev pub anyFinishes : List Op → Node → Bool → Bool
-anyFinishes [] n last = false
-anyFinishes (o ∷ os) n last = mayFinish o n last || anyFinishes os n last
+anyFinishes u n last = any (λ o. mayFinish o n last) u
 
 -- a test of two neighbouring units that have one operation each
 abbrev pub singles : (Op → Op → Bool) → List Op → List Op → Bool

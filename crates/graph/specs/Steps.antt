@@ -41,26 +41,40 @@ abbrev pub at : ℕ → (Station → List Station → Answer Change) → List St
 at k f [] = refused 20
 at k f (s ∷ ss) = cond (eqb (s .node .key) k) (f s ss) (mapDone (behind s) (at k f ss))
 
+-- is there one that p holds of?
+module _ {A : Type 0} where
+  abbrev pub any : (A → Bool) → List A → Bool
+  any p [] = false
+  any p (x ∷ xs) = p x || any p xs
+
 -- does any operation of the unit target this node?
 abbrev pub anyHits : List Op → Node → Bool
-anyHits [] n = false
-anyHits (o ∷ os) n = hits o n || anyHits os n
+anyHits u n = any (λ o. hits o n) u
+
+-- the first operation of a unit that p holds of, with those before and after it; 22: "the step isn't allowed there"
+pub record FirstOp : Type 0 where
+  pub before : List Op
+  pub op : Op
+  pub after : List Op
+
+abbrev pub firstOp : (Op → Bool) → List Op → Answer FirstOp
+firstOp p [] = refused 22
+firstOp p (o ∷ os) =
+    cond (p o) (done (record { before = []; op = o; after = os }))
+    (mapDone (λ f. record { before = o ∷ f .before; op = f .op; after = f .after }) (firstOp p os))
+
+-- a step on the head unit, which is unit number 1; 21: "no unit of that number"
+abbrev pub onHead : (List Op → List (List Op) → Answer Change) → List (List Op) → Answer Change
+onHead f [] = refused 21
+onHead f (u ∷ us) = f u us
 
 -- REALISE (document 000: MAP, FOLD): "in the head unit, the first operation that targets this node acts and strikes the
 -- key. Allowed where there is one."
-pub record Realised : Type 0 where
-  pub node : Node
-  pub unit : List Op
-
-abbrev pub realiseUnit : Node → List Op → Answer Realised
-realiseUnit n [] = refused 22
-realiseUnit n (o ∷ os) =
-    cond (hits o n) (done (record { node = actOn o n; unit = actBy o n ∷ os }))
-    (mapDone (λ r. record { node = r .node; unit = o ∷ r .unit }) (realiseUnit n os))
+abbrev pub afterRealise : Node → List (List Op) → List Station → FirstOp → Change
+afterRealise n us ss f = only (station (actOn (f .op) n) ((f .before ++ (actBy (f .op) n ∷ f .after)) ∷ us) ∷ ss)
 
 abbrev pub realiseAt : Node → List Station → List (List Op) → Answer Change
-realiseAt n ss [] = refused 21
-realiseAt n ss (u ∷ us) = mapDone (λ r. only (station (r .node) (r .unit ∷ us) ∷ ss)) (realiseUnit n u)
+realiseAt n ss = onHead (λ u us. mapDone (afterRealise n us ss) (firstOp (λ o. hits o n) u))
 
 -- MOVE (PROP): "the head unit goes to the next station's tail. Allowed where no operation in it targets this node and the
 -- station isn't last."
@@ -72,28 +86,19 @@ moveUnit n u us [] = refused 22
 moveUnit n u us (s ∷ ss) = cond (anyHits u n) (refused 22) (done (only (station n us ∷ atTail u s ∷ ss)))
 
 abbrev pub moveAt : Node → List Station → List (List Op) → Answer Change
-moveAt n ss [] = refused 21
-moveAt n ss (u ∷ us) = moveUnit n u us ss
+moveAt n ss = onHead (λ u us. moveUnit n u us ss)
 
 -- FINISH (COMPLETE, LAST): "in the head unit, the first operation that has no targets left, or, at the last station,
 -- doesn't target this node, stores its result and goes; allowed where there is one. An emptied unit goes too."
-pub record Finished : Type 0 where
-  pub op : Op
-  pub others : List Op
-
-abbrev pub finishUnit : Node → Bool → List Op → Answer Finished
-finishUnit n last [] = refused 22
-finishUnit n last (o ∷ os) =
-    cond (mayFinish o n last) (done (record { op = o; others = os }))
-    (mapDone (λ f. record { op = f .op; others = o ∷ f .others }) (finishUnit n last os))
-
 abbrev pub putUnit : List Op → List (List Op) → List (List Op)
 putUnit [] us = us
 putUnit (o ∷ os) us = (o ∷ os) ∷ us
 
+abbrev pub afterFinish : Node → List (List Op) → List Station → FirstOp → Change
+afterFinish n us ss f = record { now = station n (putUnit (f .before ++ f .after) us) ∷ ss; gone = stored (f .op) }
+
 abbrev pub finishAt : Node → List Station → List (List Op) → Answer Change
-finishAt n ss [] = refused 21
-finishAt n ss (u ∷ us) = mapDone (λ f. record { now = station n (putUnit (f .others) us) ∷ ss; gone = stored (f .op) }) (finishUnit n (isNil ss) u)
+finishAt n ss = onHead (λ u us. mapDone (afterFinish n us ss) (firstOp (λ o. mayFinish o n (isNil ss)) u))
 
 -- a step on unit number i, and on units i and i + 1; 21: "no unit of that number, or no unit after it where two are needed"
 abbrev pub unitAt : ℕ → (List Op → Answer (List (List Op))) → List (List Op) → Answer (List (List Op))

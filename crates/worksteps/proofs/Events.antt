@@ -9,14 +9,14 @@ use mathlib.Core.Option.{Option, none, some}
 use lib.Dec.{eqb, leb, ltb}
 use lib.ListN.{length, length-append}
 use borrow.Author.Tests.{ne-eqb, lt-ltb}
-use Rattle.graph.specs.Refusals.{Answer, refused, done, mapDone, Test, on, unless}
+use Rattle.graph.specs.Refusals.{Answer, refused, done, mapDone, Test, unless}
 use Rattle.graph.specs.KeyLists.{contains}
-use Rattle.graph.specs.Calls.{Call, isAdd, formTests}
+use Rattle.graph.specs.Calls.{Call, formTests}
 use Rattle.graph.specs.Nodes.{Op, Result}
 use Rattle.graph.specs.OneAtATime.{Labelled, addOf, opOf, labelled}
 use Rattle.graph.specs.Sessions.{Station, Session, labelsOfUnit, labelsOfUnits, labelsOfStations, labelsOfCalls, labelsOfResults, pending, live, addsIn}
 use Rattle.graph.specs.Steps.{Step, admit, realise, move, finish, step}
-use Rattle.graph.specs.Acceptance.{callTests, accepted, accept, takeResult, claim}
+use Rattle.graph.specs.Acceptance.{roomTests, callTests, accepted, accept, takeResult, claim}
 use Rattle.graph.specs.Drain.{orHere, backmost, Taken, taking, orElse, drainStepAt, drainStep}
 use Rattle.graph.specs.Valid.{count, Valid}
 use Rattle.graph.proofs.Outcome.{sum}
@@ -133,7 +133,7 @@ accepted-same c s i =
     flatSession (nodesOf (s .stations)) ((append-assoc (queueOf (s .stations)) (waiting (s .topStream)) (waiting (labelled c (suc (s .last)) ∷ [])) ∙ ap (λ (z : List Tagged). queueOf (s .stations) ++ z) (sym (waiting-append (s .topStream) (labelled c (suc (s .last)) ∷ [])))) i) (s .results) (suc (s .last))
 
 tests-same : (c : Call) (s : Session) → flatTests c (flat s) ≡ callTests c s
-tests-same c s i = formTests c ++ (on (isAdd c && leb 64 (adds-same s i)) 13 ∷ on (leb 64 (live-same s i)) 14 ∷ on (leb 65535 (s .last)) 15 ∷ [])
+tests-same c s i = formTests c ++ roomTests c (adds-same s i) (live-same s i) (s .last)
 
 unless-map : {A B : Type 0} (g : A → B) (ts : List Test) (a : A) → unless ts (g a) ≡ mapDone g (unless ts a)
 unless-map g [] a = refl

@@ -13,13 +13,14 @@ use Rattle.graph.specs.Refusals.{Answer, refused, done, mapDone}
 use Rattle.graph.specs.KeyLists.{isNil, contains}
 use Rattle.graph.specs.Nodes.{Node, Op, Result, hits, actOn, actBy, mayFinish, stored}
 use Rattle.graph.specs.Sessions.{Station, station, Session, store}
-use Rattle.graph.specs.Steps.{Change, only, anyHits, moveAt, realiseUnit, realiseAt, finishUnit, finishAt, putUnit, move, realise, finish, step}
+use Rattle.graph.specs.Steps.{Change, only, any, anyHits, FirstOp, firstOp, moveAt, afterRealise, realiseAt, afterFinish, finishAt, putUnit, move, realise, finish, step}
 use Rattle.graph.proofs.Answers.{eqb-same}
 use Rattle.queue.specs.Flat.{Tagged, Flat, standing, tagUnit, tagUnits, queueOf, nodesOf, flat, find, atPlace, Full, Keyed}
 use Rattle.queue.proofs.Places.{No, no-append, find-none, find-at, drop-past, drop-mid, slice-mid, no-queue, beyond-below, length-nodes, ends-units, is-at, end-of}
 use Rattle.queue.proofs.Nesting.{flatSession}
-use Rattle.worksteps.specs.FlatSteps.{any, alter, removeAt, mapFrom, firstIn, noOp, noNode, moveTo, openAs, withOp, opIn, hitsKey, onHead, headUnit, moveFlat, actAt, realiseFrom, realiseFlat, finishesAt, takeOut, finishPlace, finishFrom, finishFlat, flatStep}
+use Rattle.worksteps.specs.FlatSteps.{alter, removeAt, mapFrom, firstIn, noOp, noNode, moveTo, openAs, withOp, opIn, hitsKey, unitFrom, headUnit, onPlace, onFirst, moveFlat, actAt, actFlat, realiseFlat, finishesAt, takeOut, finishPlace, leaveFlat, finishFlat, flatStep}
 use Rattle.worksteps.proofs.Focus.{put, back, Agrees, step-focus}
+use Rattle.worksteps.proofs.UnitPlaces.{unit-none, unit-here, start}
 
 module _ {A : Type 0} where
   mapFrom-mid : (f : A → A) (a b c : List A) → mapFrom f (length a) (length (a ++ b)) (a ++ (b ++ c)) ≡ a ++ (map f b ++ c)
@@ -27,16 +28,6 @@ module _ {A : Type 0} where
 
 pub regroup : (B U T A : List Tagged) → (B ++ (U ++ T)) ++ A ≡ B ++ (U ++ (T ++ A))
 regroup B U T A = append-assoc B (U ++ T) A ∙ ap (λ (x : List Tagged). B ++ x) (append-assoc U T A)
-
-module _ (k : ℕ) (g : ℕ → ℕ → Flat → Answer Flat) where
-  pub head-none : (ns : List Node) (q : List Tagged) (rs : List Result) (l : ℕ) → No (atPlace k) q → headUnit k g (flatSession ns q rs l) ≡ refused 21
-  head-none ns q rs l h = ap (λ (p : ℕ). onHead k g p (flatSession ns q rs l)) (find-none (atPlace k) q h) ∙ rw (drop-length q)
-
-  pub head-unit : (ns : List Node) (B : List Tagged) (o : Op) (os : List Op) (us : List (List Op)) (A : List Tagged) (rs : List Result) (l : ℕ) → No (atPlace k) B → No (atPlace k) A → Full us
-      → headUnit k g (flatSession ns (B ++ (tagUnit k true (o ∷ os) ++ (tagUnits k us ++ A))) rs l) ≡ g (length B) (length (B ++ tagUnit k true (o ∷ os))) (flatSession ns (B ++ (tagUnit k true (o ∷ os) ++ (tagUnits k us ++ A))) rs l)
-  head-unit ns B o os us A rs l b a F =
-      ap (λ (p : ℕ). onHead k g p (flatSession ns (B ++ (tagUnit k true (o ∷ os) ++ (tagUnits k us ++ A))) rs l)) (find-at (atPlace k) B (standing k true o) (tagUnit k false os ++ (tagUnits k us ++ A)) b (eqb-same k))
-      ∙ rw (is-at k true B o (tagUnit k false os ++ (tagUnits k us ++ A)), end-of k B true o os (tagUnits k us ++ A) (ends-units k us A F a))
 
 module _ (k : ℕ) (g : ℕ → ℕ → Flat → Answer Flat) (F : Node → List Station → List (List Op) → Answer Change) (rs : List Result) (l : ℕ) where
   -- the two steps agree on a head unit
@@ -48,13 +39,20 @@ module _ (k : ℕ) (g : ℕ → ℕ → Flat → Answer Flat) (F : Node → List
   module _ (nil : (n : Node) (ss : List Station) → F n ss [] ≡ refused 21) (h : UnitAgrees) where
     heads : (N : List Node) (A : List Tagged) (n : Node) (us : List (List Op)) (ss : List Station) → n .key ≡ k → k ≡ suc (length ss) → Full us → Keyed ss → No (atPlace k) A
         → headUnit k g (put N A rs l (station n us ∷ ss)) ≡ mapDone (back N A rs l) (F n ss us)
-    heads N A n [] ss e d f K a = rw (nil n ss) (head-none k g ((nodesOf ss ++ (n ∷ [])) ++ N) ((queueOf ss ++ []) ++ A) rs l (no-append (atPlace k) (queueOf ss ++ []) A (no-append (atPlace k) (queueOf ss) [] (no-queue k ss K (beyond-below k ss (omega arith))) tt) a))
-    heads N A n ([] ∷ us) ss e d f K a = absurd (true≢false (f .0))
-    heads N A n ((o ∷ os) ∷ us) ss e d f K a =
-        ap (λ (j : ℕ). headUnit k g (flatSession ((nodesOf ss ++ (n ∷ [])) ++ N) ((queueOf ss ++ (tagUnit j true (o ∷ os) ++ tagUnits j us)) ++ A) rs l)) e
-        ∙ ap (λ (q : List Tagged). headUnit k g (flatSession ((nodesOf ss ++ (n ∷ [])) ++ N) q rs l)) (regroup (queueOf ss) (tagUnit k true (o ∷ os)) (tagUnits k us) A)
-        ∙ head-unit k g _ (queueOf ss) o os us A rs l (no-queue k ss K (beyond-below k ss (omega arith))) a (f .1)
-        ∙ h N A n o os us ss e d K
+    heads N A n us ss e d f K a =
+        let ns : List Node = (nodesOf ss ++ (n ∷ [])) ++ N in
+        let b : No (atPlace k) (queueOf ss) = no-queue k ss K (beyond-below k ss (omega arith)) in
+        ap (λ (q : List Tagged). headUnit k g (flatSession ns q rs l)) (append-assoc (queueOf ss) (tagUnits (n .key) us) A ∙ ap (λ (j : ℕ). queueOf ss ++ (tagUnits j us ++ A)) e)
+        ∙ start k (λ h e q. g h e (flatSession ns (queueOf ss ++ (tagUnits k us ++ A)) rs l)) 1 (queueOf ss) A us f b a
+        ∙ here us f
+      where
+        here : (us : List (List Op)) → Full us → unitFrom k (λ h e q. g h e (flatSession ((nodesOf ss ++ (n ∷ [])) ++ N) (queueOf ss ++ (tagUnits k us ++ A)) rs l)) 1 (length (queueOf ss)) (queueOf ss ++ (tagUnits k us ++ A)) ≡ mapDone (back N A rs l) (F n ss us)
+        here [] f = rw (nil n ss) (unit-none k (λ h e q. g h e (flatSession ((nodesOf ss ++ (n ∷ [])) ++ N) (queueOf ss ++ A) rs l)) 1 (queueOf ss) A a)
+        here ([] ∷ us) f = absurd (true≢false (f .0))
+        here ((o ∷ os) ∷ us) f =
+            ap (λ (q : List Tagged). unitFrom k (λ h e z. g h e (flatSession ((nodesOf ss ++ (n ∷ [])) ++ N) (queueOf ss ++ q) rs l)) 1 (length (queueOf ss)) (queueOf ss ++ q)) (append-assoc (tagUnit k true (o ∷ os)) (tagUnits k us) A)
+            ∙ unit-here k (λ h e q. g h e (flatSession ((nodesOf ss ++ (n ∷ [])) ++ N) (queueOf ss ++ (tagUnit k true (o ∷ os) ++ (tagUnits k us ++ A))) rs l)) (queueOf ss) o os us A (f .1) a
+            ∙ h N A n o os us ss e d K
 
     pub head-agrees : Agrees k (headUnit k g) (λ s ss. F (s .node) ss (s .units)) rs l
     head-agrees N A s ss e K a = heads N A (s .node) (s .units) ss e (sym e ∙ K .0) (K .1 .0) (K .1 .1) a
@@ -147,65 +145,80 @@ regroup-at B X y Y R = simp append-assoc
 pub before-end : (B X : List Tagged) (y : Tagged) (Y : List Tagged) → length (B ++ X) < length (B ++ (X ++ (y ∷ Y)))
 before-end B X y Y = simp length-append (omega arith)
 
--- REALISE
-realiseUnit-found : (n : Node) (a : List Op) (o : Op) (b : List Op) → No (λ o. hits o n) a → hits o n ≡ true → realiseUnit n (a ++ (o ∷ b)) ≡ done (record { node = actOn o n; unit = a ++ (actBy o n ∷ b) })
-realiseUnit-found n [] o b h e = rw e
-realiseUnit-found n (x ∷ a) o b h e = rw (h .0, realiseUnit-found n a o b (h .1) e)
+first-found : (P : Op → Bool) (a : List Op) (o : Op) (b : List Op) → No P a → P o ≡ true → firstOp P (a ++ (o ∷ b)) ≡ done (record { before = a; op = o; after = b })
+first-found P [] o b h e = rw e
+first-found P (x ∷ a) o b h e = rw (h .0, first-found P a o b (h .1) e)
 
-realiseUnit-none : (n : Node) (u : List Op) → No (λ o. hits o n) u → realiseUnit n u ≡ refused 22
-realiseUnit-none n [] h = refl
-realiseUnit-none n (x ∷ a) h = rw (h .0, realiseUnit-none n a (h .1))
+first-refused : (P : Op → Bool) (u : List Op) → No P u → firstOp P u ≡ refused 22
+first-refused P [] h = refl
+first-refused P (x ∷ a) h = rw (h .0, first-refused P a (h .1))
 
-realise-at : (k e p : ℕ) (C : List Node) (n : Node) (N : List Node) (D : List Tagged) (y : Tagged) (E : List Tagged) (rs : List Result) (l : ℕ) → p ≡ length D → p < e → k - 1 ≡ length C
-    → realiseFrom k e p (flatSession (C ++ (n ∷ N)) (D ++ (y ∷ E)) rs l) ≡ done (flatSession (C ++ (actOn (opIn y) n ∷ N)) (D ++ (withOp y (actBy (opIn y) n) ∷ E)) rs l)
-realise-at k e p C n N D y E rs l d lt c =
-    ap (λ (b : Bool). cond b (done (actAt k p (getD (D ++ (y ∷ E)) p noOp) (getD (C ++ (n ∷ N)) (k - 1) noNode) (flatSession (C ++ (n ∷ N)) (D ++ (y ∷ E)) rs l))) (refused 22)) (lt-ltb p e lt)
-    ∙ (λ i. done (actAt k p (getD-at D y E noOp p (sym d) i) (getD-at C n N noNode (k - 1) (sym c) i) (flatSession (C ++ (n ∷ N)) (D ++ (y ∷ E)) rs l)))
-    ∙ (λ i. done (flatSession (set-at C n N (actOn (opIn y) n) (k - 1) (sym c) i) (set-at D y E (withOp y (actBy (opIn y) n)) p (sym d) i) rs l))
+-- the two steps agree on the first that a rule holds of
+module _ (k : ℕ) (rs : List Result) (l : ℕ) (N : List Node) (A : List Tagged) (n : Node) (us : List (List Op)) (ss : List Station) (P : Op → Bool) (Q : Tagged → Bool) (same : (d : Bool) (o : Op) → P o ≡ Q (standing k d o)) (g : ℕ → ℕ → Flat → Flat) (G : FirstOp → Change) where
+  abbrev FoundAgrees : Type 0
+  FoundAgrees = (a : List Op) (o : Op) (b : List Op)
+      → g (length (queueOf ss ++ tagUnit k true a)) (length (queueOf ss ++ (tagUnit k true a ++ (standing k (isNil a) o ∷ tagUnit k false b))))
+      (flatSession ((nodesOf ss ++ (n ∷ [])) ++ N) ((queueOf ss ++ tagUnit k true a) ++ (standing k (isNil a) o ∷ (tagUnit k false b ++ (tagUnits k us ++ A)))) rs l)
+      ≡ back N A rs l (G (record { before = a; op = o; after = b }))
 
-pub regroup-key : (j k : ℕ) → j ≡ k → (B : List Tagged) (u : List Op) (us : List (List Op)) (A : List Tagged) → B ++ (tagUnit k true u ++ (tagUnits k us ++ A)) ≡ (B ++ (tagUnit j true u ++ tagUnits j us)) ++ A
-regroup-key j k e B u us A = sym (regroup B (tagUnit k true u) (tagUnits k us) A) ∙ ap (λ (j : ℕ). (B ++ (tagUnit j true u ++ tagUnits j us)) ++ A) (sym e)
-
-module _ (k : ℕ) (rs : List Result) (l : ℕ) (N : List Node) (A : List Tagged) (n : Node) (us : List (List Op)) (ss : List Station) (key : n .key ≡ k) (stands : k ≡ suc (length ss)) where
-  realise-first : {u : List Op} → First (λ o. hits o n) u
-      → realiseFlat k (length (queueOf ss)) (length (queueOf ss ++ tagUnit k true u)) (flatSession ((nodesOf ss ++ (n ∷ [])) ++ N) (queueOf ss ++ (tagUnit k true u ++ (tagUnits k us ++ A))) rs l)
-      ≡ mapDone (back N A rs l) (realiseAt n ss (u ∷ us))
-  realise-first (none u h) =
-      rw (realiseUnit-none n u h)
-      (ap (λ (p : ℕ). realiseFrom k (length (queueOf ss ++ tagUnit k true u)) p (flatSession ((nodesOf ss ++ (n ∷ [])) ++ N) (queueOf ss ++ (tagUnit k true u ++ (tagUnits k us ++ A))) rs l))
-      (first-none (hitsKey k) (queueOf ss) (tagUnit k true u) (tagUnits k us ++ A) (no-tagged (λ o. hits o n) (hitsKey k) k true (λ d o. ap (λ (j : ℕ). contains j (o .targets)) key) u h))
-      ∙ rw (le-ltb (length (queueOf ss ++ tagUnit k true u)) (length (queueOf ss ++ tagUnit k true u)) (omega arith)))
-  realise-first (found a o b h e) =
+  first-agrees : FoundAgrees → {u : List Op} → First P u
+      → onFirst Q g (length (queueOf ss)) (length (queueOf ss ++ tagUnit k true u)) (flatSession ((nodesOf ss ++ (n ∷ [])) ++ N) (queueOf ss ++ (tagUnit k true u ++ (tagUnits k us ++ A))) rs l)
+      ≡ mapDone (back N A rs l) (mapDone G (firstOp P u))
+  first-agrees f (none u h) =
+      let B : List Tagged = queueOf ss in
+      let U : List Tagged = tagUnit k true u in
+      let R : List Tagged = tagUnits k us ++ A in
+      let s : Flat = flatSession ((nodesOf ss ++ (n ∷ [])) ++ N) (B ++ (U ++ R)) rs l in
+      rw (first-refused P u h)
+      (ap (λ (p : ℕ). onPlace g (length (B ++ U)) p s) (first-none Q B U R (no-tagged P Q k true same u h)) ∙ rw (le-ltb (length (B ++ U)) (length (B ++ U)) (omega arith)))
+  first-agrees f (found a o b h e) =
       let B : List Tagged = queueOf ss in
       let X : List Tagged = tagUnit k true a in
       let y : Tagged = standing k (isNil a) o in
       let Y : List Tagged = tagUnit k false b in
       let R : List Tagged = tagUnits k us ++ A in
       let ns : List Node = (nodesOf ss ++ (n ∷ [])) ++ N in
-      rw (realiseUnit-found n a o b h e)
-      (ap (λ (U : List Tagged). realiseFlat k (length B) (length (B ++ U)) (flatSession ns (B ++ (U ++ R)) rs l)) (ops-split k true a o b)
-      ∙ ap (λ (p : ℕ). realiseFrom k (length (B ++ (X ++ (y ∷ Y)))) p (flatSession ns (B ++ ((X ++ (y ∷ Y)) ++ R)) rs l))
-      (first-at (hitsKey k) B X y Y R (no-tagged (λ o. hits o n) (hitsKey k) k true (λ d o. ap (λ (j : ℕ). contains j (o .targets)) key) a h) (ap (λ (j : ℕ). contains j (o .targets)) (sym key) ∙ e))
-      ∙ (λ i. realiseFrom k (length (B ++ (X ++ (y ∷ Y)))) (length (B ++ X)) (flatSession (append-assoc (nodesOf ss) (n ∷ []) N i) (regroup-at B X y Y R i) rs l))
-      ∙ realise-at k (length (B ++ (X ++ (y ∷ Y)))) (length (B ++ X)) (nodesOf ss) n N (B ++ X) y (Y ++ R) rs l refl (before-end B X y Y) (omega (arith, length-nodes ss))
-      ∙ (λ i. done (flatSession (sym (append-assoc (nodesOf ss) (actOn o n ∷ []) N) i)
-      ((sym (regroup-at B X (withOp y (actBy (opIn y) n)) Y R) ∙ ap (λ (U : List Tagged). B ++ (U ++ R)) (sym (ops-split k true a (actBy o n) b)) ∙ regroup-key (n .key) k key B (a ++ (actBy o n ∷ b)) us A) i) rs l)))
+      rw (first-found P a o b h e)
+      (ap (λ (U : List Tagged). onFirst Q g (length B) (length (B ++ U)) (flatSession ns (B ++ (U ++ R)) rs l)) (ops-split k true a o b)
+      ∙ ap (λ (p : ℕ). onPlace g (length (B ++ (X ++ (y ∷ Y)))) p (flatSession ns (B ++ ((X ++ (y ∷ Y)) ++ R)) rs l))
+      (first-at Q B X y Y R (no-tagged P Q k true same a h) (sym (same (isNil a) o) ∙ e))
+      ∙ ap (λ (q : List Tagged). onPlace g (length (B ++ (X ++ (y ∷ Y)))) (length (B ++ X)) (flatSession ns q rs l)) (regroup-at B X y Y R)
+      ∙ rw (lt-ltb (length (B ++ X)) (length (B ++ (X ++ (y ∷ Y)))) (before-end B X y Y)) (ap done (f a o b)))
+
+-- REALISE
+act-at : (k p : ℕ) (C : List Node) (n : Node) (N : List Node) (D : List Tagged) (y : Tagged) (E : List Tagged) (rs : List Result) (l : ℕ) → p ≡ length D → k - 1 ≡ length C
+    → actAt k p (getD (D ++ (y ∷ E)) p noOp) (getD (C ++ (n ∷ N)) (k - 1) noNode) (flatSession (C ++ (n ∷ N)) (D ++ (y ∷ E)) rs l) ≡ flatSession (C ++ (actOn (opIn y) n ∷ N)) (D ++ (withOp y (actBy (opIn y) n) ∷ E)) rs l
+act-at k p C n N D y E rs l d c =
+    (λ i. actAt k p (getD-at D y E noOp p (sym d) i) (getD-at C n N noNode (k - 1) (sym c) i) (flatSession (C ++ (n ∷ N)) (D ++ (y ∷ E)) rs l))
+    ∙ (λ i. flatSession (set-at C n N (actOn (opIn y) n) (k - 1) (sym c) i) (set-at D y E (withOp y (actBy (opIn y) n)) p (sym d) i) rs l)
+
+pub regroup-key : (j k : ℕ) → j ≡ k → (B : List Tagged) (u : List Op) (us : List (List Op)) (A : List Tagged) → B ++ (tagUnit k true u ++ (tagUnits k us ++ A)) ≡ (B ++ (tagUnit j true u ++ tagUnits j us)) ++ A
+regroup-key j k e B u us A = sym (regroup B (tagUnit k true u) (tagUnits k us) A) ∙ ap (λ (j : ℕ). (B ++ (tagUnit j true u ++ tagUnits j us)) ++ A) (sym e)
+
+module _ (k : ℕ) (rs : List Result) (l : ℕ) where
+  realise-first : UnitAgrees k (realiseFlat k) realiseAt rs l
+  realise-first N A n o os us ss key stands K =
+      first-agrees k rs l N A n us ss (λ o. hits o n) (hitsKey k) (λ d o. ap (λ (j : ℕ). contains j (o .targets)) key) (actFlat k) (afterRealise n us ss) acted (first (λ o. hits o n) (o ∷ os))
+    where
+      acted : FoundAgrees k rs l N A n us ss (λ o. hits o n) (hitsKey k) (λ d o. ap (λ (j : ℕ). contains j (o .targets)) key)
+          (actFlat k) (afterRealise n us ss)
+      acted a o b =
+          let D : List Tagged = queueOf ss ++ tagUnit k true a in
+          let y : Tagged = standing k (isNil a) o in
+          let Y : List Tagged = tagUnit k false b in
+          let R : List Tagged = tagUnits k us ++ A in
+          ap (λ (ns : List Node). actAt k (length D) (getD (D ++ (y ∷ (Y ++ R))) (length D) noOp) (getD ns (k - 1) noNode) (flatSession ns (D ++ (y ∷ (Y ++ R))) rs l)) (append-assoc (nodesOf ss) (n ∷ []) N)
+          ∙ act-at k (length D) (nodesOf ss) n N D y (Y ++ R) rs l refl (omega (arith, length-nodes ss))
+          ∙ (λ i. flatSession (sym (append-assoc (nodesOf ss) (actOn o n ∷ []) N) i)
+          ((sym (regroup-at (queueOf ss) (tagUnit k true a) (withOp y (actBy (opIn y) n)) Y R) ∙ ap (λ (U : List Tagged). queueOf ss ++ (U ++ R)) (sym (ops-split k true a (actBy o n) b)) ∙ regroup-key (n .key) k key (queueOf ss) (a ++ (actBy o n ∷ b)) us A) i) rs l)
 
 pub realise-agrees : (k : ℕ) (rs : List Result) (l : ℕ) → Agrees k (headUnit k (realiseFlat k)) (λ s ss. realiseAt (s .node) ss (s .units)) rs l
-realise-agrees k rs l = head-agrees k (realiseFlat k) realiseAt rs l (λ n ss. refl) (λ N A n o os us ss e d K. realise-first k rs l N A n us ss e d (first (λ o. hits o n) (o ∷ os)))
+realise-agrees k rs l = head-agrees k (realiseFlat k) realiseAt rs l (λ n ss. refl) (realise-first k rs l)
 
 pub realise-bridge : (k : ℕ) (s : Session) → Keyed (s .stations) → length (s .stations) ≤ 64 → flatStep (realise k) (flat s) ≡ mapDone flat (step (realise k) s)
 realise-bridge k s K room = step-focus k (headUnit k (realiseFlat k)) (λ s ss. realiseAt (s .node) ss (s .units)) s K room (realise-agrees k (s .results) (s .last))
 
 -- FINISH
-finishUnit-found : (n : Node) (ss : List Station) (a : List Op) (o : Op) (b : List Op) → No (λ o. mayFinish o n (isNil ss)) a → mayFinish o n (isNil ss) ≡ true → finishUnit n (isNil ss) (a ++ (o ∷ b)) ≡ done (record { op = o; others = a ++ b })
-finishUnit-found n ss [] o b h e = rw e
-finishUnit-found n ss (x ∷ a) o b h e = rw (h .0, finishUnit-found n ss a o b (h .1) e)
-
-finishUnit-none : (n : Node) (ss : List Station) (u : List Op) → No (λ o. mayFinish o n (isNil ss)) u → finishUnit n (isNil ss) u ≡ refused 22
-finishUnit-none n ss [] h = refl
-finishUnit-none n ss (x ∷ a) h = rw (h .0, finishUnit-none n ss a (h .1))
-
 last-key : (k : ℕ) (ss : List Station) → k ≡ suc (length ss) → isNil ss ≡ eqb k 1
 last-key k [] d = sym (eq-eqb k 1 d)
 last-key k (s ∷ ss) d = sym (ne-eqb k 1 (λ e. omega arith))
@@ -244,39 +257,25 @@ out-at k B a o (x ∷ b) R =
     ∙ sym (regroup-at B X (standing k (isNil a) x) Y R)
     ∙ ap (λ (U : List Tagged). B ++ (U ++ R)) (sym (ops-split k true a x b)))
 
-finish-at : (e p : ℕ) (ns : List Node) (D : List Tagged) (y : Tagged) (E : List Tagged) (rs : List Result) (l : ℕ) → p ≡ length D → p < e
-    → finishFrom e p (flatSession ns (D ++ (y ∷ E)) rs l) ≡ done (flatSession ns (takeOut p e y (D ++ (y ∷ E))) (store (stored (opIn y)) rs) l)
-finish-at e p ns D y E rs l d lt =
-    ap (λ (b : Bool). cond b (done (finishPlace p e (getD (D ++ (y ∷ E)) p noOp) (flatSession ns (D ++ (y ∷ E)) rs l))) (refused 22)) (lt-ltb p e lt)
-    ∙ (λ i. done (finishPlace p e (getD-at D y E noOp p (sym d) i) (flatSession ns (D ++ (y ∷ E)) rs l)))
-
-module _ (k : ℕ) (rs : List Result) (l : ℕ) (N : List Node) (A : List Tagged) (n : Node) (us : List (List Op)) (ss : List Station) (key : n .key ≡ k) (stands : k ≡ suc (length ss)) where
-  finish-first : {u : List Op} → First (λ o. mayFinish o n (isNil ss)) u
-      → finishFlat k (length (queueOf ss)) (length (queueOf ss ++ tagUnit k true u)) (flatSession ((nodesOf ss ++ (n ∷ [])) ++ N) (queueOf ss ++ (tagUnit k true u ++ (tagUnits k us ++ A))) rs l)
-      ≡ mapDone (back N A rs l) (finishAt n ss (u ∷ us))
-  finish-first (none u h) =
-      rw (finishUnit-none n ss u h)
-      (ap (λ (p : ℕ). finishFrom (length (queueOf ss ++ tagUnit k true u)) p (flatSession ((nodesOf ss ++ (n ∷ [])) ++ N) (queueOf ss ++ (tagUnit k true u ++ (tagUnits k us ++ A))) rs l))
-      (first-none (finishesAt k) (queueOf ss) (tagUnit k true u) (tagUnits k us ++ A) (no-tagged (λ o. mayFinish o n (isNil ss)) (finishesAt k) k true (done-same k n ss key stands) u h))
-      ∙ rw (le-ltb (length (queueOf ss ++ tagUnit k true u)) (length (queueOf ss ++ tagUnit k true u)) (omega arith)))
-  finish-first (found a o b h e) =
-      let B : List Tagged = queueOf ss in
-      let X : List Tagged = tagUnit k true a in
-      let y : Tagged = standing k (isNil a) o in
-      let Y : List Tagged = tagUnit k false b in
-      let R : List Tagged = tagUnits k us ++ A in
-      let ns : List Node = (nodesOf ss ++ (n ∷ [])) ++ N in
-      rw (finishUnit-found n ss a o b h e)
-      (ap (λ (U : List Tagged). finishFlat k (length B) (length (B ++ U)) (flatSession ns (B ++ (U ++ R)) rs l)) (ops-split k true a o b)
-      ∙ ap (λ (p : ℕ). finishFrom (length (B ++ (X ++ (y ∷ Y)))) p (flatSession ns (B ++ ((X ++ (y ∷ Y)) ++ R)) rs l))
-      (first-at (finishesAt k) B X y Y R (no-tagged (λ o. mayFinish o n (isNil ss)) (finishesAt k) k true (done-same k n ss key stands) a h) (sym (done-same k n ss key stands (isNil a) o) ∙ e))
-      ∙ (λ i. finishFrom (length (B ++ (X ++ (y ∷ Y)))) (length (B ++ X)) (flatSession ns (regroup-at B X y Y R i) rs l))
-      ∙ finish-at (length (B ++ (X ++ (y ∷ Y)))) (length (B ++ X)) ns (B ++ X) y (Y ++ R) rs l refl (before-end B X y Y)
-      ∙ (λ i. done (flatSession ns
-      ((out-at k B a o b R ∙ regroup-key (n .key) k key B (a ++ b) us A ∙ ap (λ (z : List Tagged). (B ++ z) ++ A) (sym (tagUnits-put (n .key) (a ++ b) us))) i) (store (stored o) rs) l)))
+module _ (k : ℕ) (rs : List Result) (l : ℕ) where
+  finish-first : UnitAgrees k (finishFlat k) finishAt rs l
+  finish-first N A n o os us ss key stands K =
+      first-agrees k rs l N A n us ss (λ o. mayFinish o n (isNil ss)) (finishesAt k) (done-same k n ss key stands) leaveFlat (afterFinish n us ss) gone (first (λ o. mayFinish o n (isNil ss)) (o ∷ os))
+    where
+      gone : FoundAgrees k rs l N A n us ss (λ o. mayFinish o n (isNil ss)) (finishesAt k) (done-same k n ss key stands)
+          leaveFlat (afterFinish n us ss)
+      gone a o b =
+          let ns : List Node = (nodesOf ss ++ (n ∷ [])) ++ N in
+          let D : List Tagged = queueOf ss ++ tagUnit k true a in
+          let y : Tagged = standing k (isNil a) o in
+          let Y : List Tagged = tagUnit k false b in
+          let R : List Tagged = tagUnits k us ++ A in
+          (λ i. finishPlace (length D) (length (queueOf ss ++ (tagUnit k true a ++ (y ∷ Y)))) (getD-at D y (Y ++ R) noOp (length D) refl i) (flatSession ns (D ++ (y ∷ (Y ++ R))) rs l))
+          ∙ (λ i. flatSession ns
+          ((out-at k (queueOf ss) a o b R ∙ regroup-key (n .key) k key (queueOf ss) (a ++ b) us A ∙ ap (λ (z : List Tagged). (queueOf ss ++ z) ++ A) (sym (tagUnits-put (n .key) (a ++ b) us))) i) (store (stored o) rs) l)
 
 pub finish-agrees : (k : ℕ) (rs : List Result) (l : ℕ) → Agrees k (headUnit k (finishFlat k)) (λ s ss. finishAt (s .node) ss (s .units)) rs l
-finish-agrees k rs l = head-agrees k (finishFlat k) finishAt rs l (λ n ss. refl) (λ N A n o os us ss e d K. finish-first k rs l N A n us ss e d (first (λ o. mayFinish o n (isNil ss)) (o ∷ os)))
+finish-agrees k rs l = head-agrees k (finishFlat k) finishAt rs l (λ n ss. refl) (finish-first k rs l)
 
 pub finish-bridge : (k : ℕ) (s : Session) → Keyed (s .stations) → length (s .stations) ≤ 64 → flatStep (finish k) (flat s) ≡ mapDone flat (step (finish k) s)
 finish-bridge k s K room = step-focus k (headUnit k (finishFlat k)) (λ s ss. finishAt (s .node) ss (s .units)) s K room (finish-agrees k (s .results) (s .last))

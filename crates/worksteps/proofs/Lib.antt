@@ -1,5 +1,6 @@
 pub mod Turns
 pub mod Focus
+pub mod UnitPlaces
 pub mod Heads
 pub mod Admits
 pub mod Units

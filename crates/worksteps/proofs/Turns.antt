@@ -10,8 +10,9 @@ use lib.Dec.{ltb, leb·suc-suc}
 use lib.ListN.{length, take, drop, getD, length-append, length-map, take-append-drop}
 use lib.Seq.{slice, slice-empty, slice-cons, length-slice, length-take-le, drop-cons, drop-append-le, take-suc}
 use borrow.Author.Tests.{lt-ltb, le-ltb, ltb-true, ltb-false}
+use Rattle.graph.specs.Steps.{any}
 use Rattle.queue.specs.Flat.{find}
-use Rattle.worksteps.specs.FlatSteps.{any, alter, mapFrom, firstIn}
+use Rattle.worksteps.specs.FlatSteps.{alter, mapFrom, firstIn}
 
 module _ {A : Type 0} (p : A → Bool) where
   any-find : (xs : List A) → any p xs ≡ ltb (find p xs) (length xs)

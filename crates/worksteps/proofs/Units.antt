@@ -19,26 +19,10 @@ use Rattle.queue.proofs.Places.{No, no-append, find-none, find-at, no-queue, be
 use Rattle.queue.proofs.Nesting.{flatSession}
 use Rattle.worksteps.specs.FlatSteps.{alter, removeAt, noOp, openAs, unitFrom, withNext, pairFrom, joinFlat, splitFlat, neighbours, swapFlat, fuseFlat, onQueue, flatStep}
 use Rattle.worksteps.proofs.Focus.{back, Agrees, step-focus}
+use Rattle.worksteps.proofs.UnitPlaces.{past, unit-none, unit-here, unit-next, start}
 use Rattle.worksteps.proofs.Heads.{regroup-at, ops-split, remove-seam, move-bridge, realise-bridge, finish-bridge}
 use Rattle.worksteps.proofs.Admits.{admit-bridge}
 use Rattle.worksteps.proofs.Turns.{alter-seam}
-
-past : (k : ℕ) (q : List Tagged) → isAt k (length q) q ≡ false
-past k q = ap (isAt k (length q)) (sym (append-nil q)) ∙ is-not-at k q [] tt
-
-module _ (k : ℕ) (g : ℕ → ℕ → List Tagged → Answer (List Tagged)) where
-  pub unit-none : (i : ℕ) (B r : List Tagged) → No (atPlace k) r → unitFrom k g i (length B) (B ++ r) ≡ refused 21
-  unit-none zero B r h = rw (past k (B ++ r))
-  unit-none (suc zero) B r h = rw (is-not-at k B r h)
-  unit-none (suc (suc i)) B r h = rw (is-not-at k B r h, past k (B ++ r))
-
-  unit-here : (B : List Tagged) (o : Op) (os : List Op) (us : List (List Op)) (A : List Tagged) → Full us → No (atPlace k) A
-      → unitFrom k g 1 (length B) (B ++ (tagUnit k true (o ∷ os) ++ (tagUnits k us ++ A))) ≡ g (length B) (length (B ++ tagUnit k true (o ∷ os))) (B ++ (tagUnit k true (o ∷ os) ++ (tagUnits k us ++ A)))
-  unit-here B o os us A F a = rw (is-at k true B o (tagUnit k false os ++ (tagUnits k us ++ A)), end-of k B true o os (tagUnits k us ++ A) (ends-units k us A F a))
-
-  unit-next : (i : ℕ) (B : List Tagged) (o : Op) (os : List Op) (us : List (List Op)) (A : List Tagged) → Full us → No (atPlace k) A
-      → unitFrom k g (suc (suc i)) (length B) (B ++ (tagUnit k true (o ∷ os) ++ (tagUnits k us ++ A))) ≡ unitFrom k g (suc i) (length (B ++ tagUnit k true (o ∷ os))) (B ++ (tagUnit k true (o ∷ os) ++ (tagUnits k us ++ A)))
-  unit-next i B o os us A F a = rw (is-at k true B o (tagUnit k false os ++ (tagUnits k us ++ A)), end-of k B true o os (tagUnits k us ++ A) (ends-units k us A F a))
 
 -- units by number, nested: pairAt and unitAt
 pub record Numbered (f : ℕ → List (List Op) → Answer (List (List Op))) : Type 0 where
@@ -85,21 +69,12 @@ module _ (k : ℕ) (g : ℕ → ℕ → List Tagged → Answer (List Tagged)) (f
       map-only N A n ss e ns d (refused r) = refl
       map-only N A n ss e ns d (done xs) = λ j. done (flatSession (d j) ((sym (append-assoc (queueOf ss) (tagUnits k xs) A) ∙ ap (λ (z : ℕ). (queueOf ss ++ tagUnits z xs) ++ A) (sym e)) j) rs l)
 
-      -- where the search for the station leads
-      start : (B A : List Tagged) (us : List (List Op)) → Full us → No (atPlace k) B → No (atPlace k) A → unitFrom k g i (find (atPlace k) (B ++ (tagUnits k us ++ A))) (B ++ (tagUnits k us ++ A)) ≡ unitFrom k g i (length B) (B ++ (tagUnits k us ++ A))
-      start B A [] F b a =
-          ap (λ (p : ℕ). unitFrom k g i p (B ++ A)) (find-none (atPlace k) (B ++ A) (no-append (atPlace k) B A b a))
-          ∙ ap (unitFrom k g i (length (B ++ A))) (sym (append-nil (B ++ A))) ∙ unit-none k g i (B ++ A) [] tt ∙ sym (unit-none k g i B A a)
-      start B A ([] ∷ us) F b a = absurd (true≢false (F .0))
-      start B A ((o ∷ os) ∷ us) F b a =
-          ap (λ (p : ℕ). unitFrom k g i p (B ++ (tagUnits k ((o ∷ os) ∷ us) ++ A))) (find-at (atPlace k) B (standing k true o) ((tagUnit k false os ++ tagUnits k us) ++ A) b (eqb-same k))
-
       pub units-agree : Agrees k (onQueue (unitFrom k g i) k) (onUnits (f i)) rs l
       units-agree N A s ss e K a =
           let ns : List Node = (nodesOf ss ++ (s .node ∷ [])) ++ N in
           let b : No (atPlace k) (queueOf ss) = no-queue k ss (K .1 .1) (beyond-below k ss (omega (arith, K .0))) in
           ap (λ (q : List Tagged). mapDone (λ r. flatSession ns r rs l) (unitFrom k g i (find (atPlace k) q) q)) (append-assoc (queueOf ss) (tagUnits (s .node .key) (s .units)) A ∙ ap (λ (j : ℕ). queueOf ss ++ (tagUnits j (s .units) ++ A)) e)
-          ∙ ap (mapDone (λ r. flatSession ns r rs l)) (start (queueOf ss) A (s .units) (K .1 .0) b a ∙ run i (queueOf ss) A (s .units) (K .1 .0) a)
+          ∙ ap (mapDone (λ r. flatSession ns r rs l)) (start k g i (queueOf ss) A (s .units) (K .1 .0) b a ∙ run i (queueOf ss) A (s .units) (K .1 .0) a)
           ∙ map-only N A (s .node) ss e ns refl (f i (s .units))
 
 -- TWO UNITS

@@ -6,12 +6,12 @@ use mathlib.Core.List.{List, [], _∷_, _++_}
 use mathlib.Core.Option.{Option, none, some}
 use lib.Dec.{eqb, leb}
 use lib.ListN.{length}
-use Rattle.graph.specs.Refusals.{Answer, refused, mapDone, Test, on, unless}
+use Rattle.graph.specs.Refusals.{Answer, refused, mapDone, Test, unless}
 use Rattle.graph.specs.KeyLists.{contains}
-use Rattle.graph.specs.Calls.{Call, isAdd, formTests}
+use Rattle.graph.specs.Calls.{Call, formTests}
 use Rattle.graph.specs.OneAtATime.{Labelled, addOf, opOf, labelled}
 use Rattle.graph.specs.Steps.{Step, admit, realise, move, finish}
-use Rattle.graph.specs.Acceptance.{Claimed, takeResult}
+use Rattle.graph.specs.Acceptance.{roomTests, Claimed, takeResult}
 use Rattle.graph.specs.Drain.{orElse}
 use Rattle.queue.specs.Flat.{Tagged, Flat}
 use Rattle.worksteps.specs.FlatSteps.{flatStep}
@@ -37,12 +37,7 @@ abbrev pub flatLive : Flat → ℕ
 flatLive f = length (queued (f .queue)) + length (f .results)
 
 abbrev pub flatTests : Call → Flat → List Test
-flatTests c f =
-    formTests c
-    ++ (on (isAdd c && leb 64 (length (f .nodes) + addsQueued (f .queue))) 13
-    ∷ on (leb 64 (flatLive f)) 14
-    ∷ on (leb 65535 (f .last)) 15
-    ∷ [])
+flatTests c f = formTests c ++ roomTests c (length (f .nodes) + addsQueued (f .queue)) (flatLive f) (f .last)
 
 abbrev pub flatAccepted : Call → Flat → Flat
 flatAccepted c f =

@@ -15,15 +15,11 @@ use Rattle.graph.specs.Nodes.{Node, Op, actOn, actBy, stored, newNode, addResul
 use Rattle.graph.specs.Tasks.{taskRule}
 use Rattle.graph.specs.OneAtATime.{Labelled, addOf, opOf}
 use Rattle.graph.specs.Sessions.{store}
-use Rattle.graph.specs.Steps.{Step, admit, realise, move, finish, join, split, swap, fuse, maySwap, mayFuse, fused}
+use Rattle.graph.specs.Steps.{Step, admit, realise, move, finish, join, split, swap, fuse, any, maySwap, mayFuse, fused}
 use Rattle.queue.specs.Flat.{Tagged, Flat, carried, find, atPlace, isAt, endOf}
 
 -- LISTS BY INDEX
 module _ {A : Type 0} where
-  abbrev pub any : (A → Bool) → List A → Bool
-  any p [] = false
-  any p (x ∷ xs) = p x || any p xs
-
   abbrev pub alter : ℕ → (A → A) → List A → List A
   alter i f [] = []
   alter zero f (x ∷ xs) = f x ∷ xs
@@ -80,12 +76,31 @@ ruleHolds Acts k x = hitsKey k x
 ruleHolds Finishes k x = finishesAt k x
 ruleHolds Passes k x = not (hitsKey k x || finishesAt k x)
 
--- a step on the head unit of station k: from index h up to, not including, e
-abbrev pub onHead : ℕ → (ℕ → ℕ → Flat → Answer Flat) → ℕ → Flat → Answer Flat
-onHead k g h f = cond (isAt k h (f .queue)) (g h (endOf k h (f .queue)) f) (refused 21)
+-- UNITS BY NUMBER
+-- where unit number i starts, counted from 1 at p; the queue's length where there are not so many units before it
+abbrev pub unitStart : ℕ → ℕ → ℕ → List Tagged → ℕ
+unitStart k zero p q = length q
+unitStart k (suc zero) p q = p
+unitStart k (suc (suc i)) p q = cond (isAt k p q) (unitStart k (suc i) (endOf k p q) q) (length q)
 
+-- a step on the unit that starts at n: g gets where it starts, and where it ends
+module _ {A : Type 0} where
+  abbrev pub onUnit : ℕ → (ℕ → ℕ → List Tagged → Answer A) → ℕ → List Tagged → Answer A
+  onUnit k g n q = cond (isAt k n q) (g n (endOf k n q) q) (refused 21)
+
+  abbrev pub unitFrom : ℕ → (ℕ → ℕ → List Tagged → Answer A) → ℕ → ℕ → List Tagged → Answer A
+  unitFrom k g i p q = onUnit k g (unitStart k i p q) q
+
+-- the head unit is number 1
 abbrev pub headUnit : ℕ → (ℕ → ℕ → Flat → Answer Flat) → Flat → Answer Flat
-headUnit k g f = onHead k g (find (atPlace k) (f .queue)) f
+headUnit k g f = unitFrom k (λ h e q. g h e f) 1 (find (atPlace k) (f .queue)) (f .queue)
+
+-- a step on the first operation from h up to, not including, e that p holds of: g gets its place, and e
+abbrev pub onPlace : (ℕ → ℕ → Flat → Flat) → ℕ → ℕ → Flat → Answer Flat
+onPlace g e i f = cond (ltb i e) (done (g i e f)) (refused 22)
+
+abbrev pub onFirst : (Tagged → Bool) → (ℕ → ℕ → Flat → Flat) → ℕ → ℕ → Flat → Answer Flat
+onFirst p g h e f = onPlace g e (firstIn p h e (f .queue)) f
 
 -- MOVE
 abbrev pub moveFlat : ℕ → ℕ → ℕ → Flat → Answer Flat
@@ -95,11 +110,11 @@ moveFlat k h e f = cond (eqb k 1 || any (hitsKey k) (slice h e (f .queue))) (ref
 abbrev pub actAt : ℕ → ℕ → Tagged → Node → Flat → Flat
 actAt k p x n f = record { nodes = set (f .nodes) (k - 1) (actOn (opIn x) n); queue = set (f .queue) p (withOp x (actBy (opIn x) n)); results = f .results; last = f .last }
 
-abbrev pub realiseFrom : ℕ → ℕ → ℕ → Flat → Answer Flat
-realiseFrom k e p f = cond (ltb p e) (done (actAt k p (getD (f .queue) p noOp) (getD (f .nodes) (k - 1) noNode) f)) (refused 22)
+abbrev pub actFlat : ℕ → ℕ → ℕ → Flat → Flat
+actFlat k p e f = actAt k p (getD (f .queue) p noOp) (getD (f .nodes) (k - 1) noNode) f
 
 abbrev pub realiseFlat : ℕ → ℕ → ℕ → Flat → Answer Flat
-realiseFlat k h e f = realiseFrom k e (firstIn (hitsKey k) h e (f .queue)) f
+realiseFlat k = onFirst (hitsKey k) (actFlat k)
 
 -- FINISH
 -- the operation at p goes, and hands its mark on to the next of its unit
@@ -109,27 +124,14 @@ takeOut p e x q = removeAt p (cond (ltb (suc p) e) (alter (suc p) (openAs (x .op
 abbrev pub finishPlace : ℕ → ℕ → Tagged → Flat → Flat
 finishPlace p e x f = record { nodes = f .nodes; queue = takeOut p e x (f .queue); results = store (stored (opIn x)) (f .results); last = f .last }
 
-abbrev pub finishFrom : ℕ → ℕ → Flat → Answer Flat
-finishFrom e p f = cond (ltb p e) (done (finishPlace p e (getD (f .queue) p noOp) f)) (refused 22)
+abbrev pub leaveFlat : ℕ → ℕ → Flat → Flat
+leaveFlat p e f = finishPlace p e (getD (f .queue) p noOp) f
 
 abbrev pub finishFlat : ℕ → ℕ → ℕ → Flat → Answer Flat
-finishFlat k h e f = finishFrom e (firstIn (finishesAt k) h e (f .queue)) f
+finishFlat k = onFirst (finishesAt k) leaveFlat
 
--- UNITS BY NUMBER
--- where unit number i starts, counted from 1 at p; the queue's length where there are not so many units before it
-abbrev pub unitStart : ℕ → ℕ → ℕ → List Tagged → ℕ
-unitStart k zero p q = length q
-unitStart k (suc zero) p q = p
-unitStart k (suc (suc i)) p q = cond (isAt k p q) (unitStart k (suc i) (endOf k p q) q) (length q)
-
--- a step on the unit that starts at n: g gets where it starts and ends
-abbrev pub onUnit : ℕ → (ℕ → ℕ → List Tagged → Answer (List Tagged)) → ℕ → List Tagged → Answer (List Tagged)
-onUnit k g n q = cond (isAt k n q) (g n (endOf k n q) q) (refused 21)
-
-abbrev pub unitFrom : ℕ → (ℕ → ℕ → List Tagged → Answer (List Tagged)) → ℕ → ℕ → List Tagged → Answer (List Tagged)
-unitFrom k g i p q = onUnit k g (unitStart k i p q) q
-
--- that unit and the next: g gets where the one starts, where the next does, and where that ends
+-- JOIN, SPLIT, SWAP, FUSE
+-- a unit and the next: g gets where the one starts, where the next does, and where that ends
 abbrev pub withNext : ℕ → (ℕ → ℕ → ℕ → List Tagged → Answer (List Tagged)) → ℕ → ℕ → List Tagged → Answer (List Tagged)
 withNext k g p e q = cond (isAt k e q) (g p e (endOf k e q) q) (refused 21)
 
