@@ -1,19 +1,17 @@
 -- What the steps on a head unit state, part by part.
 -- Assumes nothing.
-use mathlib.Core.Path.{_≡_}
-use Prim.Native.Nat.{ℕ, suc, _≤_, _<_}
-use mathlib.Core.Bool.{true, cond}
+use Prim.Native.Nat.{ℕ, suc}
+use mathlib.Core.Bool.{cond}
 use mathlib.Core.List.{List}
 use lib.Dec.{ltb}
-use lib.ListN.{length}
-use Rattle.graph.specs.Refusals.{Answer, refused}
+use Rattle.graph.specs.declared.task.Task.{Task}
+use Rattle.graph.specs.Refusals.{Answer, refused, done}
 use Rattle.graph.specs.Nodes.{Node}
 use Rattle.graph.specs.Packed.{listed}
-use Rattle.queue.specs.Flat.{Tagged, Flat, find, atPlace, endOf}
-use Rattle.worksteps.specs.FlatSteps.{alter, openAs, headUnit, known, atKey}
+use Rattle.queue.specs.Flat.{Tagged, Flat}
+use Rattle.worksteps.specs.FlatSteps.{alter, openAs, firstIn, ruleHolds}
 use Rattle.state.specs.declared.nodes.Body.{Body}
-use Rattle.state.specs.State.{held}
-use Rattle.headsteps.specs.declared.Span.{Span}
+use Rattle.units.specs.Numbered.{andThen, Span, locate}
 
 -- the node of a struct
 abbrev pub bodyValue : Body → Node
@@ -23,15 +21,12 @@ bodyValue b = record { key = b .key; value = b .value; links = listed (b .links)
 abbrev pub handOn : ℕ → ℕ → Tagged → List Tagged → List Tagged
 handOn p e x q = cond (ltb (suc p) e) (alter (suc p) (openAs (x .opens)) q) q
 
--- station k of the session that the image holds has a head unit, from h up to e
-pub record Head (image : List ℕ) (k h e : ℕ) : Type 0 where
-  pub node : known k (held image) ≡ true
-  pub first : h ≡ find (atPlace k) (held image .queue)
-  pub inside : h < length (held image .queue)
-  pub ends : e ≡ endOf k h (held image .queue)
-  pub fits : e ≤ length (held image .queue)
+-- in the head unit of station k, the first operation that this task rule holds for, and where the unit ends
+abbrev pub before : ℕ → ℕ → Answer Span
+before e p = cond (ltb p e) (done (record { start = p; end = e })) (refused 22)
 
--- it is u; or each step on it is refused with u's number
-pub record IsHead (image : List ℕ) (k : ℕ) (u : Span) : Type 0 where
-  pub none : (u .refusal ≡ 0 → ⊥) → (g : ℕ → ℕ → Flat → Answer Flat) → atKey k (headUnit k g) (held image) ≡ refused (u .refusal)
-  pub some : u .refusal ≡ 0 → Head image k (u .start) (u .end)
+abbrev pub firstFor : Task → ℕ → List Tagged → Span → Answer Span
+firstFor t k q u = before (u .end) (firstIn (ruleHolds t k) (u .start) (u .end) q)
+
+abbrev pub locateFirst : Task → ℕ → Flat → Answer Span
+locateFirst t k f = andThen (locate k 1 f) (firstFor t k (f .queue))

@@ -4,10 +4,12 @@ use graph::task::Task;
 use graph::task::task_of;
 use state::nodes;
 use state::nodes::Body;
-use state::nodes::is_known;
 use state::operation::Operation;
 use state::ops;
 use state::results;
+use units::Spot;
+use units::refuse;
+use units::unit_at;
 ghost use mathlib.Core.Path.{_≡_};
 ghost use mathlib.Core.Bool.{true};
 ghost use Prim.Native.Nat.{_-_, _≤_, _<_};
@@ -20,7 +22,8 @@ ghost use Rattle.worksteps.specs.FlatSteps.{noOp, noNode, moveTo, mapFrom, firs
 ghost use Rattle.state.specs.Operations.{opValue, Normal, Carries, Bounded};
 ghost use Rattle.state.specs.State.{held, Proper, Shows};
 ghost use Rattle.live.specs.Live.{Live, Works};
-ghost use Rattle.headsteps.specs.Heads.{bodyValue, handOn, IsHead};
+ghost use Rattle.units.specs.Numbered.{spotted};
+ghost use Rattle.headsteps.specs.Heads.{bodyValue, handOn, locateFirst};
 
 // The task rule that holds for the operation at i, at the station with key k.
 fn task_at(image: &[u8], k: u8, i: usize) -> Task
@@ -130,36 +133,23 @@ pub fn finish_at(image: &mut [u8], p: usize, e: usize)
     results::store_all(image, labels, value, left);
 }
 
-// A station's head unit, from start up to end; where there is none, the refusal's number.
-struct Span {
-    refusal: u32,
-    start: usize,
-    end: usize,
-}
-
-fn head_unit(image: &[u8], k: u8) -> Span
+// In the head unit, the first operation that this task rule holds for: its place, and where the unit ends.
+fn first_in_head(image: &[u8], task: Task, k: u8) -> Spot
     requires { ⌜ Proper (now image) ⌝ }
-    ensures { λ r. ⌜ IsHead (now (image .entry)) k r ⌝ }
+    ensures { λ r. ⌜ locateFirst task k (held (now (image .entry))) ≡ spotted r ⌝ }
 {
-    if !is_known(image, k) {
-        return Span {
-            refusal: 20,
-            start: 0,
-            end: 0,
-        };
+    let u = unit_at(image, k, 1);
+    if u.refusal != 0 {
+        return u;
     }
-    let h = ops::first_at(image, k);
-    if h == ops::total(image) {
-        return Span {
-            refusal: 21,
-            start: 0,
-            end: 0,
-        };
+    let e = u.end;
+    let p = first_for(image, task, k, u.start, e);
+    if p == e {
+        return refuse(22);
     }
-    let e = ops::unit_end(image, k, h);
-    Span {
+    Spot {
         refusal: 0,
-        start: h,
+        start: p,
         end: e,
     }
 }
@@ -169,15 +159,11 @@ pub fn realise(image: &mut [u8], k: u8) -> u32
     requires { ⌜ Live (now image) ⌝ }
     ensures { λ r. ⌜ Works (flatStep (realise k) (held (now (image .entry)))) (now (image .entry)) (now (image .exit)) r ⌝ }
 {
-    let u = head_unit(image, k);
-    if u.refusal != 0 {
-        return u.refusal;
+    let found = first_in_head(image, Task::Acts, k);
+    if found.refusal != 0 {
+        return found.refusal;
     }
-    let p = first_for(image, Task::Acts, k, u.start, u.end);
-    if p == u.end {
-        return 22;
-    }
-    act_at(image, k, p);
+    act_at(image, k, found.start);
     0
 }
 
@@ -186,15 +172,11 @@ pub fn finish(image: &mut [u8], k: u8) -> u32
     requires { ⌜ Live (now image) ⌝ }
     ensures { λ r. ⌜ Works (flatStep (finish k) (held (now (image .entry)))) (now (image .entry)) (now (image .exit)) r ⌝ }
 {
-    let u = head_unit(image, k);
-    if u.refusal != 0 {
-        return u.refusal;
+    let found = first_in_head(image, Task::Finishes, k);
+    if found.refusal != 0 {
+        return found.refusal;
     }
-    let p = first_for(image, Task::Finishes, k, u.start, u.end);
-    if p == u.end {
-        return 22;
-    }
-    finish_at(image, p, u.end);
+    finish_at(image, found.start, found.end);
     0
 }
 
@@ -203,7 +185,7 @@ pub fn move_on(image: &mut [u8], k: u8) -> u32
     requires { ⌜ Live (now image) ⌝ }
     ensures { λ r. ⌜ Works (flatStep (move k) (held (now (image .entry)))) (now (image .entry)) (now (image .exit)) r ⌝ }
 {
-    let u = head_unit(image, k);
+    let u = unit_at(image, k, 1);
     if u.refusal != 0 {
         return u.refusal;
     }

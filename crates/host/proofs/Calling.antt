@@ -11,7 +11,7 @@ use Rattle.graph.specs.Calls.{Call, add, map, link, unlink, sum, top, pick, nea
 use Rattle.graph.specs.Refusals.{Answer, refused, done, numberOf as codeOf, Test, on, unless}
 use Rattle.graph.specs.Sessions.{Session, live, addsIn}
 use Rattle.graph.specs.Packed.{listed, packed}
-use Rattle.graph.specs.Acceptance.{accept, callTests, accepted}
+use Rattle.graph.specs.Acceptance.{roomTests, accept, callTests, accepted}
 use Rattle.graph.proofs.Answers.{Holds, holds}
 use Rattle.graph.proofs.Validity.{Accepts, accept-valid}
 use Rattle.queue.specs.Flat.{Flat}
@@ -64,11 +64,8 @@ read-packed (pick s to) = packed-again to
 read-packed (near k s to) = packed-again to
 
 -- what the form's own tests refuse is not accepted
-abbrev sessionTests : Call → Session → List Test
-sessionTests c s = on (isAdd c && leb 64 (length (s .stations) + addsIn (s .topStream))) 13 ∷ on (leb 64 (length (live s))) 14 ∷ on (leb 65535 (s .last)) 15 ∷ []
-
 form-refused : (f : Call) (s : Session) {n : ℕ} → unless (formTests f) f ≡ refused n → accept f s ≡ refused n
-form-refused f s q = unless-refused (formTests f) (sessionTests f s) f (accepted f s) q
+form-refused f s q = unless-refused (formTests f) (roomTests f (length (s .stations) + addsIn (s .topStream)) (length (live s)) (s .last)) f (accepted f s) q
 
 abbrev callReader : Reader Call CallLine
 callReader =

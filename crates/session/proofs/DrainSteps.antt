@@ -18,13 +18,13 @@ use Rattle.graph.specs.Valid.{Each, KeysFall, Valid}
 use Rattle.graph.specs.Runs.{tallyPlace}
 use Rattle.graph.proofs.Answers.{eqb-same}
 use Rattle.graph.proofs.Limits.{each-append, each-at}
-use Rattle.queue.specs.Flat.{Tagged, Flat, tagUnit, tagUnits, queueOf, waiting, flat, nest, endOf}
+use Rattle.queue.specs.Flat.{Tagged, Flat, tagUnit, tagUnits, queueOf, waiting, flat, nest, isOp, endOf}
 use Rattle.queue.proofs.Places.{length-nodes}
 use Rattle.worksteps.specs.FlatSteps.{mapFrom, firstIn, noOp, noNode, moveTo, withQueue, hitsKey, actAt, finishesAt, finishPlace, admitCall, known, flatStep}
 use Rattle.worksteps.specs.FlatEvents.{FlatTaken, flatDrainStep}
 use Rattle.state.specs.State.{held, Shows}
 use Rattle.live.specs.Live.{Live, Leaves, Works}
-use Rattle.headsteps.specs.Heads.{Head}
+use Rattle.units.proofs.Standing.{op-at, unit-place}
 use Rattle.session.specs.DrainStep.{Begins, DrainsOne}
 use Rattle.session.proofs.Draining.{taken, drain-empty, drain-admits, admits-first, drain-realises, drain-finishes, drain-moves}
 
@@ -83,8 +83,9 @@ module _ (image : List ℕ) (l : Live image) (k : ℕ) (b : Begins image k) wher
       let w = g .known apart in
       rw (le-leb 1 k (omega (arith, b .place, w .0)), le-leb k (length (held image .nodes)) (omega (arith, b .place, w .1)))
 
-  pub begins-head : (e : ℕ) → e ≡ endOf k 0 (held image .queue) → e ≤ length (held image .queue) → Head image k 0 e
-  begins-head e d h = record { node = node-known; first = sym (rw (begins, b .place, eqb-same k)); inside = b .inside; ends = d; fits = h }
+  -- what stands in its head unit, which ends at e, is no add
+  pub begins-op : (e p : ℕ) → e ≡ endOf k 0 (held image .queue) → p < e → isOp ((getD (held image .queue) p noOp) .call) ≡ true
+  begins-op e p d h = op-at image l k p node-known (unit-place k (held image .queue) 0 p (rw (begins, b .place) (eqb-same k)) (omega arith) (omega arith))
 
   -- the three steps at that station, and their order: its head unit ends at e
   module _ (e : ℕ) (d : e ≡ endOf k 0 (held image .queue)) (w : e ≤ length (held image .queue)) where

@@ -12,11 +12,11 @@ use lib.Seq.{slice, slice-cons}
 use borrow.Author.Tests.{lt-ltb, le-ltb, eqb-true}
 use Rattle.graph.specs.Refusals.{Answer, refused, done, mapDone}
 use Rattle.graph.specs.KeyLists.{isNil}
-use Rattle.graph.specs.Steps.{Step, admit, realise, move, finish}
+use Rattle.graph.specs.Steps.{Step, admit, realise, move, finish, any}
 use Rattle.graph.specs.Drain.{orElse}
 use Rattle.graph.proofs.Answers.{eqb-same, by-bool, or-left}
 use Rattle.queue.specs.Flat.{Tagged, Flat, find, here, atPlace, isAt, endOf}
-use Rattle.worksteps.specs.FlatSteps.{any, mapFrom, firstIn, noOp, noNode, moveTo, withQueue, opIn, hitsKey, headUnit, moveFlat, actAt, realiseFrom, realiseFlat, finishesAt, finishPlace, finishFrom, finishFlat, admitCall, known, flatStep}
+use Rattle.worksteps.specs.FlatSteps.{mapFrom, firstIn, noOp, noNode, moveTo, withQueue, opIn, hitsKey, headUnit, onPlace, moveFlat, actAt, actFlat, realiseFlat, finishesAt, finishPlace, leaveFlat, finishFlat, admitCall, known, flatStep}
 use Rattle.worksteps.specs.FlatEvents.{firstPlace, FlatTaken, flatTaking, flatDrainStepAt, flatDrainStep}
 use Rattle.worksteps.proofs.Turns.{any-first, first-stop}
 
@@ -54,10 +54,10 @@ module _ (f : Flat) (k : ℕ) (x : Tagged) (xs : List Tagged) (stands : f .queue
   drain-is : flatDrainStep f ≡ orElse (flatTaking (realise k) f) (orElse (flatTaking (finish k) f) (flatTaking (move k) f))
   drain-is = let q : firstPlace (f .queue) ≡ some k = rw (stands, place, station) in ap (λ (b : Option ℕ). flatDrainStepAt b f) q
 
-  realise-is : flatStep (realise k) f ≡ realiseFrom k e p f
+  realise-is : flatStep (realise k) f ≡ onPlace (actFlat k) e p f
   realise-is = rw node (head (realiseFlat k))
 
-  finish-is : flatStep (finish k) f ≡ finishFrom e r f
+  finish-is : flatStep (finish k) f ≡ onPlace leaveFlat e r f
   finish-is = rw node (head (finishFlat k))
 
   move-is : flatStep (move k) f ≡ moveFlat k 0 e f

@@ -1,3 +1,2 @@
 pub mod LabelLaws
-pub mod Located
 pub mod Working

@@ -23,24 +23,10 @@ use Rattle.state.specs.declared.operation.Operation.{Operation}
 use Rattle.state.specs.State.{held, Shows}
 use Rattle.state.proofs.NodeLaws.{node-count}
 use Rattle.live.specs.Live.{Live, Works}
-use Rattle.unitsteps.specs.declared.units.Spot.{Spot}
-use Rattle.unitsteps.specs.Numbered.{locateTwo, spotted}
-use Rattle.unitsteps.proofs.Located.{at-within, both, spanOf, spot-yes, two-yes}
-
--- OPERATIONS: what stands at a station is no add
-module _ (image : List ℕ) (live : Live image) (k p : ℕ) (node : known k (held image) ≡ true) (at : isAt k p (held image .queue) ≡ true) where
-  sits : Sits (getD (held image .queue) p noOp)
-  sits =
-      let s = nest (held image) in
-      subst (λ (f : Flat). Sits (getD (f .queue) p noOp)) (live .flat)
-      (sits-at s (live .valid) p (subst (λ (f : Flat). p < length (f .queue)) (sym (live .flat)) (at-within k (held image .queue) p at)))
-
-  pub op-at : isOp (getD (held image .queue) p noOp .call) ≡ true
-  op-at =
-      let x = getD (held image .queue) p noOp in
-      let place : x .place ≡ k = eqb-true (x .place) k (sym (here-at (atPlace k) (held image .queue) p noOp (at-within k (held image .queue) p at)) ∙ at) in
-      let few : k ≤ length (held image .nodes) = leb-true k (length (held image .nodes)) (and-right (leb 1 k) (leb k (length (held image .nodes))) node) in
-      sits .placed (ne-eqb (x .place) 65 (λ e. omega (arith, node-count image (live .proper), live .proper .sound .nodes)))
+use Rattle.units.specs.declared.Spot.{Spot}
+use Rattle.units.specs.Numbered.{locateTwo, spotted}
+use Rattle.units.proofs.Located.{at-within, both, spanOf, spot-yes, two-yes}
+use Rattle.units.proofs.Standing.{op-at}
 
 pub carries-op : (x : Tagged) (o : Operation) → Carries (x .call) o → opIn x ≡ opValue o
 carries-op x o h = ap carried (h .is)
@@ -71,17 +57,18 @@ module _ (k i : ℕ) (f : Flat) (u : Spot) (e : locateTwo k i f ≡ spotted u) (
   y = getD (f .queue) (u .end) noOp
 
   module _ (a b : Operation) (is : Carries (x .call) a) (next : Carries (y .call) b) (t : Bool) where
+    tested : (may : Op → Op → Bool) → t ≡ may (opValue a) (opValue b) → may (opIn x) (opIn y) ≡ t
+    tested may d = (λ j. may (carries-op x a is j) (carries-op y b next j)) ∙ sym d
+
     pub swap-found : t ≡ maySwap (opValue a) (opValue b) → flatStep (swap k i) f ≡ mapDone (withQueue f) (cond t (done (set (set (f .queue) (u .start) y) (u .end) x)) (refused 22))
     swap-found d =
-        let test : maySwap (opIn x) (opIn y) ≡ t = (λ j. maySwap (carries-op x a is j) (carries-op y b next j)) ∙ sym d in
-        two-yes k i f u swapFlat e z ∙ ap (λ (c : Bool). mapDone (withQueue f) (cond c (done (set (set (f .queue) (u .start) y) (u .end) x)) (refused 22))) test
+        two-yes k i f u swapFlat e z ∙ ap (λ (c : Bool). mapDone (withQueue f) (cond c (done (set (set (f .queue) (u .start) y) (u .end) x)) (refused 22))) (tested maySwap d)
 
     pub fuse-found : (o : Op) → t ≡ mayFuse (opValue a) (opValue b) → opOf (fused (opValue a) (opValue b)) ≡ opOf o
         → flatStep (fuse k i) f ≡ mapDone (withQueue f) (cond t (done (removeAt (u .end) (set (f .queue) (u .start) (withOp x o)))) (refused 22))
     fuse-found o d m =
-        let test : mayFuse (opIn x) (opIn y) ≡ t = (λ j. mayFuse (carries-op x a is j) (carries-op y b next j)) ∙ sym d in
         let made : fused (opIn x) (opIn y) ≡ o = (λ j. fused (carries-op x a is j) (carries-op y b next j)) ∙ ap carried m in
-        two-yes k i f u fuseFlat e z ∙ (λ j. mapDone (withQueue f) (cond (test j) (done (removeAt (u .end) (set (f .queue) (u .start) (withOp x (made j))))) (refused 22)))
+        two-yes k i f u fuseFlat e z ∙ (λ j. mapDone (withQueue f) (cond (tested mayFuse d j) (done (removeAt (u .end) (set (f .queue) (u .start) (withOp x (made j))))) (refused 22)))
 
 pub few-labels : (a b : Op) → mayFuse a b ≡ true → length (a .labels ++ b .labels) ≤ 4
 few-labels a b t = leb-true _ 4 (and-right (sameKeys (a .targets) (b .targets)) _ (and-right (isMap (a .act) && isMap (b .act)) _ t))

@@ -1,14 +1,13 @@
 // The work steps on numbered units, in the image: join, split, swap, fuse. Each answers 0, or a refusal's number.
 pub mod pairs;
-pub mod units;
 
 use crate::pairs::may_fuse;
 use crate::pairs::may_swap;
 use crate::pairs::merge;
-use crate::units::is_at;
-use crate::units::two_at;
-use crate::units::unit_at;
 use state::ops;
+use units::is_at;
+use units::two_at;
+use units::unit_at;
 ghost use Rattle.graph.specs.Steps.{join, split, swap, fuse};
 ghost use Rattle.worksteps.specs.FlatSteps.{flatStep};
 ghost use Rattle.state.specs.State.{held};

@@ -8,7 +8,7 @@ use Rattle.state.specs.State.{held}
 use borrow.Author.Tests.{not-true, not-false}
 use Rattle.state.specs.Operations.{opValue}
 use Rattle.state.proofs.QueueHeld.{still-in}
-use Rattle.unitsteps.proofs.Located.{two-no}
+use Rattle.units.proofs.Located.{two-no}
 use Rattle.live.proofs.Working.{works-refused, works-done}
 use Rattle.unitsteps.proofs.Working.{two-found, fuse-found, few-labels, removed-after}
 use borrow.Author.Needs.{needs}

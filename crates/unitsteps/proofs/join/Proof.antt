@@ -6,7 +6,7 @@ use Rattle.queue.specs.Flat.{isAt}
 use Rattle.state.specs.State.{held}
 use borrow.Author.Tests.{not-true, not-false}
 use Rattle.worksteps.specs.FlatSteps.{withNext, joinFlat}
-use Rattle.unitsteps.proofs.Located.{at-within, one-no, one-yes}
+use Rattle.units.proofs.Located.{at-within, one-no, one-yes}
 use Rattle.live.proofs.Working.{works-refused, works-done}
 use borrow.Author.Needs.{needs}
 use Rattle.unitsteps.proofs.join.Statement.{statement}

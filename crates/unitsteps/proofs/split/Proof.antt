@@ -5,7 +5,7 @@ use Prim.Native.Nat.{_+_, _<_, _≤_}
 use Rattle.state.specs.State.{held}
 use borrow.Author.Tests.{le-leb, lt-leb, lt-ltb, le-ltb}
 use Rattle.worksteps.specs.FlatSteps.{splitFlat}
-use Rattle.unitsteps.proofs.Located.{at-within, end-within, stands, spanOf, spot-yes, one-no, one-yes}
+use Rattle.units.proofs.Located.{at-within, end-within, stands, spanOf, spot-yes, one-no, one-yes}
 use Rattle.live.proofs.Working.{works-refused, works-done}
 use native.Mathlib.Omega.{arith}
 use borrow.Author.Needs.{needs}

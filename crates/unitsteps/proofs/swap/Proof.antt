@@ -5,7 +5,7 @@ use mathlib.Core.Bool.{true, false}
 use Rattle.state.specs.State.{held}
 use borrow.Author.Tests.{not-true, not-false}
 use Rattle.worksteps.specs.FlatSteps.{swapFlat}
-use Rattle.unitsteps.proofs.Located.{two-no}
+use Rattle.units.proofs.Located.{two-no}
 use Rattle.live.proofs.Working.{works-refused, works-done}
 use Rattle.unitsteps.proofs.Working.{two-found, swap-found}
 use borrow.Author.Needs.{needs}

@@ -1,11 +1,9 @@
 -- The first of realise, finish and move that the head unit allows.
 -- Assumes nothing.
 use mathlib.Core.Path.{refl, sym, _∙_}
-use Prim.Native.Nat.{_≤_, _<_}
-use lib.ListN.{length}
 use Rattle.state.specs.State.{held}
-use Rattle.headsteps.proofs.Heads.{in-nodes, head-op}
-use Rattle.session.proofs.DrainSteps.{drains-done, node-known, begins-head, takes-realise, takes-finish, takes-move}
+use Rattle.headsteps.proofs.Heads.{in-nodes}
+use Rattle.session.proofs.DrainSteps.{drains-done, node-known, begins-op, takes-realise, takes-finish, takes-move}
 use native.Mathlib.Omega.{arith}
 use borrow.Author.Needs.{needs}
 use Rattle.session.proofs.drain.drain_at.Statement.{statement}
@@ -23,10 +21,8 @@ act-at-requires c κs =
     let e = c .before .before .before .before .unit-end in
     let image = a .args .image .now in
     let k = a .args .k in
-    let at = begins-head image (a .pre .0) k (a .pre .1) (e .result) (e .ensures .is) (e .ensures .within) in
     let p = c .before .before .first-for in
-    let within : p .result < length (held image .queue) = omega (arith, c .before .if1 .taken, e .ensures .within) in
-    (a .pre .0 .proper, at .node, within, head-op image k 0 (e .result) (p .result) (a .pre .0) at (omega arith) (c .before .if1 .taken) within)
+    (a .pre .0 .proper, node-known image (a .pre .0) k (a .pre .1), omega (arith, c .before .if1 .taken, e .ensures .within), begins-op image (a .pre .0) k (a .pre .1) (e .result) (p .result) (e .ensures .is) (c .before .if1 .taken))
 
 same-length : tie.Need-same-length
 same-length c = search needs
@@ -37,7 +33,6 @@ returns c =
     let e = c .before .before .before .before .before .before .before .unit-end in
     let image = a .args .image .now in
     let k = a .args .k in
-    let at = begins-head image (a .pre .0) k (a .pre .1) (e .result) (e .ensures .is) (e .ensures .within) in
     let p = c .before .before .before .before .before .first-for in
     drains-done (takes-realise image (a .pre .0) k (a .pre .1) (e .result) (e .ensures .is) (e .ensures .within) (p .result) (p .ensures .is) (c .before .before .before .before .if1 .taken)) refl (c .before .before .act-at .ensures)
 
@@ -50,10 +45,8 @@ finish-at-requires c κs =
     let e = c .before .before .before .before .before .before .before .unit-end in
     let image = a .args .image .now in
     let k = a .args .k in
-    let at = begins-head image (a .pre .0) k (a .pre .1) (e .result) (e .ensures .is) (e .ensures .within) in
     let q = c .before .before .first-for2 in
-    let within : q .result < length (held image .queue) = omega (arith, c .before .if2 .taken, e .ensures .within) in
-    (a .pre .0, c .before .if2 .taken, e .ensures .within, head-op image k 0 (e .result) (q .result) (a .pre .0) at (omega arith) (c .before .if2 .taken) within)
+    (a .pre .0, c .before .if2 .taken, e .ensures .within, begins-op image (a .pre .0) k (a .pre .1) (e .result) (q .result) (e .ensures .is) (c .before .if2 .taken))
 
 same-length-2 : tie.Need-same-length-2
 same-length-2 c = search needs
@@ -64,7 +57,6 @@ returns-2 c =
     let e = c .before .before .before .before .before .before .before .before .before .before .unit-end in
     let image = a .args .image .now in
     let k = a .args .k in
-    let at = begins-head image (a .pre .0) k (a .pre .1) (e .result) (e .ensures .is) (e .ensures .within) in
     let p = c .before .before .before .before .before .before .before .before .first-for in
     let q = c .before .before .before .before .before .first-for2 in
     drains-done (takes-finish image (a .pre .0) k (a .pre .1) (e .result) (e .ensures .is) (e .ensures .within) (p .result) (q .result) (p .ensures .is) (omega (arith, c .before .before .before .before .before .before .before .if1 .left)) (q .ensures .is) (c .before .before .before .before .if2 .taken)) refl (c .before .before .finish-at .ensures)
@@ -84,7 +76,6 @@ returns-3 c =
     let e = c .before .before .before .before .before .before .before .before .before .before .unit-end in
     let image = a .args .image .now in
     let k = a .args .k in
-    let at = begins-head image (a .pre .0) k (a .pre .1) (e .result) (e .ensures .is) (e .ensures .within) in
     let p = c .before .before .before .before .before .before .before .before .first-for in
     let q = c .before .before .before .before .before .first-for2 in
     drains-done (takes-move image (a .pre .0) k (a .pre .1) (e .result) (e .ensures .is) (e .ensures .within) (p .result) (q .result) (p .ensures .is) (omega (arith, c .before .before .before .before .before .before .before .if1 .left)) (q .ensures .is) (omega (arith, c .before .before .before .before .if2 .left))) refl (c .before .before .move-unit .ensures)

@@ -7,7 +7,7 @@ ghost use Rattle.queue.specs.Flat.{find, atPlace, isAt};
 ghost use Rattle.worksteps.specs.FlatSteps.{known, unitStart};
 ghost use Rattle.state.specs.Operations.{Bounded};
 ghost use Rattle.state.specs.State.{held, Proper};
-ghost use Rattle.unitsteps.specs.Numbered.{locate, locateTwo, spotted};
+ghost use Rattle.units.specs.Numbered.{locate, locateTwo, spotted};
 
 // Where a unit starts and ends, in the queue; or the number of a refusal, and then the places say nothing.
 pub struct Spot {
@@ -48,7 +48,7 @@ fn unit_start(image: &[u8], k: u8, unit: u32) -> usize
     p
 }
 
-fn refuse(number: u32) -> Spot
+pub fn refuse(number: u32) -> Spot
     ensures { λ r. ⌜ r ≡ record { refusal = number; start = 0; end = 0 } ⌝ }
 {
     Spot {

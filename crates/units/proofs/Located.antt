@@ -12,10 +12,10 @@ use Rattle.graph.specs.Refusals.{Answer, refused, done, mapDone}
 use Rattle.graph.proofs.Answers.{Holds, refuses, holds, holds-cond, holds-at, by-bool}
 use Rattle.queue.specs.Flat.{Tagged, Flat, find, breaks, atPlace, isAt, endOf}
 use Rattle.queue.proofs.Places.{find-within}
-use Rattle.worksteps.specs.FlatSteps.{noOp, unitStart, unitFrom, withNext, neighbours, onQueue, atKey, withQueue, known}
+use Rattle.worksteps.specs.FlatSteps.{noOp, unitStart, unitFrom, headUnit, withNext, neighbours, onQueue, atKey, withQueue, known}
 use Rattle.worksteps.proofs.Facts.{here-past}
-use Rattle.unitsteps.specs.declared.units.Spot.{Spot}
-use Rattle.unitsteps.specs.Numbered.{andThen, Span, locate, alone, locateTwo, spotted}
+use Rattle.units.specs.declared.Spot.{Spot}
+use Rattle.units.specs.Numbered.{andThen, Span, locate, alone, locateTwo, spotted}
 
 -- WHERE A UNIT STARTS: one turn of the loop
 module _ (k : ℕ) (q : List Tagged) where
@@ -56,17 +56,22 @@ module _ (k : ℕ) (q : List Tagged) where
 
 -- THE STEPS, where the unit, or the two, are found
 module _ (k i : ℕ) (f : Flat) where
-  pub step-located : (g : ℕ → ℕ → List Tagged → Answer (List Tagged))
-      → atKey k (onQueue (unitFrom k g i) k) f ≡ andThen (locate k i f) (λ s. mapDone (withQueue f) (g (s .start) (s .end) (f .queue)))
-  step-located g =
+  -- w hands a refusal on
+  located : {X Y : Type 0} (w : Answer X → Answer Y) → ((r : ℕ) → w (refused r) ≡ refused r) → (g : ℕ → ℕ → List Tagged → Answer X)
+      → cond (known k f) (w (unitFrom k g i (find (atPlace k) (f .queue)) (f .queue))) (refused 20) ≡ andThen (locate k i f) (λ s. w (g (s .start) (s .end) (f .queue)))
+  located {X} {Y} w r g =
       go (known k f) (unitStart k i (find (atPlace k) (f .queue)) (f .queue)) (isAt k (unitStart k i (find (atPlace k) (f .queue)) (f .queue)) (f .queue))
     where
       go : (b : Bool) (n : ℕ) (d : Bool)
-          → cond b (mapDone (withQueue f) (cond d (g n (endOf k n (f .queue)) (f .queue)) (refused 21))) (refused 20)
-          ≡ andThen (cond b (cond d (done (record { start = n; end = endOf k n (f .queue) })) (refused 21)) (refused 20)) (λ (s : Span). mapDone (withQueue f) (g (s .start) (s .end) (f .queue)))
+          → cond b (w (cond d (g n (endOf k n (f .queue)) (f .queue)) (refused 21))) (refused 20)
+          ≡ andThen (cond b (cond d (done (record { start = n; end = endOf k n (f .queue) })) (refused 21)) (refused 20)) (λ (s : Span). w (g (s .start) (s .end) (f .queue)))
       go true n true = refl
-      go true n false = refl
+      go true n false = r 21
       go false n d = refl
+
+  step-located : (g : ℕ → ℕ → List Tagged → Answer (List Tagged))
+      → atKey k (onQueue (unitFrom k g i) k) f ≡ andThen (locate k i f) (λ s. mapDone (withQueue f) (g (s .start) (s .end) (f .queue)))
+  step-located = located (mapDone (withQueue f)) (λ r. refl)
 
   pub step-two : (g : ℕ → ℕ → Tagged → Tagged → List Tagged → Answer (List Tagged))
       → atKey k (onQueue (unitFrom k (withNext k (neighbours g)) i) k) f
@@ -87,6 +92,9 @@ module _ (k i : ℕ) (f : Flat) where
       go (refused r) = refl
       go (done s) = at s (isAt k (s .end) (f .queue)) (eqb (s .end) (suc (s .start)) && eqb (endOf k (s .end) (f .queue)) (suc (s .end)))
 
+pub head-located : (k : ℕ) (f : Flat) (g : ℕ → ℕ → Flat → Answer Flat) → atKey k (headUnit k g) f ≡ andThen (locate k 1 f) (λ s. g (s .start) (s .end) f)
+head-located k f g = located k 1 f (λ x. x) (λ r. refl) (λ h e q. g h e f)
+
 -- WHAT IS KNOWN of a unit that was found, and of two
 pub record Stands (k : ℕ) (f : Flat) (s : Span) : Type 0 where
   pub node : known k f ≡ true
@@ -99,7 +107,7 @@ pub record Both (k : ℕ) (f : Flat) (s : Span) : Type 0 where
   pub second : isAt k (s .end) (f .queue) ≡ true
 
 module _ (k i : ℕ) (f : Flat) where
-  located-stands : Holds (Stands k f) (locate k i f)
+  pub located-stands : Holds (Stands k f) (locate k i f)
   located-stands =
       let n = unitStart k i (find (atPlace k) (f .queue)) (f .queue) in
       holds-cond (known k f) (λ e. holds-cond (isAt k n (f .queue)) (λ d. holds (record { node = e; first = d; size = refl })) (λ d. refuses)) (λ e. refuses)
@@ -135,22 +143,26 @@ module _ {x : Answer Span} (u : Spot) (e : x ≡ spotted u) where
   pub spot-yes : u .refusal ≡ 0 → x ≡ done (spanOf u)
   spot-yes z = e ∙ rw (eq-eqb (u .refusal) 0 z) refl
 
--- so a step on the unit, or on the two, is refused, or works on what was found
+  -- so what follows is refused, or works on what was found
+  module _ {A : Type 0} (g : Span → Answer A) where
+    pub then-no : (u .refusal ≡ 0 → ⊥) → andThen x g ≡ refused (u .refusal)
+    then-no n = ap (λ (y : Answer Span). andThen y g) (spot-no n)
+
+    pub then-yes : u .refusal ≡ 0 → andThen x g ≡ g (spanOf u)
+    then-yes z = ap (λ (y : Answer Span). andThen y g) (spot-yes z)
+
 module _ (k i : ℕ) (f : Flat) (u : Spot) where
   module _ (g : ℕ → ℕ → List Tagged → Answer (List Tagged)) (e : locate k i f ≡ spotted u) where
     pub one-no : (u .refusal ≡ 0 → ⊥) → atKey k (onQueue (unitFrom k g i) k) f ≡ refused (u .refusal)
-    one-no n = step-located k i f g ∙ ap (λ (y : Answer Span). andThen y (λ (s : Span). mapDone (withQueue f) (g (s .start) (s .end) (f .queue)))) (spot-no u e n)
+    one-no n = step-located k i f g ∙ then-no u e _ n
 
     pub one-yes : u .refusal ≡ 0 → atKey k (onQueue (unitFrom k g i) k) f ≡ mapDone (withQueue f) (g (u .start) (u .end) (f .queue))
-    one-yes z = step-located k i f g ∙ ap (λ (y : Answer Span). andThen y (λ (s : Span). mapDone (withQueue f) (g (s .start) (s .end) (f .queue)))) (spot-yes u e z)
+    one-yes z = step-located k i f g ∙ then-yes u e _ z
 
   module _ (g : ℕ → ℕ → Tagged → Tagged → List Tagged → Answer (List Tagged)) (e : locateTwo k i f ≡ spotted u) where
-    abbrev on : Span → Answer Flat
-    on s = mapDone (withQueue f) (g (s .start) (s .end) (getD (f .queue) (s .start) noOp) (getD (f .queue) (s .end) noOp) (f .queue))
-
     pub two-no : (u .refusal ≡ 0 → ⊥) → atKey k (onQueue (unitFrom k (withNext k (neighbours g)) i) k) f ≡ refused (u .refusal)
-    two-no n = step-two k i f g ∙ ap (λ (y : Answer Span). andThen y on) (spot-no u e n)
+    two-no n = step-two k i f g ∙ then-no u e _ n
 
     pub two-yes : u .refusal ≡ 0 → atKey k (onQueue (unitFrom k (withNext k (neighbours g)) i) k) f
         ≡ mapDone (withQueue f) (g (u .start) (u .end) (getD (f .queue) (u .start) noOp) (getD (f .queue) (u .end) noOp) (f .queue))
-    two-yes z = step-two k i f g ∙ ap (λ (y : Answer Span). andThen y on) (spot-yes u e z)
+    two-yes z = step-two k i f g ∙ then-yes u e _ z

@@ -6,12 +6,12 @@ use borrow.Author.Tests.{not-true, not-false}
 use Rattle.graph.specs.Refusals.{Answer, done}
 use Rattle.queue.specs.Flat.{isAt}
 use Rattle.state.specs.State.{held}
-use Rattle.unitsteps.specs.Numbered.{Span, andThen, alone, locate, spotted}
-use Rattle.unitsteps.proofs.Located.{at-within, stands, spanOf, spot-no, spot-yes, alone-past, alone-first, alone-second, alone-both}
+use Rattle.units.specs.Numbered.{Span, andThen, alone, locate, spotted}
+use Rattle.units.proofs.Located.{at-within, stands, spanOf, spot-no, spot-yes, alone-past, alone-first, alone-second, alone-both}
 use native.Mathlib.Omega.{arith}
 use borrow.Author.Needs.{needs}
-use Rattle.unitsteps.proofs.units.two_at.Statement.{statement}
-use Rattle.unitsteps.proofs.units.two_at.Tie as tie
+use Rattle.units.proofs.two_at.Statement.{statement}
+use Rattle.units.proofs.two_at.Tie as tie
 
 unit-at-requires : tie.Need-unit-at-requires
 unit-at-requires c κs = search needs

@@ -8,7 +8,7 @@ use lib.ListN.{length}
 use Rattle.graph.specs.Refusals.{Answer, refused, done}
 use Rattle.queue.specs.Flat.{Tagged, Flat, find, atPlace, isAt, endOf}
 use Rattle.worksteps.specs.FlatSteps.{unitStart, known}
-use Rattle.unitsteps.specs.declared.units.Spot.{Spot}
+use Rattle.units.specs.declared.Spot.{Spot}
 
 module _ {A B : Type 0} where
   abbrev pub andThen : Answer A → (A → Answer B) → Answer B

@@ -8,11 +8,11 @@ use Rattle.queue.specs.Flat.{isAt}
 use Rattle.worksteps.specs.FlatSteps.{known}
 use borrow.Author.Tests.{not-true, not-false}
 use Rattle.state.specs.State.{held}
-use Rattle.unitsteps.specs.Numbered.{spanAt, spotted}
-use Rattle.unitsteps.proofs.Located.{at-within}
+use Rattle.units.specs.Numbered.{spanAt, spotted}
+use Rattle.units.proofs.Located.{at-within}
 use borrow.Author.Needs.{needs}
-use Rattle.unitsteps.proofs.units.unit_at.Statement.{statement}
-use Rattle.unitsteps.proofs.units.unit_at.Tie as tie
+use Rattle.units.proofs.unit_at.Statement.{statement}
+use Rattle.units.proofs.unit_at.Tie as tie
 
 is-known-requires : tie.Need-is-known-requires
 is-known-requires c κs = search needs

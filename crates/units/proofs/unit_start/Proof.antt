@@ -9,11 +9,11 @@ use Rattle.queue.proofs.Places.{find-within}
 use borrow.Author.Tests.{not-true, not-false}
 use Rattle.state.specs.State.{held}
 use Rattle.worksteps.specs.FlatSteps.{unitStart}
-use Rattle.unitsteps.proofs.Located.{unit-next, unit-none, at-within}
+use Rattle.units.proofs.Located.{unit-next, unit-none, at-within}
 use borrow.Author.Needs.{needs}
 use native.Mathlib.Omega.{arith}
-use Rattle.unitsteps.proofs.units.unit_start.Statement.{statement}
-use Rattle.unitsteps.proofs.units.unit_start.Tie as tie
+use Rattle.units.proofs.unit_start.Statement.{statement}
+use Rattle.units.proofs.unit_start.Tie as tie
 
 abbrev Inv-loop : tie.InvT-loop
 Inv-loop image k unit n p₀ i₀ p i = (1 ≤ i) × (p ≤ length (held image .queue)) × (unitStart k i p (held image .queue) ≡ unitStart k unit (find (atPlace k) (held image .queue)) (held image .queue))

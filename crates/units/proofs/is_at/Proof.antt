@@ -10,8 +10,8 @@ use Rattle.worksteps.proofs.Facts.{here-at, here-past}
 use Rattle.state.specs.State.{held}
 use native.Mathlib.Omega.{arith}
 use borrow.Author.Needs.{needs}
-use Rattle.unitsteps.proofs.units.is_at.Statement.{statement}
-use Rattle.unitsteps.proofs.units.is_at.Tie as tie
+use Rattle.units.proofs.is_at.Statement.{statement}
+use Rattle.units.proofs.is_at.Tie as tie
 
 total-requires : tie.Need-total-requires
 total-requires c κs = search needs
