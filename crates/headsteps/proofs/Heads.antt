@@ -12,7 +12,7 @@ use Rattle.graph.specs.declared.task.Task.{Task}
 use Rattle.graph.specs.Refusals.{Answer, refused, done}
 use Rattle.graph.specs.Steps.{move}
 use Rattle.graph.proofs.Answers.{and-left, and-right, Holds, refuses, holds, holds-cond, holds-at}
-use Rattle.queue.specs.Flat.{Tagged, Flat, isOp, isAt}
+use Rattle.queue.specs.Flat.{Flat, isOp, isAt}
 use Rattle.worksteps.specs.FlatSteps.{firstIn, mapFrom, noOp, moveTo, withQueue, hitsKey, ruleHolds, headUnit, onFirst, moveFlat, known, atKey, flatStep}
 use Rattle.worksteps.proofs.Turns.{any-first}
 use Rattle.state.specs.State.{held}

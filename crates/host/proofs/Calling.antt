@@ -3,12 +3,10 @@
 use mathlib.Core.Path.{_≡_, refl, sym, ap, _∙_}
 use Prim.Native.Nat.{ℕ, _+_}
 use native.Mathlib.Omega.{arith}
-use mathlib.Core.Bool.{_&&_}
-use mathlib.Core.List.{List, [], _∷_}
-use lib.Dec.{leb}
+use mathlib.Core.List.{List}
 use lib.ListN.{length}
-use Rattle.graph.specs.Calls.{Call, add, map, link, unlink, sum, top, pick, near, isAdd, formTests}
-use Rattle.graph.specs.Refusals.{Answer, refused, done, numberOf as codeOf, Test, on, unless}
+use Rattle.graph.specs.Calls.{Call, add, map, link, unlink, sum, top, pick, near, formTests}
+use Rattle.graph.specs.Refusals.{Answer, refused, done, numberOf as codeOf, unless}
 use Rattle.graph.specs.Sessions.{Session, live, addsIn}
 use Rattle.graph.specs.Packed.{listed, packed}
 use Rattle.graph.specs.Acceptance.{roomTests, accept, callTests, accepted}

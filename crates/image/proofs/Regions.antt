@@ -1,16 +1,16 @@
 -- A region of the image after its records changed, or others did: one law for the three regions.
 -- Assumes nothing.
 use mathlib.Core.Path.{_≡_, refl, sym, ap, subst, _∙_}
-use Prim.Native.Nat.{ℕ, suc, _+_, _*_, _-_, _≤_, _<_}
+use Prim.Native.Nat.{ℕ, _+_, _-_, _≤_, _<_}
 use native.Mathlib.Omega.{arith}
 use native.Mathlib.Decide.{decLt, ℕ-discrete}
-use mathlib.Core.List.{List, [], _∷_, _++_}
-use lib.ListN.{length, getD, set, take, drop, length-set, length-append, List·getD-append}
-use lib.Seq.{getD-set-same, getD-set-other, getD-append-seam}
-use Rattle.records.specs.Bytes.{le16, chunk, splice, tab}
-use Rattle.records.proofs.Tables.{length-tab, getD-tab, tab-is, tab-ext}
-use Rattle.image.specs.Layout.{Region, place, recordAt, listedIn, blank, Zeros, MovedDown, MovedUp, Cleared, removeAt, insertAt, Sound, Canonical, Written, View, view, nodeRegion, opRegion, resultRegion}
-use Rattle.image.proofs.Parts.{next-place, chunk-same, chunk-is, length-splice, splice-below, splice-in, splice-above, length-remove, remove-below, remove-above, length-insert, insert-below, insert-at, insert-above}
+use mathlib.Core.List.{List}
+use lib.ListN.{length, getD, set, length-set}
+use lib.Seq.{getD-set-same, getD-set-other}
+use Rattle.records.specs.Bytes.{chunk, splice, tab}
+use Rattle.records.proofs.Tables.{length-tab, getD-tab, tab-is}
+use Rattle.image.specs.Layout.{Region, place, recordAt, listedIn, blank, Zeros}
+use Rattle.image.proofs.Parts.{next-place, chunk-same, chunk-is, length-splice, splice-below, splice-in, splice-above}
 
 -- t has the bytes of s from a up to, not including, b
 abbrev pub Same : List ℕ → List ℕ → ℕ → ℕ → Type 0

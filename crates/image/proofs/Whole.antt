@@ -2,19 +2,16 @@
 -- Assumes nothing.
 use mathlib.Core.Path.{_≡_, refl, sym, ap, ap₂, subst, _∙_}
 use Prim.Native.Nat.{ℕ, zero, suc, _+_, _*_, _-_, _≤_, _<_, _^_}
-use native.Mathlib.Nat.{mul-suc, mul-zero, mul-le-mul-left, add-zero, not-suc-le-zero, le-of-suc-le-suc}
+use native.Mathlib.Nat.{mul-suc, mul-zero, mul-le-mul-left, not-suc-le-zero, le-of-suc-le-suc}
 use native.Mathlib.Omega.{arith}
 use native.Mathlib.Decide.{decLt}
 use mathlib.Core.List.{List, [], _∷_, _++_, append-assoc, append-nil}
 use lib.ListN.{length, getD, take, drop, replicate, length-append, length-take, length-drop, length-replicate, getD-replicate, List·getD-append, List·getD-eq-default}
-use lib.Seq.{getD-take, getD-drop, getD-append-add, ext-getD, take-all, take-add, drop-drop, take-at, drop-at}
-use Rattle.records.specs.Bytes.{le16, bytes16, chunk, tab}
-use Rattle.records.specs.Records.{encodeHead, encodeNode, encodeOp, encodeResult, decodeNode, decodeOp, decodeResult}
+use lib.Seq.{getD-append-add, ext-getD, take-all, take-add, drop-drop, take-at, drop-at}
+use Rattle.records.specs.Bytes.{bytes16, chunk, tab}
+use Rattle.records.specs.Records.{encodeHead, encodeNode, encodeOp, encodeResult}
 use Rattle.records.specs.declared.head.Head.{Head}
-use Rattle.records.specs.declared.node.NodeRecord.{NodeRecord}
-use Rattle.records.specs.declared.op.OpRecord.{OpRecord}
-use Rattle.records.specs.declared.result.ResultRecord.{ResultRecord}
-use Rattle.records.proofs.Tables.{length-tab, tab-snoc, tab-is}
+use Rattle.records.proofs.Tables.{tab-snoc, tab-is}
 use Rattle.records.proofs.Codecs.{Bytes, FitNode, FitOp, FitResult, node-back, op-back, result-back, node-there, op-there, result-there, node-size, op-size, result-size, back16, there16}
 use Rattle.image.specs.Layout.{Region, place, recordAt, listedIn, blank, Zeros, Sound, Canonical, View, view, nodeRegion, opRegion, resultRegion, joined, upTo, headOf, imageOf}
 use Rattle.image.proofs.Parts.{next-place, chunk-same, chunk-is, chunk-byte}

@@ -1,7 +1,7 @@
 -- What each kind of writer makes of a region, and of the whole image.
 -- Assumes nothing.
-use mathlib.Core.Path.{_≡_, refl, sym, ap, subst, _∙_}
-use Prim.Native.Nat.{ℕ, suc, _+_, _*_, _-_, _≤_, _<_, _/_, _%_}
+use mathlib.Core.Path.{_≡_, sym, ap, subst, _∙_}
+use Prim.Native.Nat.{ℕ, suc, _+_, _*_, _-_, _≤_, _<_}
 use native.Mathlib.Nat.{mul-suc, mul-le-mul-left}
 use native.Mathlib.Omega.{arith}
 use native.Mathlib.Numerals.{add-one}
@@ -13,9 +13,9 @@ use Rattle.records.specs.Bytes.{le16, splice}
 use Rattle.records.specs.declared.node.NodeRecord.{NodeRecord}
 use Rattle.records.specs.declared.op.OpRecord.{OpRecord}
 use Rattle.records.specs.declared.result.ResultRecord.{ResultRecord}
-use Rattle.image.specs.Layout.{Region, place, recordAt, listedIn, blank, Zeros, MovedDown, MovedUp, Cleared, removeAt, insertAt, Sound, Canonical, Written, View, view, nodeRegion, opRegion, resultRegion, withNodes, withOps, withResults, withLast}
+use Rattle.image.specs.Layout.{Region, place, recordAt, listedIn, blank, Zeros, MovedDown, MovedUp, Cleared, removeAt, insertAt, Sound, Written, View, view, nodeRegion, opRegion, resultRegion, withNodes, withOps, withResults, withLast}
 use Rattle.image.proofs.Parts.{next-place, length-splice, splice-below, splice-above, length-remove, remove-below, remove-above, length-insert, insert-below, insert-at, insert-above}
-use Rattle.image.proofs.Regions.{Same, After, after, kept, count-of, record-of, record-same, record-kept, put-same, put-other, put-after}
+use Rattle.image.proofs.Regions.{Same, After, after, kept, record-of, record-same, record-kept, put-same, put-other, put-after}
 
 module _ {A : Type 0} (R : Region A) where
   -- t is s with xs in the region, and nothing else changed

@@ -10,7 +10,7 @@ use records::op::read_op;
 use records::result::ResultRecord;
 use records::result::read_result;
 ghost use mathlib.Core.Path.{_≡_};
-ghost use Prim.Native.Nat.{_<_, _≤_};
+ghost use Prim.Native.Nat.{_<_};
 ghost use lib.ListN.{length, getD};
 ghost use Rattle.image.specs.Layout.{Sound, view, nodeRegion, opRegion, resultRegion, blank};
 

@@ -12,7 +12,6 @@ use records::op::OpRecord;
 use records::op::op_bytes;
 use records::result::ResultRecord;
 use records::result::result_bytes;
-ghost use mathlib.Core.Path.{_≡_};
 ghost use mathlib.Core.List.{[], _∷_, _++_};
 ghost use Prim.Native.Nat.{_<_, _≤_};
 ghost use lib.ListN.{length, set};

@@ -1,7 +1,6 @@
 // Claim lines.
 use crate::fields::fields1;
 use text::cut::part_to;
-ghost use mathlib.Core.Path.{_≡_};
 ghost use Rattle.lines.specs.Answers.{lineAt, ClaimRead};
 
 // A claim line as it was read: the refusal, or 0, and the label.

@@ -1,6 +1,6 @@
 -- Each record is given back by its bytes, and its bytes are given back by what they say.
 -- Assumes nothing.
-use mathlib.Core.Path.{_≡_, refl, sym, ap, _∙_}
+use mathlib.Core.Path.{_≡_, refl, _∙_}
 use Prim.Native.Nat.{ℕ, zero, suc, _+_, _*_, _/_, _%_, _^_, _<_}
 use native.Mathlib.Omega.{arith}
 use mathlib.Core.List.{List, [], _∷_, _++_}
@@ -11,7 +11,7 @@ use Rattle.records.specs.declared.node.NodeRecord.{NodeRecord}
 use Rattle.records.specs.declared.op.OpRecord.{OpRecord}
 use Rattle.records.specs.declared.result.ResultRecord.{ResultRecord}
 use Rattle.records.specs.Bytes.{le16, le32, bytes16, bytes32, bytes8, keysAt, encodeKeys, tab}
-use Rattle.records.specs.Records.{labelsAt, encodeLabels, decodeNode, encodeNode, decodeOp, encodeOp, decodeResult, encodeResult, encodeHead}
+use Rattle.records.specs.Records.{labelsAt, encodeLabels, decodeNode, encodeNode, decodeOp, encodeOp, decodeResult, encodeResult}
 use Rattle.records.proofs.Tables.{tab-all}
 
 -- the elements of a list are bytes

@@ -1,15 +1,12 @@
 -- The queue that a proper image holds: what its readers find, and what its writers show.
 -- Assumes nothing.
 use mathlib.Core.Path.{_≡_, refl, sym, ap, _∙_, subst}
-use Prim.Native.Nat.{ℕ, zero, suc, _+_, _≤_, _<_}
-use native.Mathlib.Nat.{add-zero}
+use Prim.Native.Nat.{ℕ, zero, suc, _+_, _<_}
 use native.Mathlib.Numerals.{add-one}
 use native.Mathlib.Omega.{arith}
-use mathlib.Core.Bool.{Bool, true, false}
 use mathlib.Core.List.{List, [], _∷_, _++_}
-use lib.ListN.{length, getD, set, take, drop, drop-of-length-le, length-set}
-use lib.Seq.{drop-cons}
-use Rattle.queue.specs.Flat.{Tagged, Flat, find}
+use lib.ListN.{length, getD, set, take, drop, length-set}
+use Rattle.queue.specs.Flat.{Tagged, Flat}
 use Rattle.worksteps.specs.FlatSteps.{alter, removeAt, noOp, withQueue}
 use Rattle.records.specs.declared.op.OpRecord.{OpRecord}
 use Rattle.image.specs.Layout.{view, opRegion, blank, Written, withOps, removeAt as without}
@@ -24,18 +21,6 @@ module _ {A : Type 0} where
   alter-set f [] i d h = absurd (omega arith)
   alter-set f (x ∷ l) zero d h = refl
   alter-set f (x ∷ l) (suc i) d h = ap (λ (r : List A). x ∷ r) (alter-set f l i d (omega arith))
-
-  -- a search from i on: at an element that p holds of, at another, and at the end
-  module _ (p : A → Bool) (l : List A) (i : ℕ) where
-    pub find-end : length l ≤ i → i + find p (drop i l) ≡ i
-    find-end h = rw (drop-of-length-le l h) (add-zero i)
-
-    module _ (d : A) (h : i < length l) where
-      pub find-hit : p (getD l i d) ≡ true → i + find p (drop i l) ≡ i
-      find-hit e = rw (drop-cons l i d h, e) (add-zero i)
-
-      pub find-next : p (getD l i d) ≡ false → i + 1 + find p (drop (i + 1) l) ≡ i + find p (drop i l)
-      find-next e = rw (add-one i, drop-cons l i d h, e) (omega arith)
 
 -- THE IMAGE s, READ
 module _ (s : List ℕ) (proper : Proper s) where

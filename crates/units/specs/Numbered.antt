@@ -1,10 +1,9 @@
 -- Units by number: where one starts and ends, and two neighbours that are alone in their units.
 -- Assumes nothing.
-use Prim.Native.Nat.{ℕ, zero, suc}
+use Prim.Native.Nat.{ℕ, suc}
 use mathlib.Core.Bool.{cond, _&&_}
 use mathlib.Core.List.{List}
 use lib.Dec.{eqb}
-use lib.ListN.{length}
 use Rattle.graph.specs.Refusals.{Answer, refused, done}
 use Rattle.queue.specs.Flat.{Tagged, Flat, find, atPlace, isAt, endOf}
 use Rattle.worksteps.specs.FlatSteps.{unitStart, known}

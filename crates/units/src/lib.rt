@@ -4,7 +4,7 @@ use state::ops;
 ghost use mathlib.Core.Path.{_≡_};
 ghost use lib.ListN.{length};
 ghost use Rattle.queue.specs.Flat.{find, atPlace, isAt};
-ghost use Rattle.worksteps.specs.FlatSteps.{known, unitStart};
+ghost use Rattle.worksteps.specs.FlatSteps.{unitStart};
 ghost use Rattle.state.specs.Operations.{Bounded};
 ghost use Rattle.state.specs.State.{held, Proper};
 ghost use Rattle.units.specs.Numbered.{locate, locateTwo, spotted};

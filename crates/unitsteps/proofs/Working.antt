@@ -1,28 +1,24 @@
 -- The steps on a live image: the operations that stand at a station, and the answers that are given.
 -- Assumes nothing.
-use mathlib.Core.Path.{_≡_, refl, sym, _∙_, ap, subst}
+use mathlib.Core.Path.{_≡_, sym, _∙_, ap, subst}
 use Prim.Native.Nat.{ℕ, _≤_, _<_}
-use native.Mathlib.Omega.{arith}
 use mathlib.Core.Bool.{Bool, true, cond, _&&_}
 use mathlib.Core.List.{List, _++_}
-use lib.Dec.{leb}
 use lib.ListN.{length, getD, set}
-use borrow.Author.Tests.{eqb-true, ne-eqb, leb-true}
-use Rattle.graph.specs.Refusals.{Answer, refused, done, mapDone}
+use borrow.Author.Tests.{leb-true}
+use Rattle.graph.specs.Refusals.{refused, done, mapDone}
 use Rattle.graph.specs.Acts.{isMap}
 use Rattle.graph.specs.KeyLists.{sameKeys}
 use Rattle.graph.specs.Steps.{swap, fuse, maySwap, mayFuse, fused}
 use Rattle.graph.proofs.Answers.{and-right}
 use Rattle.graph.specs.OneAtATime.{opOf}
 use Rattle.graph.specs.Nodes.{Op}
-use Rattle.queue.specs.Flat.{Tagged, Flat, isOp, carried, atPlace, isAt, flat, nest}
-use Rattle.worksteps.specs.FlatSteps.{noOp, known, opIn, withOp, withQueue, removeAt, swapFlat, fuseFlat, flatStep}
-use Rattle.worksteps.proofs.Facts.{Sits, sits-at, here-at}
+use Rattle.queue.specs.Flat.{Tagged, Flat, isOp, carried}
+use Rattle.worksteps.specs.FlatSteps.{noOp, opIn, withOp, withQueue, removeAt, swapFlat, fuseFlat, flatStep}
 use Rattle.state.specs.Operations.{opValue, Carries}
 use Rattle.state.specs.declared.operation.Operation.{Operation}
 use Rattle.state.specs.State.{held, Shows}
-use Rattle.state.proofs.NodeLaws.{node-count}
-use Rattle.live.specs.Live.{Live, Works}
+use Rattle.live.specs.Live.{Live}
 use Rattle.units.specs.declared.Spot.{Spot}
 use Rattle.units.specs.Numbered.{locateTwo, spotted}
 use Rattle.units.proofs.Located.{at-within, both, spanOf, spot-yes, two-yes}

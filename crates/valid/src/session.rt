@@ -6,12 +6,6 @@ use crate::rows::results_ok;
 use crate::spaces::is_canonical;
 use crate::spaces::is_sound;
 use image::shift::clear;
-ghost use mathlib.Core.Path.{_≡_};
-ghost use mathlib.Core.Bool.{cond};
-ghost use lib.Dec.{eqb};
-ghost use lib.ListN.{length};
-ghost use Rattle.graph.specs.Sessions.{fresh};
-ghost use Rattle.valid.specs.Values.{encode};
 ghost use Rattle.valid.specs.Exact.{Exact, Opened};
 
 // Whether the bytes are the image of a valid session: where they are not, that is refusal 2 (a wrong length is refusal 1).

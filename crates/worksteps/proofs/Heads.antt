@@ -7,16 +7,15 @@ use mathlib.Core.Bool.{Bool, true, false, cond, not, _&&_, _||_, true≢false}
 use mathlib.Core.List.{List, [], _∷_, _++_, append-assoc, append-nil, map}
 use lib.Dec.{eqb}
 use lib.ListN.{length, getD, length-append}
-use lib.Seq.{slice, take-append-seam, drop-length, getD-at, set-at}
+use lib.Seq.{slice, take-append-seam, getD-at, set-at}
 use borrow.Author.Tests.{ne-eqb, eq-eqb, lt-ltb, le-ltb}
 use Rattle.graph.specs.Refusals.{Answer, refused, done, mapDone}
 use Rattle.graph.specs.KeyLists.{isNil, contains}
 use Rattle.graph.specs.Nodes.{Node, Op, Result, hits, actOn, actBy, mayFinish, stored}
 use Rattle.graph.specs.Sessions.{Station, station, Session, store}
 use Rattle.graph.specs.Steps.{Change, only, any, anyHits, FirstOp, firstOp, moveAt, afterRealise, realiseAt, afterFinish, finishAt, putUnit, move, realise, finish, step}
-use Rattle.graph.proofs.Answers.{eqb-same}
 use Rattle.queue.specs.Flat.{Tagged, Flat, standing, tagUnit, tagUnits, queueOf, nodesOf, flat, find, atPlace, Full, Keyed}
-use Rattle.queue.proofs.Places.{No, no-append, find-none, find-at, drop-past, drop-mid, slice-mid, no-queue, beyond-below, length-nodes, ends-units, is-at, end-of}
+use Rattle.queue.proofs.Places.{No, find-none, find-at, drop-past, drop-mid, slice-mid, no-queue, beyond-below, length-nodes}
 use Rattle.queue.proofs.Nesting.{flatSession}
 use Rattle.worksteps.specs.FlatSteps.{alter, removeAt, mapFrom, firstIn, noOp, noNode, moveTo, openAs, withOp, opIn, hitsKey, unitFrom, headUnit, onPlace, onFirst, moveFlat, actAt, actFlat, realiseFlat, finishesAt, takeOut, finishPlace, leaveFlat, finishFlat, flatStep}
 use Rattle.worksteps.proofs.Focus.{put, back, Agrees, step-focus}

@@ -3,16 +3,29 @@
 use mathlib.Core.Path.{_≡_, refl, sym, _∙_, ap}
 use Prim.Native.Nat.{ℕ, zero, suc, _+_, _≤_, _<_}
 use native.Mathlib.Nat.{add-zero}
+use native.Mathlib.Numerals.{add-one}
 use native.Mathlib.Omega.{arith}
 use mathlib.Core.Bool.{Bool, true, false, cond, _||_}
 use mathlib.Core.List.{List, [], _∷_, _++_, append-assoc, map, map-append}
 use lib.Dec.{ltb, leb·suc-suc}
-use lib.ListN.{length, take, drop, getD, length-append, length-map, take-append-drop}
-use lib.Seq.{slice, slice-empty, slice-cons, length-slice, length-take-le, drop-cons, drop-append-le, take-suc}
+use lib.ListN.{length, take, drop, getD, drop-of-length-le, length-append, length-map, take-append-drop}
+use lib.Seq.{slice, slice-empty, length-slice, length-take-le, getD-take, drop-cons, drop-append-le, take-suc}
 use borrow.Author.Tests.{lt-ltb, le-ltb, ltb-true, ltb-false}
 use Rattle.graph.specs.Steps.{any}
 use Rattle.queue.specs.Flat.{find}
 use Rattle.worksteps.specs.FlatSteps.{alter, mapFrom, firstIn}
+
+-- a search from i on: at an element that p holds of, at another, and at the end
+module _ {A : Type 0} (p : A → Bool) (l : List A) (i : ℕ) where
+  pub find-end : length l ≤ i → i + find p (drop i l) ≡ i
+  find-end h = rw (drop-of-length-le l h) (add-zero i)
+
+  module _ (d : A) (h : i < length l) where
+    pub find-hit : p (getD l i d) ≡ true → i + find p (drop i l) ≡ i
+    find-hit e = rw (drop-cons l i d h, e) (add-zero i)
+
+    pub find-next : p (getD l i d) ≡ false → i + 1 + find p (drop (i + 1) l) ≡ i + find p (drop i l)
+    find-next e = rw (add-one i, drop-cons l i d h, e) (omega arith)
 
 module _ {A : Type 0} (p : A → Bool) where
   any-find : (xs : List A) → any p xs ≡ ltb (find p xs) (length xs)
@@ -37,13 +50,14 @@ module _ {A : Type 0} (p : A → Bool) where
 
     -- a turn of the loop at j: it stops there, or goes on
     pub first-stop : (j : ℕ) (d : A) → j < e → p (getD xs j d) ≡ true → firstIn p j e xs ≡ j
-    first-stop j d h t = ap (λ (ys : List A). j + find p ys) (slice-cons j e xs d h fits) ∙ rw t (add-zero j)
+    first-stop j d h t = find-hit p (take e xs) j d (omega (arith, length-take-le e xs fits)) (ap p (getD-take e xs j d h) ∙ t)
 
     pub first-next : (j : ℕ) (d : A) → j < e → p (getD xs j d) ≡ false → firstIn p j e xs ≡ firstIn p (suc j) e xs
-    first-next j d h t = ap (λ (ys : List A). j + find p ys) (slice-cons j e xs d h fits) ∙ rw t (omega arith)
+    first-next j d h t =
+        sym (find-next p (take e xs) j d (omega (arith, length-take-le e xs fits)) (ap p (getD-take e xs j d h) ∙ t)) ∙ ap (λ (m : ℕ). firstIn p m e xs) (add-one j)
 
     pub first-end : firstIn p e e xs ≡ e
-    first-end = ap (λ (ys : List A). e + find p ys) (slice-empty e xs) ∙ add-zero e
+    first-end = find-end p (take e xs) e (omega (arith, length-take-le e xs fits))
 
 module _ {A : Type 0} (f : A → A) where
   pub alter-seam : (xs : List A) (y : A) (ys : List A) → alter (length xs) f (xs ++ (y ∷ ys)) ≡ xs ++ (f y ∷ ys)

@@ -4,7 +4,7 @@ use mathlib.Core.Path.{_≡_, refl, sym, _∙_, ap}
 use Prim.Native.Nat.{ℕ, zero, suc, _+_, _≤_}
 use native.Mathlib.Omega.{arith}
 use mathlib.Core.Bool.{Bool, true, false, cond, _&&_, true≢false}
-use mathlib.Core.List.{List, [], _∷_, _++_, append-assoc, append-nil}
+use mathlib.Core.List.{List, [], _∷_, _++_, append-assoc}
 use lib.Dec.{eqb, leb, ltb}
 use lib.ListN.{length, getD, set, length-append}
 use lib.Seq.{take-append-seam, drop-append-seam, getD-append-seam, set-append-seam}
@@ -13,9 +13,8 @@ use Rattle.graph.specs.Refusals.{Answer, refused, done, mapDone}
 use Rattle.graph.specs.Nodes.{Node, Op, Result}
 use Rattle.graph.specs.Sessions.{Station, station, Session}
 use Rattle.graph.specs.Steps.{Step, admit, realise, move, finish, join, split, swap, fuse, only, unitAt, pairAt, joinUnits, splitUnit, onSingles, maySwap, swapOps, mayFuse, fused, fuseOps, onUnits, step}
-use Rattle.graph.proofs.Answers.{eqb-same}
-use Rattle.queue.specs.Flat.{Tagged, standing, tagUnit, tagUnits, queueOf, nodesOf, flat, find, atPlace, isAt, Full, Keyed}
-use Rattle.queue.proofs.Places.{No, no-append, find-none, find-at, no-queue, beyond-below, length-ops, ends-units, is-at, is-not-at, end-of}
+use Rattle.queue.specs.Flat.{Tagged, standing, tagUnit, tagUnits, queueOf, nodesOf, flat, find, atPlace, Full, Keyed}
+use Rattle.queue.proofs.Places.{No, no-queue, beyond-below, length-ops, ends-units, is-at, is-not-at, end-of}
 use Rattle.queue.proofs.Nesting.{flatSession}
 use Rattle.worksteps.specs.FlatSteps.{alter, removeAt, noOp, openAs, unitFrom, withNext, pairFrom, joinFlat, splitFlat, neighbours, swapFlat, fuseFlat, onQueue, flatStep}
 use Rattle.worksteps.proofs.Focus.{back, Agrees, step-focus}

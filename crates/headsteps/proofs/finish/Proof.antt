@@ -6,7 +6,6 @@ use Rattle.worksteps.specs.FlatSteps.{leaveFlat}
 use Rattle.state.specs.State.{held}
 use Rattle.live.proofs.Working.{works-refused, works-done}
 use Rattle.headsteps.proofs.Heads.{first-no, first-yes, found-op}
-use native.Mathlib.Omega.{arith}
 use borrow.Author.Needs.{needs}
 use Rattle.headsteps.proofs.finish.Statement.{statement}
 use Rattle.headsteps.proofs.finish.Tie as tie

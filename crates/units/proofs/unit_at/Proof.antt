@@ -5,7 +5,6 @@ use Prim.Native.Nat.{ℕ}
 use mathlib.Core.Bool.{true, false}
 use Rattle.graph.specs.Refusals.{done}
 use Rattle.queue.specs.Flat.{isAt}
-use Rattle.worksteps.specs.FlatSteps.{known}
 use borrow.Author.Tests.{not-true, not-false}
 use Rattle.state.specs.State.{held}
 use Rattle.units.specs.Numbered.{spanAt, spotted}

@@ -1,6 +1,6 @@
 -- The first of realise, finish and move that the head unit allows.
 -- Assumes nothing.
-use mathlib.Core.Path.{refl, sym, _∙_}
+use mathlib.Core.Path.{refl}
 use Rattle.state.specs.State.{held}
 use Rattle.headsteps.proofs.Heads.{in-nodes}
 use Rattle.session.proofs.DrainSteps.{drains-done, node-known, begins-op, takes-realise, takes-finish, takes-move}

@@ -7,8 +7,8 @@ use lib.ListN.{length, drop}
 use borrow.Author.Tests.{eq-eqb, ne-eqb}
 use Rattle.queue.specs.Flat.{find, atPlace}
 use Rattle.worksteps.specs.FlatSteps.{noOp}
+use Rattle.worksteps.proofs.Turns.{find-end, find-hit, find-next}
 use Rattle.state.specs.State.{held}
-use Rattle.state.proofs.QueueHeld.{find-end, find-hit, find-next}
 use borrow.Author.Needs.{needs}
 use native.Mathlib.Omega.{arith}
 use Rattle.state.proofs.ops.first_at.Statement.{statement}

@@ -6,8 +6,8 @@ use native.Mathlib.Numerals.{add-one}
 use lib.ListN.{length, drop}
 use Rattle.queue.specs.Flat.{find, breaks, endOf}
 use Rattle.worksteps.specs.FlatSteps.{noOp}
+use Rattle.worksteps.proofs.Turns.{find-end, find-hit, find-next}
 use Rattle.state.specs.State.{held}
-use Rattle.state.proofs.QueueHeld.{find-end, find-hit, find-next}
 use borrow.Author.Needs.{needs}
 use native.Mathlib.Omega.{arith}
 use Rattle.state.proofs.ops.unit_end.Statement.{statement}

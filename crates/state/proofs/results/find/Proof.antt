@@ -7,9 +7,9 @@ use native.Mathlib.Nat.{zero-add}
 use lib.ListN.{length, drop}
 use borrow.Author.Tests.{eq-eqb, ne-eqb}
 use Rattle.queue.specs.Flat.{find}
+use Rattle.worksteps.proofs.Turns.{find-end, find-hit, find-next}
 use Rattle.state.specs.State.{held}
 use Rattle.state.specs.Results.{noResult, hasLabel}
-use Rattle.state.proofs.QueueHeld.{find-end, find-hit, find-next}
 use borrow.Author.Needs.{needs}
 use Rattle.state.proofs.results.find.Statement.{statement}
 use Rattle.state.proofs.results.find.Tie as tie

@@ -7,9 +7,9 @@ use native.Mathlib.Nat.{zero-add}
 use lib.ListN.{length, drop, getD}
 use borrow.Author.Tests.{lt-ltb, le-ltb}
 use Rattle.queue.specs.Flat.{find}
+use Rattle.worksteps.proofs.Turns.{find-end, find-hit, find-next}
 use Rattle.state.specs.State.{held}
 use Rattle.state.specs.Results.{noResult, isAbove}
-use Rattle.state.proofs.QueueHeld.{find-end, find-hit, find-next}
 use borrow.Author.Needs.{needs}
 use Rattle.state.proofs.results.place_of.Statement.{statement}
 use Rattle.state.proofs.results.place_of.Tie as tie

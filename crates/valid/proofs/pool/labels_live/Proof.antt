@@ -1,6 +1,6 @@
 -- `pool::labels_live` meets its contract.
 -- Assumes nothing.
-use mathlib.Core.Path.{sym, ap, _∙_}
+use mathlib.Core.Path.{ap, _∙_}
 use Prim.Native.Nat.{ℕ, _+_, _-_, _≤_}
 use lib.ListN.{length, take, length-append}
 use mathlib.Core.List.{List, _++_}

@@ -2,8 +2,6 @@
 -- Assumes nothing.
 use mathlib.Core.Path.{sym}
 use borrow.Author.Tests.{eq-eqb, ne-eqb}
-use borrow.Author.Needs.{needs}
-use native.Mathlib.Omega.{arith}
 use Rattle.valid.proofs.pool.same_or.Statement.{statement}
 use Rattle.valid.proofs.pool.same_or.Tie as tie
 use Rattle.valid.proofs.pool.same_or.Reads as reads
