@@ -14,10 +14,10 @@ use Rattle.graph.specs.OneAtATime.{Labelled, labelled}
 use Rattle.graph.specs.Refusals.{Answer, refused, done, Test, on, firstOf, unless}
 use Rattle.queue.specs.Flat.{Flat, isOp}
 use Rattle.worksteps.specs.FlatSteps.{withQueue}
-use Rattle.worksteps.specs.FlatEvents.{addsQueued, flatLive, flatAccept}
+use Rattle.worksteps.specs.FlatEvents.{addsQueued, flatLive, flatAccept, acceptedAs}
 use Rattle.state.specs.State.{held, Shows, withLast}
 use Rattle.live.specs.Live.{Live, Works}
-use Rattle.calls.specs.Accepting.{liveTests, acceptedAs, flatAcceptRest}
+use Rattle.calls.specs.Accepting.{flatLiveTests, flatAcceptRest}
 use Rattle.calls.proofs.Room.{queue-room}
 
 -- THE TESTS
@@ -37,7 +37,7 @@ record Open (f : Flat) : Type 0 where
   pub few : leb 64 (flatLive f) ≡ false
   pub labels : leb 65535 (f .last) ≡ false
 
-open-of : (f : Flat) → firstOf (liveTests f) ≡ 0 → Open f
+open-of : (f : Flat) → firstOf (flatLiveTests f) ≡ 0 → Open f
 open-of f e = go (leb 64 (flatLive f)) (leb 65535 (f .last)) refl refl e
   where
     go : (a b : Bool) → leb 64 (flatLive f) ≡ a → leb 65535 (f .last) ≡ b → _≡_ {A = ℕ} (cond a 14 (cond b 15 0)) 0 → Open f
@@ -47,16 +47,16 @@ open-of f e = go (leb 64 (flatLive f)) (leb 65535 (f .last)) refl refl e
 
 module _ (x : Labelled) (f : Flat) where
   pub rest-spent : (not (isOp x) && spent f) ≡ true → flatAcceptRest x f ≡ refused 13
-  rest-spent e = ap (λ (b : Bool). cond b (refused 13) (unless (liveTests f) (acceptedAs x f))) e
+  rest-spent e = ap (λ (b : Bool). cond b (refused 13) (unless (flatLiveTests f) (acceptedAs x f))) e
 
   module _ (unspent : (not (isOp x) && spent f) ≡ false) where
-    rest-live : flatAcceptRest x f ≡ unless (liveTests f) (acceptedAs x f)
-    rest-live = ap (λ (b : Bool). cond b (refused 13) (unless (liveTests f) (acceptedAs x f))) unspent
+    rest-live : flatAcceptRest x f ≡ unless (flatLiveTests f) (acceptedAs x f)
+    rest-live = ap (λ (b : Bool). cond b (refused 13) (unless (flatLiveTests f) (acceptedAs x f))) unspent
 
-    pub rest-refused : (firstOf (liveTests f) ≡ 0 → ⊥) → flatAcceptRest x f ≡ refused (firstOf (liveTests f))
-    rest-refused h = rest-live ∙ first-refuses (liveTests f) (acceptedAs x f) h
+    pub rest-refused : (firstOf (flatLiveTests f) ≡ 0 → ⊥) → flatAcceptRest x f ≡ refused (firstOf (flatLiveTests f))
+    rest-refused h = rest-live ∙ first-refuses (flatLiveTests f) (acceptedAs x f) h
 
-    pub rest-done : firstOf (liveTests f) ≡ 0 → flatAcceptRest x f ≡ done (acceptedAs x f)
+    pub rest-done : firstOf (flatLiveTests f) ≡ 0 → flatAcceptRest x f ≡ done (acceptedAs x f)
     rest-done e =
         let o = open-of f e in
         rest-live ∙ (λ i. cond (o .few i) (refused 14) (cond (o .labels i) (refused 15) (done (acceptedAs x f))))
@@ -75,7 +75,7 @@ is-add (near k s ts) l = refl
 pub accept-rest : (c : Call) (f : Flat) → firstOf (formTests c) ≡ 0 → flatAccept c f ≡ flatAcceptRest (labelled c (suc (f .last))) f
 accept-rest c f e =
     go (not (areWords (numbersOf c ++ (operandsOf c ++ targetsOf c)))) (not (areKeys (operandsOf c ++ targetsOf c))) (not (leb (length (targetsOf c)) 8 && rising (targetsOf c))) e
-    ∙ ap (λ (b : Bool). unless (on (b && spent f) 13 ∷ liveTests f) (acceptedAs (labelled c (suc (f .last))) f)) (is-add c (suc (f .last)))
+    ∙ ap (λ (b : Bool). unless (on (b && spent f) 13 ∷ flatLiveTests f) (acceptedAs (labelled c (suc (f .last))) f)) (is-add c (suc (f .last)))
   where
     go : {y : Answer Flat} (a b d : Bool) → _≡_ {A = ℕ} (cond a 10 (cond b 11 (cond d 12 0))) 0 → cond a (refused 10) (cond b (refused 11) (cond d (refused 12) y)) ≡ y
     go true b d e = absurd (omega arith)
@@ -93,7 +93,7 @@ pub record Spare (f : Flat) : Type 0 where
   pub queue : length (f .queue) < 64
   pub labels : f .last < 65535
 
-pub spare : (s : List ℕ) → Live s → firstOf (liveTests (held s)) ≡ 0 → Spare (held s)
+pub spare : (s : List ℕ) → Live s → firstOf (flatLiveTests (held s)) ≡ 0 → Spare (held s)
 spare s g e =
     let o = open-of (held s) e in
     record { queue = queue-room s g (o .few); labels = leb-false 65535 (held s .last) (o .labels) }

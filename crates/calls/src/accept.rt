@@ -21,7 +21,7 @@ ghost use Rattle.worksteps.specs.FlatEvents.{addsQueued, flatLive};
 ghost use Rattle.state.specs.Operations.{Bounded};
 ghost use Rattle.state.specs.State.{held, Proper};
 ghost use Rattle.live.specs.Live.{Live, Works};
-ghost use Rattle.calls.specs.Accepting.{liveTests, flatAcceptRest};
+ghost use Rattle.calls.specs.Accepting.{flatLiveTests, flatAcceptRest};
 
 // How many calls are live: their labels wait in the queue or among the results.
 pub fn live_total(image: &[u8]) -> usize
@@ -42,7 +42,7 @@ fn adds_spent(image: &[u8]) -> bool
 // The refusal of any call whose form is good, or 0.
 fn refusal(image: &[u8]) -> u32
     requires { ⌜ Proper (now image) ⌝ }
-    ensures { λ r. ⌜ r ≡ firstOf (liveTests (held (now (image .entry)))) ⌝ }
+    ensures { λ r. ⌜ r ≡ firstOf (flatLiveTests (held (now (image .entry)))) ⌝ }
 {
     if 64 <= live_total(image) {
         return 14;

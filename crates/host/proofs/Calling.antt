@@ -5,7 +5,7 @@ use Prim.Native.Nat.{ℕ, _+_}
 use native.Mathlib.Omega.{arith}
 use mathlib.Core.List.{List}
 use lib.ListN.{length}
-use Rattle.graph.specs.Calls.{Call, add, map, link, unlink, sum, top, pick, near, formTests}
+use Rattle.graph.specs.Calls.{Call, add, map, link, unlink, sum, top, pick, near, isAdd, formTests}
 use Rattle.graph.specs.Refusals.{Answer, refused, done, numberOf as codeOf, unless}
 use Rattle.graph.specs.Sessions.{Session, live, addsIn}
 use Rattle.graph.specs.Packed.{listed, packed}
@@ -63,7 +63,7 @@ read-packed (near k s to) = packed-again to
 
 -- what the form's own tests refuse is not accepted
 form-refused : (f : Call) (s : Session) {n : ℕ} → unless (formTests f) f ≡ refused n → accept f s ≡ refused n
-form-refused f s q = unless-refused (formTests f) (roomTests f (length (s .stations) + addsIn (s .topStream)) (length (live s)) (s .last)) f (accepted f s) q
+form-refused f s q = unless-refused (formTests f) (roomTests (isAdd f) (length (s .stations) + addsIn (s .topStream)) (length (live s)) (s .last)) f (accepted f s) q
 
 abbrev callReader : Reader Call CallLine
 callReader =

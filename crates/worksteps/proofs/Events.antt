@@ -11,7 +11,7 @@ use lib.ListN.{length, length-append}
 use borrow.Author.Tests.{ne-eqb, lt-ltb}
 use Rattle.graph.specs.Refusals.{Answer, refused, done, mapDone, Test, unless}
 use Rattle.graph.specs.KeyLists.{contains}
-use Rattle.graph.specs.Calls.{Call, formTests}
+use Rattle.graph.specs.Calls.{Call, isAdd, formTests}
 use Rattle.graph.specs.Nodes.{Op, Result}
 use Rattle.graph.specs.OneAtATime.{Labelled, addOf, opOf, labelled}
 use Rattle.graph.specs.Sessions.{Station, Session, labelsOfUnit, labelsOfUnits, labelsOfStations, labelsOfCalls, labelsOfResults, pending, live, addsIn}
@@ -133,7 +133,7 @@ accepted-same c s i =
     flatSession (nodesOf (s .stations)) ((append-assoc (queueOf (s .stations)) (waiting (s .topStream)) (waiting (labelled c (suc (s .last)) ∷ [])) ∙ ap (λ (z : List Tagged). queueOf (s .stations) ++ z) (sym (waiting-append (s .topStream) (labelled c (suc (s .last)) ∷ [])))) i) (s .results) (suc (s .last))
 
 tests-same : (c : Call) (s : Session) → flatTests c (flat s) ≡ callTests c s
-tests-same c s i = formTests c ++ roomTests c (adds-same s i) (live-same s i) (s .last)
+tests-same c s i = formTests c ++ roomTests (isAdd c) (adds-same s i) (live-same s i) (s .last)
 
 unless-map : {A B : Type 0} (g : A → B) (ts : List Test) (a : A) → unless ts (g a) ≡ mapDone g (unless ts a)
 unless-map g [] a = refl

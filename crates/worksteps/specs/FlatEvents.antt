@@ -8,7 +8,7 @@ use lib.Dec.{eqb, leb}
 use lib.ListN.{length}
 use Rattle.graph.specs.Refusals.{Answer, refused, mapDone, Test, unless}
 use Rattle.graph.specs.KeyLists.{contains}
-use Rattle.graph.specs.Calls.{Call, formTests}
+use Rattle.graph.specs.Calls.{Call, isAdd, formTests}
 use Rattle.graph.specs.OneAtATime.{Labelled, addOf, opOf, labelled}
 use Rattle.graph.specs.Steps.{Step, admit, realise, move, finish}
 use Rattle.graph.specs.Acceptance.{roomTests, Claimed, takeResult}
@@ -37,16 +37,14 @@ abbrev pub flatLive : Flat → ℕ
 flatLive f = length (queued (f .queue)) + length (f .results)
 
 abbrev pub flatTests : Call → Flat → List Test
-flatTests c f = formTests c ++ roomTests c (length (f .nodes) + addsQueued (f .queue)) (flatLive f) (f .last)
+flatTests c f = formTests c ++ roomTests (isAdd c) (length (f .nodes) + addsQueued (f .queue)) (flatLive f) (f .last)
+
+-- x at the end of the top stream, with the next label given
+abbrev pub acceptedAs : Labelled → Flat → Flat
+acceptedAs x f = record { nodes = f .nodes; queue = f .queue ++ (record { place = 65; opens = true; call = x } ∷ []); results = f .results; last = suc (f .last) }
 
 abbrev pub flatAccepted : Call → Flat → Flat
-flatAccepted c f =
-    record {
-      nodes = f .nodes;
-      queue = f .queue ++ (record { place = 65; opens = true; call = labelled c (suc (f .last)) } ∷ []);
-      results = f .results;
-      last = suc (f .last);
-    }
+flatAccepted c f = acceptedAs (labelled c (suc (f .last))) f
 
 abbrev pub flatAccept : Call → Flat → Answer Flat
 flatAccept c f = unless (flatTests c f) (flatAccepted c f)
