@@ -13,7 +13,7 @@ ghost use mathlib.Core.Path.{_≡_};
 ghost use Prim.Native.Nat.{_≤_};
 ghost use lib.ListN.{length, drop};
 ghost use Rattle.lines.specs.Reads.{StepWordOf, StepFields, StepMade, hasPlace};
-ghost use Rattle.lines.specs.Answers.{lineAt, StepRead, refusedStep};
+ghost use Rattle.lines.specs.Answers.{lineAt, StepRead, refusedStep, stepOf, stepNumber};
 
 pub enum StepKind {
     Admit,
@@ -34,6 +34,24 @@ pub struct StepLine {
     pub at: u32,
     pub unit: u32,
     pub after: u32,
+}
+
+// The place of a step's kind in document 01's list, which is the tally's order. Drain, which has no count, is the ninth.
+pub fn step_number(s: StepLine) -> u8
+    ensures { λ r. ⌜ r ≡ stepNumber (stepOf s) ⌝ }
+{
+    let kind = s.kind;
+    match kind {
+        StepKind::Admit => 0,
+        StepKind::Realise => 1,
+        StepKind::Move => 2,
+        StepKind::Finish => 3,
+        StepKind::Join => 4,
+        StepKind::Split => 5,
+        StepKind::Swap => 6,
+        StepKind::Fuse => 7,
+        StepKind::Drain => 8,
+    }
 }
 
 fn refused_step(refusal: u8) -> StepLine
