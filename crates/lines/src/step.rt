@@ -1,13 +1,12 @@
 // Step lines.
 use crate::fields::Fields;
+use crate::fields::after_head;
 use crate::fields::fields0;
 use crate::fields::fields1;
 use crate::fields::fields2;
 use crate::fields::fields3;
 use crate::fields::value_at;
-use crate::fields::word_place;
 use crate::keylist::is_key;
-use text::cut::Place;
 use text::cut::part_to;
 ghost use mathlib.Core.Path.{_≡_};
 ghost use Prim.Native.Nat.{_≤_};
@@ -163,14 +162,12 @@ pub fn read_step(frame: &[u8], at: usize) -> StepLine
     ensures { λ r. ⌜ StepRead (lineAt (now (frame .entry)) at) r ⌝ }
 {
     let line = part_to(frame, at, b'\n');
-    let Place::At(from) = word_place(line, b"step=") else {
-        return refused_step(10);
-    };
-    let word = value_at(line, from);
+    let rest = after_head(line, b"step=");
+    let word = value_at(rest, 0);
     let StepWord::Is(kind) = step_word(word) else {
         return refused_step(10);
     };
-    let fields = step_fields(kind, line, from + word.len());
+    let fields = step_fields(kind, rest, word.len());
     if fields.ok {
         return step_made(kind, fields);
     }
