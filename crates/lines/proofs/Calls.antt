@@ -1,7 +1,7 @@
 -- Call lines: their grammar, their forms, and the answer to each form.
 -- Assumes nothing.
-use Prim.Native.Nat.{ℕ, _<_, _≤_, _^_}
-use mathlib.Core.Path.{_≡_, refl, sym, ap, _∙_}
+use Prim.Native.Nat.{ℕ, _<_, _≤_}
+use mathlib.Core.Path.{_≡_, refl, sym, _∙_}
 use mathlib.Core.Bool.{Bool, true, false, cond, false≢true, _&&_}
 use mathlib.Core.List.{List, _++_}
 use native.Mathlib.Omega.{arith}
@@ -15,37 +15,15 @@ use Rattle.text.specs.Text.{ascii}
 use Rattle.text.proofs.Splits.{cleanTest, clean-by}
 use Rattle.lines.specs.Forms.{callText, callNumbers}
 use Rattle.lines.specs.Answers.{callLine, refusedCall, callRead, callAnswer, callForm}
-use Rattle.lines.specs.Reads.{Below, KeysOf, Tailed, Spare, Literals, callWord, callLiterals, callListed, keyOk, CallMade}
+use Rattle.lines.specs.Reads.{KeysOf, Tailed, Spare, callWord, callLiterals, callListed, keyOk, CallMade}
 use Rattle.lines.specs.declared.call.CallKind.{CallKind}
 use Rattle.lines.specs.declared.call.CallKind.the-variants.{Add, Map, Link, Unlink, Sum, Top, Pick, Near}
 use Rattle.lines.specs.declared.call.CallLine.{CallLine}
 use Rattle.lines.specs.declared.fields.Fields.{Fields}
 use Rattle.lines.proofs.KeyLists.{rising-keys}
-use Rattle.lines.proofs.Words.{Word, Grammar, Parts, textIn, PartsOf, Forms, unique}
+use Rattle.lines.proofs.Words.{KindOf, Grammar, Parts, PartsOf, Made, Forms, unique}
 
 -- ---- the grammar
-
-pub call-words : (k : CallKind) → Word (callWord k)
-unfolding ascii cleanTest
-call-words Add = clean-by 32 (callWord Add) refl
-call-words Map = clean-by 32 (callWord Map) refl
-call-words Link = clean-by 32 (callWord Link) refl
-call-words Unlink = clean-by 32 (callWord Unlink) refl
-call-words Sum = clean-by 32 (callWord Sum) refl
-call-words Top = clean-by 32 (callWord Top) refl
-call-words Pick = clean-by 32 (callWord Pick) refl
-call-words Near = clean-by 32 (callWord Near) refl
-
-pub call-gaps : (k : CallKind) → Literals (callLiterals k)
-unfolding ascii
-call-gaps Add = (refl, tt)
-call-gaps Map = (refl, (refl, tt))
-call-gaps Link = (refl, tt)
-call-gaps Unlink = (refl, tt)
-call-gaps Sum = (refl, tt)
-call-gaps Top = (refl, tt)
-call-gaps Pick = (refl, tt)
-call-gaps Near = (refl, (refl, tt))
 
 -- the first letter tells the words apart
 kindAt : ℕ → CallKind
@@ -58,19 +36,19 @@ kindAt b =
     (cond (eqb b 116) Top
     (cond (eqb b 112) Pick Near))))))
 
-first-letter : (k : CallKind) → k ≡ kindAt (getD (callWord k) 0 0)
-unfolding kindAt ascii
-first-letter Add = refl
-first-letter Map = refl
-first-letter Link = refl
-first-letter Unlink = refl
-first-letter Sum = refl
-first-letter Top = refl
-first-letter Pick = refl
-first-letter Near = refl
+pub named : List ℕ → CallKind
+named w = kindAt (getD w 0 0)
 
-pub call-apart : (j k : CallKind) → callWord j ≡ callWord k → j ≡ k
-call-apart j k e = first-letter j ∙ ap (λ (w : List ℕ). kindAt (getD w 0 0)) e ∙ sym (first-letter k)
+pub call-kinds : (k : CallKind) → KindOf named k (callWord k) (callLiterals k)
+unfolding named kindAt ascii cleanTest
+call-kinds Add = record { clean = clean-by 32 (callWord Add) refl; some = omega arith; names = refl; gaps = (refl, tt) }
+call-kinds Map = record { clean = clean-by 32 (callWord Map) refl; some = omega arith; names = refl; gaps = (refl, (refl, tt)) }
+call-kinds Link = record { clean = clean-by 32 (callWord Link) refl; some = omega arith; names = refl; gaps = (refl, tt) }
+call-kinds Unlink = record { clean = clean-by 32 (callWord Unlink) refl; some = omega arith; names = refl; gaps = (refl, tt) }
+call-kinds Sum = record { clean = clean-by 32 (callWord Sum) refl; some = omega arith; names = refl; gaps = (refl, tt) }
+call-kinds Top = record { clean = clean-by 32 (callWord Top) refl; some = omega arith; names = refl; gaps = (refl, tt) }
+call-kinds Pick = record { clean = clean-by 32 (callWord Pick) refl; some = omega arith; names = refl; gaps = (refl, tt) }
+call-kinds Near = record { clean = clean-by 32 (callWord Near) refl; some = omega arith; names = refl; gaps = (refl, (refl, tt)) }
 
 unfoldable pub calls : Grammar CallKind
 calls =
@@ -79,9 +57,8 @@ calls =
       word = callWord;
       literals = callLiterals;
       listed = callListed;
-      words = call-words;
-      gaps = call-gaps;
-      apart = call-apart;
+      named = named;
+      kinds = call-kinds;
     }
 
 pub no-call-word : (w : List ℕ) → (w ≡ ascii "add" → ⊥) → (w ≡ ascii "map" → ⊥) → (w ≡ ascii "link" → ⊥) → (w ≡ ascii "unlink" → ⊥)
@@ -97,26 +74,16 @@ no-call-word w a m l u s t p n Near = n
 
 -- ---- the forms
 
-call-text : (k : CallKind) (x y z : ℕ) (ts : List ℕ) → textIn calls (record { kind = k; x = x; y = y; z = z; to = ts }) ≡ callText (callForm k x y ts)
+call-made : (k : CallKind) (x y z : ℕ) (ts : List ℕ) → Made calls callText callNumbers (record { kind = k; x = x; y = y; z = z; to = ts }) (callForm k x y ts)
 unfolding calls ascii
-call-text Add x y z ts = refl
-call-text Map x y z ts = refl
-call-text Link x y z ts = refl
-call-text Unlink x y z ts = refl
-call-text Sum x y z ts = refl
-call-text Top x y z ts = refl
-call-text Pick x y z ts = refl
-call-text Near x y z ts = refl
-
-call-fits : (k : CallKind) (x y : ℕ) (ts : List ℕ) → x < 2 ^ 32 → y < 2 ^ 32 → Below ts → Below (callNumbers (callForm k x y ts))
-call-fits Add x y ts hx hy b = (hx, tt)
-call-fits Map x y ts hx hy b = (hx, (hy, b))
-call-fits Link x y ts hx hy b = (hx, b)
-call-fits Unlink x y ts hx hy b = (hx, b)
-call-fits Sum x y ts hx hy b = (hx, b)
-call-fits Top x y ts hx hy b = (hx, b)
-call-fits Pick x y ts hx hy b = (hx, b)
-call-fits Near x y ts hx hy b = (hy, (hx, b))
+call-made Add x y z ts = record { same = refl; fits = λ s. (s .0, tt) }
+call-made Map x y z ts = record { same = refl; fits = λ s. (s .0, (s .1, s .3)) }
+call-made Link x y z ts = record { same = refl; fits = λ s. (s .0, s .3) }
+call-made Unlink x y z ts = record { same = refl; fits = λ s. (s .0, s .3) }
+call-made Sum x y z ts = record { same = refl; fits = λ s. (s .0, s .3) }
+call-made Top x y z ts = record { same = refl; fits = λ s. (s .0, s .3) }
+call-made Pick x y z ts = record { same = refl; fits = λ s. (s .0, s .3) }
+call-made Near x y z ts = record { same = refl; fits = λ s. (s .1, (s .0, s .3)) }
 
 abbrev pub formOf : Parts CallKind → Call
 formOf p = callForm (p .kind) (p .x) (p .y) (p .to)
@@ -139,8 +106,7 @@ pub call-forms : Forms calls callText callNumbers formOf partsOf
 call-forms =
     record {
       parts = parts;
-      same = λ p. call-text (p .kind) (p .x) (p .y) (p .z) (p .to);
-      fits = λ p s. call-fits (p .kind) (p .x) (p .y) (p .to) (s .0) (s .1) (s .3);
+      made = λ p. call-made (p .kind) (p .x) (p .y) (p .z) (p .to);
     }
 
 -- a call line's text determines the call

@@ -1,50 +1,26 @@
 -- Step lines: their grammar, their forms, and the answer to each form.
 -- Assumes nothing.
-use Prim.Native.Nat.{ℕ, _+_, _<_, _^_}
+use Prim.Native.Nat.{ℕ, _+_}
 use mathlib.Core.Path.{_≡_, refl, sym, ap, _∙_}
 use mathlib.Core.Bool.{Bool, true, false, cond, false≢true, and-true}
 use mathlib.Core.List.{List, []}
 use native.Mathlib.Omega.{arith}
 use lib.Dec.{eqb}
-use lib.ListN.{length, getD}
+use lib.ListN.{getD}
 use Rattle.graph.specs.Steps.{admit, realise, move, finish, join, split, swap, fuse}
 use Rattle.text.specs.Text.{ascii}
 use Rattle.text.proofs.Splits.{cleanTest, clean-by}
 use Rattle.graph.specs.KeyLists.{isKey, areKeys}
 use Rattle.lines.specs.Forms.{StepForm, work, drain, stepText, stepNumbers, stepKeys}
 use Rattle.lines.specs.Answers.{stepLine, refusedStep, stepRead, stepAnswer, stepForm, stepOf}
-use Rattle.lines.specs.Reads.{Below, Spare, Literals, stepWord, stepLiterals, hasPlace, StepMade}
+use Rattle.lines.specs.Reads.{Spare, stepWord, stepLiterals, hasPlace, StepMade}
 use Rattle.lines.specs.declared.step.StepKind.{StepKind}
 use Rattle.lines.specs.declared.step.StepKind.the-variants.{Admit, Realise, Move, Finish, Join, Split, Swap, Fuse, Drain}
 use Rattle.lines.specs.declared.step.StepLine.{StepLine}
 use Rattle.lines.specs.declared.fields.Fields.{Fields}
-use Rattle.lines.proofs.Words.{Word, Grammar, Parts, textIn, PartsOf, Forms, unique}
+use Rattle.lines.proofs.Words.{KindOf, Grammar, Parts, PartsOf, Made, Forms, unique}
 
 -- ---- the grammar
-
-pub step-words : (k : StepKind) → Word (stepWord k)
-unfolding ascii cleanTest
-step-words Admit = clean-by 32 (stepWord Admit) refl
-step-words Realise = clean-by 32 (stepWord Realise) refl
-step-words Move = clean-by 32 (stepWord Move) refl
-step-words Finish = clean-by 32 (stepWord Finish) refl
-step-words Join = clean-by 32 (stepWord Join) refl
-step-words Split = clean-by 32 (stepWord Split) refl
-step-words Swap = clean-by 32 (stepWord Swap) refl
-step-words Fuse = clean-by 32 (stepWord Fuse) refl
-step-words Drain = clean-by 32 (stepWord Drain) refl
-
-pub step-gaps : (k : StepKind) → Literals (stepLiterals k)
-unfolding ascii
-step-gaps Admit = tt
-step-gaps Realise = (refl, tt)
-step-gaps Move = (refl, tt)
-step-gaps Finish = (refl, tt)
-step-gaps Join = (refl, (refl, tt))
-step-gaps Split = (refl, (refl, (refl, tt)))
-step-gaps Swap = (refl, (refl, tt))
-step-gaps Fuse = (refl, (refl, tt))
-step-gaps Drain = tt
 
 -- the first two letters tell the words apart, and so does their sum
 kindAt : ℕ → StepKind
@@ -61,20 +37,20 @@ kindAt b =
 letters : List ℕ → ℕ
 letters w = getD w 0 0 + getD w 1 0
 
-first-letters : (k : StepKind) → k ≡ kindAt (letters (stepWord k))
-unfolding kindAt letters ascii
-first-letters Admit = refl
-first-letters Realise = refl
-first-letters Move = refl
-first-letters Finish = refl
-first-letters Join = refl
-first-letters Split = refl
-first-letters Swap = refl
-first-letters Fuse = refl
-first-letters Drain = refl
+pub named : List ℕ → StepKind
+named w = kindAt (letters w)
 
-pub step-apart : (j k : StepKind) → stepWord j ≡ stepWord k → j ≡ k
-step-apart j k e = first-letters j ∙ ap (λ (w : List ℕ). kindAt (letters w)) e ∙ sym (first-letters k)
+pub step-kinds : (k : StepKind) → KindOf named k (stepWord k) (stepLiterals k)
+unfolding named kindAt letters ascii cleanTest
+step-kinds Admit = record { clean = clean-by 32 (stepWord Admit) refl; some = omega arith; names = refl; gaps = tt }
+step-kinds Realise = record { clean = clean-by 32 (stepWord Realise) refl; some = omega arith; names = refl; gaps = (refl, tt) }
+step-kinds Move = record { clean = clean-by 32 (stepWord Move) refl; some = omega arith; names = refl; gaps = (refl, tt) }
+step-kinds Finish = record { clean = clean-by 32 (stepWord Finish) refl; some = omega arith; names = refl; gaps = (refl, tt) }
+step-kinds Join = record { clean = clean-by 32 (stepWord Join) refl; some = omega arith; names = refl; gaps = (refl, (refl, tt)) }
+step-kinds Split = record { clean = clean-by 32 (stepWord Split) refl; some = omega arith; names = refl; gaps = (refl, (refl, (refl, tt))) }
+step-kinds Swap = record { clean = clean-by 32 (stepWord Swap) refl; some = omega arith; names = refl; gaps = (refl, (refl, tt)) }
+step-kinds Fuse = record { clean = clean-by 32 (stepWord Fuse) refl; some = omega arith; names = refl; gaps = (refl, (refl, tt)) }
+step-kinds Drain = record { clean = clean-by 32 (stepWord Drain) refl; some = omega arith; names = refl; gaps = tt }
 
 unfoldable pub steps : Grammar StepKind
 steps =
@@ -83,9 +59,8 @@ steps =
       word = stepWord;
       literals = stepLiterals;
       listed = λ k. false;
-      words = step-words;
-      gaps = step-gaps;
-      apart = step-apart;
+      named = named;
+      kinds = step-kinds;
     }
 
 pub no-step-word : (w : List ℕ) → (w ≡ ascii "admit" → ⊥) → (w ≡ ascii "realise" → ⊥) → (w ≡ ascii "move" → ⊥) → (w ≡ ascii "finish" → ⊥)
@@ -103,28 +78,17 @@ no-step-word w a r m f j p s u d Drain = d
 
 -- ---- the forms
 
-step-text : (k : StepKind) (x y z : ℕ) (ts : List ℕ) → textIn steps (record { kind = k; x = x; y = y; z = z; to = ts }) ≡ stepText (stepForm k x y z)
+step-made : (k : StepKind) (x y z : ℕ) (ts : List ℕ) → Made steps stepText stepNumbers (record { kind = k; x = x; y = y; z = z; to = ts }) (stepForm k x y z)
 unfolding steps ascii
-step-text Admit x y z ts = refl
-step-text Realise x y z ts = refl
-step-text Move x y z ts = refl
-step-text Finish x y z ts = refl
-step-text Join x y z ts = refl
-step-text Split x y z ts = refl
-step-text Swap x y z ts = refl
-step-text Fuse x y z ts = refl
-step-text Drain x y z ts = refl
-
-step-fits : (k : StepKind) (x y z : ℕ) → x < 2 ^ 32 → y < 2 ^ 32 → z < 2 ^ 32 → Below (stepNumbers (stepForm k x y z))
-step-fits Admit x y z hx hy hz = tt
-step-fits Realise x y z hx hy hz = (hx, tt)
-step-fits Move x y z hx hy hz = (hx, tt)
-step-fits Finish x y z hx hy hz = (hx, tt)
-step-fits Join x y z hx hy hz = (hx, (hy, tt))
-step-fits Split x y z hx hy hz = (hx, (hy, (hz, tt)))
-step-fits Swap x y z hx hy hz = (hx, (hy, tt))
-step-fits Fuse x y z hx hy hz = (hx, (hy, tt))
-step-fits Drain x y z hx hy hz = tt
+step-made Admit x y z ts = record { same = refl; fits = λ s. tt }
+step-made Realise x y z ts = record { same = refl; fits = λ s. (s .0, tt) }
+step-made Move x y z ts = record { same = refl; fits = λ s. (s .0, tt) }
+step-made Finish x y z ts = record { same = refl; fits = λ s. (s .0, tt) }
+step-made Join x y z ts = record { same = refl; fits = λ s. (s .0, (s .1, tt)) }
+step-made Split x y z ts = record { same = refl; fits = λ s. (s .0, (s .1, (s .2, tt))) }
+step-made Swap x y z ts = record { same = refl; fits = λ s. (s .0, (s .1, tt)) }
+step-made Fuse x y z ts = record { same = refl; fits = λ s. (s .0, (s .1, tt)) }
+step-made Drain x y z ts = record { same = refl; fits = λ s. tt }
 
 abbrev pub formOf : Parts StepKind → StepForm
 formOf p = stepForm (p .kind) (p .x) (p .y) (p .z)
@@ -152,8 +116,7 @@ pub step-forms : Forms steps stepText stepNumbers formOf partsOf
 step-forms =
     record {
       parts = parts;
-      same = λ p. step-text (p .kind) (p .x) (p .y) (p .z) (p .to);
-      fits = λ p s. step-fits (p .kind) (p .x) (p .y) (p .z) (s .0) (s .1) (s .2);
+      made = λ p. step-made (p .kind) (p .x) (p .y) (p .z) (p .to);
     }
 
 -- a step line's text determines the step

@@ -1,14 +1,13 @@
 -- A line that begins with a head and a word, which decides the fields that follow.
 -- Assumes nothing.
-use Prim.Native.Nat.{ℕ, _<_, _≤_, _^_}
+use Prim.Native.Nat.{ℕ, _<_, _^_}
 use mathlib.Core.Path.{_≡_, refl, sym, ap, subst, _∙_}
 use mathlib.Core.Bool.{Bool, true, false, false≢true}
 use mathlib.Core.List.{List, [], _∷_, _++_}
 use native.Mathlib.Omega.{arith}
 use lib.ListN.{length, drop, length-append}
 use Rattle.text.specs.Text.{upTo, decimal, ascii, commas}
-use Rattle.text.specs.Reads.{PlaceOf, Gap}
-use Rattle.text.specs.declared.cut.Place.the-variants.{At, Missing}
+use Rattle.text.specs.Reads.{Gap}
 use Rattle.text.proofs.Splits.{Clean, split, part-is, cancel, same-number}
 use Rattle.text.proofs.Lists.{commas-inj}
 use Rattle.graph.specs.Calls.{areWords}
@@ -35,27 +34,20 @@ module _ {line head rest : List ℕ} where
 
 -- ---- the lines of several kinds: a head, a word for each kind, and the fields after it
 
--- some bytes, without a space
-abbrev pub Word : List ℕ → Type 0
-Word [] = ⊥
-Word (c ∷ cs) = Clean 32 (c ∷ cs)
-
-word-clean : (w : List ℕ) → Word w → Clean 32 w
-word-clean [] h = absurd h
-word-clean (c ∷ cs) h = h
-
-word-some : (w : List ℕ) → Word w → 0 < length w
-word-some [] h = absurd h
-word-some (c ∷ cs) h = omega arith
+-- a kind's word, which holds no space and names it, and its literals
+pub record KindOf {Kind : Type 0} (named : List ℕ → Kind) (k : Kind) (word : List ℕ) (literals : List (List ℕ)) : Type 0 where
+  pub clean : Clean 32 word
+  pub some : 0 < length word
+  pub names : k ≡ named word
+  pub gaps : Literals literals
 
 pub record Grammar (Kind : Type 0) : Type 0 where
   pub head : List ℕ
   pub word : Kind → List ℕ
   pub literals : Kind → List (List ℕ)
   pub listed : Kind → Bool
-  pub words : (k : Kind) → Word (word k)
-  pub gaps : (k : Kind) → Literals (literals k)
-  pub apart : (j k : Kind) → word j ≡ word k → j ≡ k
+  pub named : List ℕ → Kind
+  pub kinds : (k : Kind) → KindOf named k (word k) (literals k)
 
 -- a line taken apart
 pub record Parts (Kind : Type 0) : Type 0 where
@@ -87,11 +79,14 @@ abbrev Never : {K : Type 0} → Grammar K → List ℕ → Type 0
 Never {K} G line = length line < 256 → (p : Parts K) → Small p → line ≡ textIn G p → ⊥
 
 module _ {K : Type 0} (G : Grammar K) where
+  apart : (j k : K) → G .word j ≡ G .word k → j ≡ k
+  apart j k e = G .kinds j .names ∙ ap (G .named) e ∙ sym (G .kinds k .names)
+
   gap-in : (p : Parts K) → Gap 32 (fieldsIn G p)
-  gap-in p = fields-gap (G .literals (p .kind)) (G .gaps (p .kind)) (G .listed (p .kind)) (p .x) (p .y) (p .z) (p .to)
+  gap-in p = fields-gap (G .literals (p .kind)) (G .kinds (p .kind) .gaps) (G .listed (p .kind)) (p .x) (p .y) (p .z) (p .to)
 
   word-in : (p : Parts K) (l : List ℕ) → l ≡ G .word (p .kind) ++ fieldsIn G p → upTo 32 l ≡ G .word (p .kind)
-  word-in p l e = part-is 32 l (G .word (p .kind)) (fieldsIn G p) e (word-clean (G .word (p .kind)) (G .words (p .kind))) (gap-in p)
+  word-in p l e = part-is 32 l (G .word (p .kind)) (fieldsIn G p) e (G .kinds (p .kind) .clean) (gap-in p)
 
   module _ (line rest : List ℕ) (h : AfterHead line (G .head) rest) where
     no-word : ((k : K) → upTo 32 rest ≡ G .word k → ⊥) → Never G line
@@ -102,13 +97,13 @@ module _ {K : Type 0} (G : Grammar K) where
       after-word = split 32 rest .0 ∙ ap (λ (l : List ℕ). l ++ drop (length (upTo 32 rest)) rest) w
 
       headed : (length line < 256) × (line ≡ G .head ++ rest)
-      headed = head-found h (omega (arith, word-some (G .word k) (G .words k), ap length after-word, length-append (G .word k) (drop (length (upTo 32 rest)) rest)))
+      headed = head-found h (omega (arith, G .kinds k .some, ap length after-word, length-append (G .word k) (drop (length (upTo 32 rest)) rest)))
 
       module _ (r : Fields) (o : FieldsOf (G .literals k) (G .listed k) (drop (length (upTo 32 rest)) rest) r) where
         no-fields : r .ok ≡ false → Never G line
         no-fields bad short p s e =
             let q : rest ≡ G .word (p .kind) ++ fieldsIn G p = rest-is h short (G .word (p .kind) ++ fieldsIn G p) e in
-            let same : p .kind ≡ k = G .apart (p .kind) k (sym (word-in p rest q) ∙ w) in
+            let same : p .kind ≡ k = apart (p .kind) k (sym (word-in p rest q) ∙ w) in
             let q′ : rest ≡ G .word k ++ fieldsIn G (withKind k p) = subst (λ (j : K). rest ≡ G .word j ++ fieldsIn G (withKind j p)) same q in
             o .no bad (p .x) (p .y) (p .z) (p .to) (s .0) (s .1) (s .2) (s .3) (cancel (G .word k) (drop (length (upTo 32 rest)) rest) (fieldsIn G (withKind k p)) (sym after-word ∙ q′))
 
@@ -138,7 +133,7 @@ fields-inj ((c ∷ cs) ∷ others) g listed x y z x′ y′ z′ ts us s s′ t 
 module _ {K : Type 0} (G : Grammar K) where
   kind-inj : (p q : Parts K) → textIn G p ≡ textIn G q → p .kind ≡ q .kind
   kind-inj p q e =
-      G .apart (p .kind) (q .kind)
+      apart G (p .kind) (q .kind)
       (sym (word-in G p (G .word (p .kind) ++ fieldsIn G p) refl)
       ∙ word-in G q (G .word (p .kind) ++ fieldsIn G p) (cancel (G .head) (G .word (p .kind) ++ fieldsIn G p) (G .word (q .kind) ++ fieldsIn G q) e))
 
@@ -149,7 +144,7 @@ module _ {K : Type 0} (G : Grammar K) where
       let u′ : Unused G p′ = subst (λ (j : K). Unused G (withKind j p)) k u in
       let e′ : textIn G p′ ≡ textIn G q = subst (λ (j : K). textIn G (withKind j p) ≡ textIn G q) k e in
       let m =
-      fields-inj (G .literals (q .kind)) (G .gaps (q .kind)) (G .listed (q .kind)) (p .x) (p .y) (p .z) (q .x) (q .y) (q .z) (p .to) (q .to) (u′ .0) (v .0) (u′ .1) (v .1)
+      fields-inj (G .literals (q .kind)) (G .kinds (q .kind) .gaps) (G .listed (q .kind)) (p .x) (p .y) (p .z) (q .x) (q .y) (q .z) (p .to) (q .to) (u′ .0) (v .0) (u′ .1) (v .1)
       (cancel (G .word (q .kind)) (fieldsIn G p′) (fieldsIn G q) (cancel (G .head) (G .word (q .kind) ++ fieldsIn G p′) (G .word (q .kind) ++ fieldsIn G q) e′)) in
       λ i. record { kind = k i; x = m .0 i; y = m .1 i; z = m .2 i; to = m .3 i }
 
@@ -161,14 +156,18 @@ pub record PartsOf {K F : Type 0} (G : Grammar K) (numbers : F → List ℕ) (fo
   pub unused : Unused G p
   pub small : Below (numbers f) → Small p
 
+-- f is what the parts p make
+pub record Made {K F : Type 0} (G : Grammar K) (text numbers : F → List ℕ) (p : Parts K) (f : F) : Type 0 where
+  pub same : textIn G p ≡ text f
+  pub fits : Small p → Below (numbers f)
+
 pub record Forms {K F : Type 0} (G : Grammar K) (text numbers : F → List ℕ) (formOf : Parts K → F) (partsOf : F → Parts K) : Type 0 where
   pub parts : (f : F) → PartsOf G numbers formOf f (partsOf f)
-  pub same : (p : Parts K) → textIn G p ≡ text (formOf p)
-  pub fits : (p : Parts K) → Small p → Below (numbers (formOf p))
+  pub made : (p : Parts K) → Made G text numbers p (formOf p)
 
 module _ {K F : Type 0} {G : Grammar K} {text numbers : F → List ℕ} {formOf : Parts K → F} {partsOf : F → Parts K} (L : Forms G text numbers formOf partsOf) where
   text-of : (f : F) → text f ≡ textIn G (partsOf f)
-  text-of f = ap text (sym (L .parts f .back)) ∙ sym (L .same (partsOf f))
+  text-of f = ap text (sym (L .parts f .back)) ∙ sym (L .made (partsOf f) .same)
 
   -- a line's text determines the form
   pub unique : (f g : F) → text f ≡ text g → f ≡ g
@@ -200,5 +199,5 @@ module _ {K F : Type 0} {G : Grammar K} {text numbers : F → List ℕ} {formOf 
       reads-form good hx hy hz made =
           let t = is-line G line rest h k w f o good in
           let p : Parts K = partsWith (t .0) in
-          let fits = below-words (numbers (formOf p)) (L .fits p (hx, hy, hz, t .1)) in
-          form (formOf p) (record { short = headed G line rest h k w .0; fits = fits; same = t .2 ∙ L .same p }) (made (t .0) (t .3) (t .5, t .4) fits)
+          let fits = below-words (numbers (formOf p)) (L .made p .fits (hx, hy, hz, t .1)) in
+          form (formOf p) (record { short = headed G line rest h k w .0; fits = fits; same = t .2 ∙ L .made p .same }) (made (t .0) (t .3) (t .5, t .4) fits)

@@ -3,7 +3,6 @@ use crate::fields::after_head;
 use text::cut::part_to;
 use text::number::Number;
 use text::number::read_number;
-ghost use mathlib.Core.Path.{_≡_};
 ghost use Rattle.lines.specs.Answers.{lineAt, ClaimRead};
 
 // A claim line as it was read: the refusal, or 0, and the label.
