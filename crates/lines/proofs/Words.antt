@@ -88,29 +88,23 @@ module _ {K : Type 0} (G : Grammar K) where
   word-in : (p : Parts K) (l : List ℕ) → l ≡ G .word (p .kind) ++ fieldsIn G p → upTo 32 l ≡ G .word (p .kind)
   word-in p l e = part-is 32 l (G .word (p .kind)) (fieldsIn G p) e (G .kinds (p .kind) .clean) (gap-in p)
 
-  module _ (line rest : List ℕ) (h : AfterHead line (G .head) rest) where
-    no-word : ((k : K) → upTo 32 rest ≡ G .word k → ⊥) → Never G line
-    no-word n short p s e = n (p .kind) (word-in p rest (rest-is h short (G .word (p .kind) ++ fieldsIn G p) e))
+  module _ (line rest word : List ℕ) (h : AfterHead line (G .head) rest) (v : word ≡ upTo 32 rest) where
+    no-word : ((k : K) → word ≡ G .word k → ⊥) → Never G line
+    no-word n short p s e = n (p .kind) (v ∙ word-in p rest (rest-is h short (G .word (p .kind) ++ fieldsIn G p) e))
 
-    module _ (k : K) (w : upTo 32 rest ≡ G .word k) where
-      after-word : rest ≡ G .word k ++ drop (length (upTo 32 rest)) rest
-      after-word = split 32 rest .0 ∙ ap (λ (l : List ℕ). l ++ drop (length (upTo 32 rest)) rest) w
+    module _ (k : K) (w : word ≡ G .word k) where
+      after-word : rest ≡ G .word k ++ drop (length word) rest
+      after-word = subst (λ (l : List ℕ). rest ≡ l ++ drop (length l) rest) (sym v) (split 32 rest .0) ∙ ap (λ (l : List ℕ). l ++ drop (length word) rest) w
 
       headed : (length line < 256) × (line ≡ G .head ++ rest)
-      headed = head-found h (omega (arith, G .kinds k .some, ap length after-word, length-append (G .word k) (drop (length (upTo 32 rest)) rest)))
+      headed = head-found h (omega (arith, G .kinds k .some, ap length after-word, length-append (G .word k) (drop (length word) rest)))
 
-      module _ (r : Fields) (o : FieldsOf (G .literals k) (G .listed k) (drop (length (upTo 32 rest)) rest) r) where
-        no-fields : r .ok ≡ false → Never G line
-        no-fields bad short p s e =
-            let q : rest ≡ G .word (p .kind) ++ fieldsIn G p = rest-is h short (G .word (p .kind) ++ fieldsIn G p) e in
-            let same : p .kind ≡ k = apart (p .kind) k (sym (word-in p rest q) ∙ w) in
-            let q′ : rest ≡ G .word k ++ fieldsIn G (withKind k p) = subst (λ (j : K). rest ≡ G .word j ++ fieldsIn G (withKind j p)) same q in
-            o .no bad (p .x) (p .y) (p .z) (p .to) (s .0) (s .1) (s .2) (s .3) (cancel (G .word k) (drop (length (upTo 32 rest)) rest) (fieldsIn G (withKind k p)) (sym after-word ∙ q′))
-
-        is-line : r .ok ≡ true → (ts : List ℕ) × Below ts × (line ≡ textIn G (record { kind = k; x = r .x; y = r .y; z = r .z; to = ts })) × KeysOf ts (r .to) × Tailed (G .listed k) ts × Spare (G .literals k) (r .x) (r .y) (r .z)
-        is-line good =
-            let t = o .yes good in
-            (t .0, t .1, headed .1 ∙ ap (λ (l : List ℕ). G .head ++ l) (after-word ∙ ap (λ (l : List ℕ). G .word k ++ l) (t .2)), t .3, t .4, t .5)
+      no-fields : (r : Fields) → FieldsOf (G .literals k) (G .listed k) (drop (length word) rest) r → r .ok ≡ false → Never G line
+      no-fields r o bad short p s e =
+          let q : rest ≡ G .word (p .kind) ++ fieldsIn G p = rest-is h short (G .word (p .kind) ++ fieldsIn G p) e in
+          let same : p .kind ≡ k = apart (p .kind) k (sym (word-in p rest q) ∙ sym v ∙ w) in
+          let q′ : rest ≡ G .word k ++ fieldsIn G (withKind k p) = subst (λ (j : K). rest ≡ G .word j ++ fieldsIn G (withKind j p)) same q in
+          o .no bad (p .x) (p .y) (p .z) (p .to) (s .0) (s .1) (s .2) (s .3) (cancel (G .word k) (drop (length word) rest) (fieldsIn G (withKind k p)) (sym after-word ∙ q′))
 
 -- ---- the text determines the kind, the numbers and the targets
 
@@ -176,20 +170,20 @@ module _ {K F : Type 0} {G : Grammar K} {text numbers : F → List ℕ} {formOf 
       ∙ ap formOf (parts-inj G (partsOf f) (partsOf g) (L .parts f .unused) (L .parts g .unused) (sym (text-of f) ∙ e ∙ text-of g))
       ∙ L .parts g .back
 
-  -- the answer, by what was read after the head
-  module _ {R : Type 0} (answer : F → R) (ten r : R) (line rest : List ℕ) (h : AfterHead line (G .head) rest) where
+  -- the answer, by the word after the head and the fields after the word
+  module _ {R : Type 0} (answer : F → R) (ten r : R) (line rest word : List ℕ) (h : AfterHead line (G .head) rest) (v : word ≡ upTo 32 rest) where
     abbrev Read : Type 0
     Read = Reads (TextOf text numbers line) answer ten r
 
     no-form : Never G line → r ≡ ten → Read
     no-form n = other (λ f i. n (i .short) (partsOf f) (L .parts f .small (words-below (numbers f) (i .fits))) (i .same ∙ text-of f))
 
-    pub reads-no-word : ((k : K) → upTo 32 rest ≡ G .word k → ⊥) → r ≡ ten → Read
-    reads-no-word n = no-form (no-word G line rest h n)
+    pub reads-no-word : ((k : K) → word ≡ G .word k → ⊥) → r ≡ ten → Read
+    reads-no-word n = no-form (no-word G line rest word h v n)
 
-    module _ (k : K) (w : upTo 32 rest ≡ G .word k) (f : Fields) (o : FieldsOf (G .literals k) (G .listed k) (drop (length (upTo 32 rest)) rest) f) where
+    module _ (k : K) (w : word ≡ G .word k) (f : Fields) (o : FieldsOf (G .literals k) (G .listed k) (drop (length word) rest) f) where
       pub reads-no-fields : f .ok ≡ false → r ≡ ten → Read
-      reads-no-fields bad = no-form (no-fields G line rest h k w f o bad)
+      reads-no-fields bad = no-form (no-fields G line rest word h v k w f o bad)
 
       abbrev partsWith : List ℕ → Parts K
       partsWith ts = record { kind = k; x = f .x; y = f .y; z = f .z; to = ts }
@@ -197,7 +191,9 @@ module _ {K F : Type 0} {G : Grammar K} {text numbers : F → List ℕ} {formOf 
       pub reads-form : f .ok ≡ true → f .x < 2 ^ 32 → f .y < 2 ^ 32 → f .z < 2 ^ 32
           → ((ts : List ℕ) → KeysOf ts (f .to) → Unused G (partsWith ts) → areWords (numbers (formOf (partsWith ts))) ≡ true → r ≡ answer (formOf (partsWith ts))) → Read
       reads-form good hx hy hz made =
-          let t = is-line G line rest h k w f o good in
+          let t = o .yes good in
           let p : Parts K = partsWith (t .0) in
+          let e = headed G line rest word h v k w in
+          let same : line ≡ textIn G p = e .1 ∙ ap (λ (l : List ℕ). G .head ++ l) (after-word G line rest word h v k w ∙ ap (λ (l : List ℕ). G .word k ++ l) (t .2)) in
           let fits = below-words (numbers (formOf p)) (L .made p .fits (hx, hy, hz, t .1)) in
-          form (formOf p) (record { short = headed G line rest h k w .0; fits = fits; same = t .2 ∙ L .made p .same }) (made (t .0) (t .3) (t .5, t .4) fits)
+          form (formOf p) (record { short = e .0; fits = fits; same = same ∙ L .made p .same }) (made (t .0) (t .3) (t .5, t .4) fits)

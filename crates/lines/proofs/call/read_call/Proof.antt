@@ -1,13 +1,13 @@
 -- `lines::call::read_call` meets its contract. Where the line does not come apart, no form has its text; else the form is what was read.
 -- Assumes nothing.
-use mathlib.Core.Path.{_≡_, sym, ap, _∙_}
+use mathlib.Core.Path.{_≡_, ap}
 use native.Mathlib.Omega.{arith}
 use borrow.Author.Needs.{needs}
-use lib.ListN.{length, drop}
-use Rattle.text.specs.Text.{ascii, upTo}
+use lib.ListN.{length}
+use Rattle.text.specs.Text.{ascii}
 use Rattle.text.proofs.Splits.{part}
 use Rattle.lines.specs.Answers.{lineAt, callAnswer, refusedCall}
-use Rattle.lines.specs.Reads.{AfterHead, FieldsOf}
+use Rattle.lines.specs.Reads.{AfterHead}
 use Rattle.lines.proofs.Calls.{calls, call-forms}
 use Rattle.lines.proofs.Words.{reads-no-word, reads-no-fields, reads-form}
 use Rattle.lines.proofs.call.read_call.Statement.{statement}
@@ -18,13 +18,9 @@ unfolding calls ascii
 head-at c = rw (c .before .before .part-to .ensures) at (c .after-head .ensures)
 
 -- the word is this kind's
-word-at : (c : tie.After-kind) → upTo 32 (c .before .before .before .before .after-head .result .now) ≡ calls .word (c .kind .given .0 .0)
+word-at : (c : tie.After-kind) → c .before .before .before .value-at .result .now ≡ calls .word (c .kind .given .0 .0)
 unfolding calls
-word-at c = sym (c .before .before .before .value-at .ensures) ∙ (rw (c .kind .given .1) at (c .before .before .call-word .ensures))
-
-fields-at : (c : tie.After-call-fields) → FieldsOf (calls .literals (c .before .before .kind .given .0 .0)) (calls .listed (c .before .before .kind .given .0 .0)) (drop (length (upTo 32 (c .before .before .before .before .before .before .after-head .result .now))) (c .before .before .before .before .before .before .after-head .result .now)) (c .call-fields .result)
-unfolding calls
-fields-at c = rw (c .before .before .before .before .before .value-at .ensures) at (c .call-fields .ensures)
+word-at c = rw (c .kind .given .1) at (c .before .before .call-word .ensures)
 
 part-to-requires : tie.Need-part-to-requires
 part-to-requires c κs = search needs
@@ -53,7 +49,7 @@ refused-call-requires c κs = search needs
 returns : tie.Need-returns
 unfolding calls
 returns c =
-    reads-no-word call-forms callAnswer (refusedCall 10) _ _ _ (head-at (c .before .before .before .before .before)) (rw (c .before .enum-told .given .1, c .before .before .before .before .value-at .ensures) at (c .before .before .before .call-word .ensures)) (c .refused-call .ensures)
+    reads-no-word call-forms callAnswer (refusedCall 10) _ _ _ _ (head-at (c .before .before .before .before .before)) (c .before .before .before .before .value-at .ensures) (rw (c .before .enum-told .given .1) at (c .before .before .before .call-word .ensures)) (c .refused-call .ensures)
 
 call-fields-requires : tie.Need-call-fields-requires
 call-fields-requires c κs =
@@ -66,16 +62,17 @@ returns-2 : tie.Need-returns-2
 unfolding calls
 returns-2 c =
     let m = c .before .before in
-    reads-form call-forms callAnswer (refusedCall 10) _ _ _ (head-at (m .before .before .before .before .before .before)) (m .before .before .kind .given .0 .0) (word-at (m .before .before)) (m .call-fields .result) (fields-at m) (c .before .if1 .taken)
+    reads-form call-forms callAnswer (refusedCall 10) _ _ _ _ (head-at (m .before .before .before .before .before .before)) (m .before .before .before .before .before .value-at .ensures) (m .before .before .kind .given .0 .0) (word-at (m .before .before)) (m .call-fields .result) (m .call-fields .ensures) (c .before .if1 .taken)
     (search needs) (search needs) (search needs) (λ ts p u w. c .call-made .ensures ts p (u .1) (u .0) w)
 
 refused-call-requires-2 : tie.Need-refused-call-requires-2
 refused-call-requires-2 c κs = search needs
 
 returns-3 : tie.Need-returns-3
+unfolding calls
 returns-3 c =
     let m = c .before .before in
-    reads-no-fields call-forms callAnswer (refusedCall 10) _ _ _ (head-at (m .before .before .before .before .before .before)) (m .before .before .kind .given .0 .0) (word-at (m .before .before)) (m .call-fields .result) (fields-at m) (c .before .if1 .left) (c .refused-call2 .ensures)
+    reads-no-fields call-forms callAnswer (refusedCall 10) _ _ _ _ (head-at (m .before .before .before .before .before .before)) (m .before .before .before .before .before .value-at .ensures) (m .before .before .kind .given .0 .0) (word-at (m .before .before)) (m .call-fields .result) (m .call-fields .ensures) (c .before .if1 .left) (c .refused-call2 .ensures)
 
 pub read-call-spec : {M : Type 1} → statement M
 read-call-spec =

@@ -1,13 +1,13 @@
 -- `lines::step::read_step` meets its contract. Where the line does not come apart, no form has its text; else the form is what was read.
 -- Assumes nothing.
-use mathlib.Core.Path.{_≡_, sym, ap, _∙_}
+use mathlib.Core.Path.{_≡_, ap}
 use native.Mathlib.Omega.{arith}
 use borrow.Author.Needs.{needs}
-use lib.ListN.{length, drop}
-use Rattle.text.specs.Text.{ascii, upTo}
+use lib.ListN.{length}
+use Rattle.text.specs.Text.{ascii}
 use Rattle.text.proofs.Splits.{part}
 use Rattle.lines.specs.Answers.{lineAt, stepAnswer, refusedStep}
-use Rattle.lines.specs.Reads.{AfterHead, FieldsOf}
+use Rattle.lines.specs.Reads.{AfterHead}
 use Rattle.lines.proofs.Steps.{steps, step-forms}
 use Rattle.lines.proofs.Words.{reads-no-word, reads-no-fields, reads-form}
 use Rattle.lines.proofs.step.read_step.Statement.{statement}
@@ -18,13 +18,9 @@ unfolding steps ascii
 head-at c = rw (c .before .before .part-to .ensures) at (c .after-head .ensures)
 
 -- the word is this kind's
-word-at : (c : tie.After-kind) → upTo 32 (c .before .before .before .before .after-head .result .now) ≡ steps .word (c .kind .given .0 .0)
+word-at : (c : tie.After-kind) → c .before .before .before .value-at .result .now ≡ steps .word (c .kind .given .0 .0)
 unfolding steps
-word-at c = sym (c .before .before .before .value-at .ensures) ∙ (rw (c .kind .given .1) at (c .before .before .step-word .ensures))
-
-fields-at : (c : tie.After-step-fields) → FieldsOf (steps .literals (c .before .before .kind .given .0 .0)) (steps .listed (c .before .before .kind .given .0 .0)) (drop (length (upTo 32 (c .before .before .before .before .before .before .after-head .result .now))) (c .before .before .before .before .before .before .after-head .result .now)) (c .step-fields .result)
-unfolding steps
-fields-at c = rw (c .before .before .before .before .before .value-at .ensures) at (c .step-fields .ensures)
+word-at c = rw (c .kind .given .1) at (c .before .before .step-word .ensures)
 
 part-to-requires : tie.Need-part-to-requires
 part-to-requires c κs = search needs
@@ -53,7 +49,7 @@ refused-step-requires c κs = search needs
 returns : tie.Need-returns
 unfolding steps
 returns c =
-    reads-no-word step-forms stepAnswer (refusedStep 10) _ _ _ (head-at (c .before .before .before .before .before)) (rw (c .before .enum-told .given .1, c .before .before .before .before .value-at .ensures) at (c .before .before .before .step-word .ensures)) (c .refused-step .ensures)
+    reads-no-word step-forms stepAnswer (refusedStep 10) _ _ _ _ (head-at (c .before .before .before .before .before)) (c .before .before .before .before .value-at .ensures) (rw (c .before .enum-told .given .1) at (c .before .before .before .step-word .ensures)) (c .refused-step .ensures)
 
 step-fields-requires : tie.Need-step-fields-requires
 step-fields-requires c κs =
@@ -66,16 +62,17 @@ returns-2 : tie.Need-returns-2
 unfolding steps
 returns-2 c =
     let m = c .before .before in
-    reads-form step-forms stepAnswer (refusedStep 10) _ _ _ (head-at (m .before .before .before .before .before .before)) (m .before .before .kind .given .0 .0) (word-at (m .before .before)) (m .step-fields .result) (fields-at m) (c .before .if1 .taken)
+    reads-form step-forms stepAnswer (refusedStep 10) _ _ _ _ (head-at (m .before .before .before .before .before .before)) (m .before .before .before .before .before .value-at .ensures) (m .before .before .kind .given .0 .0) (word-at (m .before .before)) (m .step-fields .result) (m .step-fields .ensures) (c .before .if1 .taken)
     (search needs) (search needs) (search needs) (λ ts p u w. c .step-made .ensures (u .0))
 
 refused-step-requires-2 : tie.Need-refused-step-requires-2
 refused-step-requires-2 c κs = search needs
 
 returns-3 : tie.Need-returns-3
+unfolding steps
 returns-3 c =
     let m = c .before .before in
-    reads-no-fields step-forms stepAnswer (refusedStep 10) _ _ _ (head-at (m .before .before .before .before .before .before)) (m .before .before .kind .given .0 .0) (word-at (m .before .before)) (m .step-fields .result) (fields-at m) (c .before .if1 .left) (c .refused-step2 .ensures)
+    reads-no-fields step-forms stepAnswer (refusedStep 10) _ _ _ _ (head-at (m .before .before .before .before .before .before)) (m .before .before .before .before .before .value-at .ensures) (m .before .before .kind .given .0 .0) (word-at (m .before .before)) (m .step-fields .result) (m .step-fields .ensures) (c .before .if1 .left) (c .refused-step2 .ensures)
 
 pub read-step-spec : {M : Type 1} → statement M
 read-step-spec =
