@@ -14,7 +14,7 @@ ghost use lib.ListN.{length, drop};
 ghost use Rattle.text.specs.Text.{upTo};
 ghost use Rattle.lines.specs.Reads.{AfterHead, FieldOf, TailOf, FieldsOf, Literals};
 
-// The bytes after an equals sign, whose place is before `from`: the part of the line up to the next space or the end.
+// The bytes from `from`, which follow an equals sign: the part up to the next space or the end.
 pub fn value_at(line: &[u8], from: usize) -> &[u8]
     ensures { λ r. ⌜ now r ≡ upTo 32 (drop from (now (line .entry))) ⌝ }
 {
