@@ -21,9 +21,8 @@ use Rattle.graph.proofs.Verdicts.{step-number, step-done}
 use Rattle.graph.proofs.Drains.{drain-works}
 use Rattle.lines.specs.Forms.{StepForm, work, drain as drains, stepKeys}
 use Rattle.lines.specs.declared.step.StepKind.{StepKind}
-use Rattle.lines.specs.declared.step.StepKind.the-variants.{Admit, Realise, Move, Finish, Join, Split, Swap, Fuse, Drain}
 use Rattle.lines.specs.declared.step.StepLine.{StepLine}
-use Rattle.lines.specs.Answers.{stepRead, refusedStep, stepFormTests, stepForm, stepOf, IsStep, StepRead}
+use Rattle.lines.specs.Answers.{stepRead, refusedStep, stepFormTests, stepForm, stepOf, stepNumber, IsStep, StepRead}
 use Rattle.lines.proofs.Steps.{step-back}
 use Rattle.panel.specs.declared.answer.Answer.the-variants.{Done, Refused}
 use Rattle.panel.specs.declared.tally.Tally.{Tally}
@@ -35,7 +34,6 @@ use Rattle.live.specs.Live.{imageAfter, Serves}
 use Rattle.session.specs.declared.drain.Counts.{Counts}
 use Rattle.session.specs.Drained.{Drains}
 use Rattle.host.specs.Entries.{ImageOf, served, stepRefused, stepServed, stepMade, Steps}
-use Rattle.host.specs.Tests.{placeOf}
 use Rattle.host.proofs.Entering.{unless-refused}
 use Rattle.host.proofs.Reading.{Reader, refused-in-reading, read-whole}
 
@@ -134,42 +132,28 @@ step-refused w s {n} e =
     let same : n ≡ firstOf (stepTests w s) = sym (ap codeOf e) ∙ step-number w s in
     omega (arith, some-test w s (sym (step-done w s) ∙ ap isDone e))
 
--- the step by the line's kind, and its place in the tally
+-- the step by the line's kind
 pub kind-is : (c : StepLine) (kind : StepKind) → c .kind ≡ kind → stepOf c ≡ stepForm kind (c .at) (c .unit) (c .after)
 kind-is c kind e = ap (λ (k : StepKind). stepForm k (c .at) (c .unit) (c .after)) e
 
-abbrev placeOfForm : StepForm → ℕ
-placeOfForm (work w) = tallyPlace w
-placeOfForm drains = 8
-
-place-form : (kind : StepKind) (x y z : ℕ) → placeOf kind ≡ placeOfForm (stepForm kind x y z)
-place-form Admit x y z = refl
-place-form Realise x y z = refl
-place-form Move x y z = refl
-place-form Finish x y z = refl
-place-form Join x y z = refl
-place-form Split x y z = refl
-place-form Swap x y z = refl
-place-form Fuse x y z = refl
-place-form Drain x y z = refl
-
-drain-form : (kind : StepKind) (x y z : ℕ) → placeOf kind ≡ 8 → stepForm kind x y z ≡ drains
-drain-form Admit x y z e = absurd (omega arith)
-drain-form Realise x y z e = absurd (omega arith)
-drain-form Move x y z e = absurd (omega arith)
-drain-form Finish x y z e = absurd (omega arith)
-drain-form Join x y z e = absurd (omega arith)
-drain-form Split x y z e = absurd (omega arith)
-drain-form Swap x y z e = absurd (omega arith)
-drain-form Fuse x y z e = absurd (omega arith)
-drain-form Drain x y z e = refl
+-- the ninth is drain alone
+drain-form : (f : StepForm) → stepNumber f ≡ 8 → f ≡ drains
+drain-form (work admit) e = absurd (omega arith)
+drain-form (work (realise at)) e = absurd (omega arith)
+drain-form (work (move at)) e = absurd (omega arith)
+drain-form (work (finish at)) e = absurd (omega arith)
+drain-form (work (join at unit)) e = absurd (omega arith)
+drain-form (work (split at unit after)) e = absurd (omega arith)
+drain-form (work (swap at unit)) e = absurd (omega arith)
+drain-form (work (fuse at unit)) e = absurd (omega arith)
+drain-form drains e = refl
 
 module _ (image after line : List ℕ) (t : Tally) (c : StepLine) (h : ImageOf image (sessionOf image)) (r : Read line c) where
-  pub line-drained : (n : Counts) (z : ℤ) (u : Tally) → placeOf (c .kind) ≡ 8 → Drains image after n → z ≡ numberOf (Done 0)
+  pub line-drained : (n : Counts) (z : ℤ) (u : Tally) → stepNumber (stepOf c) ≡ 8 → Drains image after n → z ≡ numberOf (Done 0)
       → u ≡ raised (raised (raised (raised t 0 (n .admit)) 1 (n .realise)) 2 (n .moved)) 3 (n .finish) → Steps image line t (record { answer = z; image = after; tally = u })
   line-drained n z u p d a q =
       let s : Session = sessionOf image in
-      let is : stepOf c ≡ drains = drain-form (c .kind) (c .at) (c .unit) (c .after) p in
+      let is : stepOf c ≡ drains = drain-form (stepOf c) p in
       let all : u ≡ counted t ((drain s) .took) =
       q ∙ (λ i. raised (raised (raised (raised t 0 (d .counts .admits i)) 1 (d .counts .realises i)) 2 (d .counts .moves i)) 3 (d .counts .finishes i))
       ∙ counted-at-once t ((drain s) .took) (drain-works (suc (weightOf s)) s) in
@@ -192,11 +176,11 @@ module _ (image after line : List ℕ) (t : Tally) (c : StepLine) (h : ImageOf i
         go (refused m) e y = λ i. record { answer = (a ∙ ap (λ (k : ℕ). numberOf (Refused k)) e) i; image = y i; tally = q i }
         go (done v) e y = absurd (ne e)
 
-    pub line-taken : {z : ℤ} {u : Tally} → n ≡ 0 → z ≡ numberOf (Done 0) → u ≡ raised t (placeOf (c .kind)) 1 → Steps image line t (record { answer = z; image = after; tally = u })
+    pub line-taken : {z : ℤ} {u : Tally} → n ≡ 0 → z ≡ numberOf (Done 0) → u ≡ raised t (stepNumber (stepOf c)) 1 → Steps image line t (record { answer = z; image = after; tally = u })
     line-taken {z} {u} o a q = serve (go (step w (sessionOf image)) refl (s .number) (s .image))
       where
-        place : placeOf (c .kind) ≡ tallyPlace w
-        place = place-form (c .kind) (c .at) (c .unit) (c .after) ∙ ap placeOfForm (sym is)
+        place : stepNumber (stepOf c) ≡ tallyPlace w
+        place = ap stepNumber (sym is)
 
         go : (x : Answer Session) → step w (sessionOf image) ≡ x → n ≡ codeOf x → after ≡ imageAfter x image → record { answer = z; image = after; tally = u } ≡ stepServed image t (w ∷ []) x
         go (refused m) d e y = absurd (omega (arith, step-refused w (sessionOf image) d))

@@ -3,6 +3,7 @@ use crate::lent::image_refusal;
 use lines::step::StepKind;
 use lines::step::StepLine;
 use lines::step::read_step;
+use lines::step::step_number;
 use panel::answer::Answer;
 use panel::answer::number;
 use panel::tally::Tally;
@@ -20,29 +21,11 @@ ghost use Rattle.panel.specs.Answer.{numberOf};
 ghost use Rattle.panel.specs.Tally.{raised};
 ghost use Rattle.session.specs.WorkSteps.{stepOf as workOf};
 ghost use Rattle.host.specs.Entries.{Steps};
-ghost use Rattle.host.specs.Tests.{placeOf};
 
 // The answer, and the tally after it.
 pub struct AnswerWithTally {
     pub answer: i64,
     pub tally: Tally,
-}
-
-// The place of a kind in the tally; 8 for drain, which has none.
-fn place_of(kind: StepKind) -> u8
-    ensures { λ r. ⌜ r ≡ placeOf kind ⌝ }
-{
-    match kind {
-        StepKind::Admit => 0,
-        StepKind::Realise => 1,
-        StepKind::Move => 2,
-        StepKind::Finish => 3,
-        StepKind::Join => 4,
-        StepKind::Split => 5,
-        StepKind::Swap => 6,
-        StepKind::Fuse => 7,
-        StepKind::Drain => 8,
-    }
 }
 
 // The work step of a line that is no drain.
@@ -95,8 +78,7 @@ pub fn step_by(image: &mut [u8], frame: &[u8], at: usize, t: Tally) -> AnswerWit
     if s.refusal != 0 {
         return refused(s.refusal as u32, t);
     }
-    let kind = s.kind;
-    let place = place_of(kind);
+    let place = step_number(s);
     if place == 8 {
         let c = drain(image);
         return AnswerWithTally {

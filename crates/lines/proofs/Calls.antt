@@ -1,7 +1,7 @@
 -- Call lines: their grammar, their forms, and the answer to each form.
 -- Assumes nothing.
-use Prim.Native.Nat.{ℕ, _<_, _≤_, _^_}
-use mathlib.Core.Path.{_≡_, refl, sym, ap, _∙_}
+use Prim.Native.Nat.{ℕ, _<_, _≤_}
+use mathlib.Core.Path.{_≡_, refl, sym, _∙_}
 use mathlib.Core.Bool.{Bool, true, false, cond, false≢true, _&&_}
 use mathlib.Core.List.{List, _++_}
 use native.Mathlib.Omega.{arith}
@@ -12,40 +12,18 @@ use Rattle.graph.specs.Calls.{Call, add, map, link, unlink, sum, top, pick, nea
 use Rattle.graph.specs.KeyLists.{areKeys, rising}
 use Rattle.graph.specs.Packed.{listed, packed}
 use Rattle.text.specs.Text.{ascii}
-use Rattle.text.proofs.Splits.{Clean, cleanTest, clean-by}
+use Rattle.text.proofs.Splits.{cleanTest, clean-by}
 use Rattle.lines.specs.Forms.{callText, callNumbers}
-use Rattle.lines.specs.Answers.{form, other, callLine, refusedCall, callRead, callAnswer, CallRead, callForm}
-use Rattle.lines.specs.Reads.{Below, KeysOf, Tailed, Spare, Literals, callWord, callLiterals, callListed, keyOk, CallMade}
+use Rattle.lines.specs.Answers.{callLine, refusedCall, callRead, callAnswer, callForm}
+use Rattle.lines.specs.Reads.{KeysOf, Tailed, Spare, callWord, callLiterals, callListed, keyOk, CallMade}
 use Rattle.lines.specs.declared.call.CallKind.{CallKind}
 use Rattle.lines.specs.declared.call.CallKind.the-variants.{Add, Map, Link, Unlink, Sum, Top, Pick, Near}
 use Rattle.lines.specs.declared.call.CallLine.{CallLine}
 use Rattle.lines.specs.declared.fields.Fields.{Fields}
-use Rattle.lines.proofs.KeyLists.{rising-keys, words-below, below-words}
-use Rattle.lines.proofs.Words.{Grammar, textIn, Never, kind-inj, text-inj}
+use Rattle.lines.proofs.KeyLists.{rising-keys}
+use Rattle.lines.proofs.Words.{KindOf, Grammar, Parts, PartsOf, Made, Forms, unique}
 
 -- ---- the grammar
-
-pub call-clean : (k : CallKind) → Clean 32 (callWord k)
-unfolding ascii cleanTest
-call-clean Add = clean-by 32 (callWord Add) refl
-call-clean Map = clean-by 32 (callWord Map) refl
-call-clean Link = clean-by 32 (callWord Link) refl
-call-clean Unlink = clean-by 32 (callWord Unlink) refl
-call-clean Sum = clean-by 32 (callWord Sum) refl
-call-clean Top = clean-by 32 (callWord Top) refl
-call-clean Pick = clean-by 32 (callWord Pick) refl
-call-clean Near = clean-by 32 (callWord Near) refl
-
-pub call-gaps : (k : CallKind) → Literals (callLiterals k)
-unfolding ascii
-call-gaps Add = (refl, tt)
-call-gaps Map = (refl, (refl, tt))
-call-gaps Link = (refl, tt)
-call-gaps Unlink = (refl, tt)
-call-gaps Sum = (refl, tt)
-call-gaps Top = (refl, tt)
-call-gaps Pick = (refl, tt)
-call-gaps Near = (refl, (refl, tt))
 
 -- the first letter tells the words apart
 kindAt : ℕ → CallKind
@@ -58,19 +36,19 @@ kindAt b =
     (cond (eqb b 116) Top
     (cond (eqb b 112) Pick Near))))))
 
-first-letter : (k : CallKind) → k ≡ kindAt (getD (callWord k) 0 0)
-unfolding kindAt ascii
-first-letter Add = refl
-first-letter Map = refl
-first-letter Link = refl
-first-letter Unlink = refl
-first-letter Sum = refl
-first-letter Top = refl
-first-letter Pick = refl
-first-letter Near = refl
+pub named : List ℕ → CallKind
+named w = kindAt (getD w 0 0)
 
-pub call-apart : (j k : CallKind) → callWord j ≡ callWord k → j ≡ k
-call-apart j k e = first-letter j ∙ ap (λ (w : List ℕ). kindAt (getD w 0 0)) e ∙ sym (first-letter k)
+pub call-kinds : (k : CallKind) → KindOf named k (callWord k) (callLiterals k)
+unfolding named kindAt ascii cleanTest
+call-kinds Add = record { clean = clean-by 32 (callWord Add) refl; some = omega arith; names = refl; gaps = (refl, tt) }
+call-kinds Map = record { clean = clean-by 32 (callWord Map) refl; some = omega arith; names = refl; gaps = (refl, (refl, tt)) }
+call-kinds Link = record { clean = clean-by 32 (callWord Link) refl; some = omega arith; names = refl; gaps = (refl, tt) }
+call-kinds Unlink = record { clean = clean-by 32 (callWord Unlink) refl; some = omega arith; names = refl; gaps = (refl, tt) }
+call-kinds Sum = record { clean = clean-by 32 (callWord Sum) refl; some = omega arith; names = refl; gaps = (refl, tt) }
+call-kinds Top = record { clean = clean-by 32 (callWord Top) refl; some = omega arith; names = refl; gaps = (refl, tt) }
+call-kinds Pick = record { clean = clean-by 32 (callWord Pick) refl; some = omega arith; names = refl; gaps = (refl, tt) }
+call-kinds Near = record { clean = clean-by 32 (callWord Near) refl; some = omega arith; names = refl; gaps = (refl, (refl, tt)) }
 
 unfoldable pub calls : Grammar CallKind
 calls =
@@ -79,9 +57,8 @@ calls =
       word = callWord;
       literals = callLiterals;
       listed = callListed;
-      clean = call-clean;
-      gaps = call-gaps;
-      apart = call-apart;
+      named = named;
+      kinds = call-kinds;
     }
 
 pub no-call-word : (w : List ℕ) → (w ≡ ascii "add" → ⊥) → (w ≡ ascii "map" → ⊥) → (w ≡ ascii "link" → ⊥) → (w ≡ ascii "unlink" → ⊥)
@@ -97,83 +74,46 @@ no-call-word w a m l u s t p n Near = n
 
 -- ---- the forms
 
-call-text : (k : CallKind) (x y z : ℕ) (ts : List ℕ) → textIn calls k x y z ts ≡ callText (callForm k x y ts)
+call-made : (k : CallKind) (x y z : ℕ) (ts : List ℕ) → Made calls callText callNumbers (record { kind = k; x = x; y = y; z = z; to = ts }) (callForm k x y ts)
 unfolding calls ascii
-call-text Add x y z ts = refl
-call-text Map x y z ts = refl
-call-text Link x y z ts = refl
-call-text Unlink x y z ts = refl
-call-text Sum x y z ts = refl
-call-text Top x y z ts = refl
-call-text Pick x y z ts = refl
-call-text Near x y z ts = refl
+call-made Add x y z ts = record { same = refl; fits = λ s. (s .0, tt) }
+call-made Map x y z ts = record { same = refl; fits = λ s. (s .0, (s .1, s .3)) }
+call-made Link x y z ts = record { same = refl; fits = λ s. (s .0, s .3) }
+call-made Unlink x y z ts = record { same = refl; fits = λ s. (s .0, s .3) }
+call-made Sum x y z ts = record { same = refl; fits = λ s. (s .0, s .3) }
+call-made Top x y z ts = record { same = refl; fits = λ s. (s .0, s .3) }
+call-made Pick x y z ts = record { same = refl; fits = λ s. (s .0, s .3) }
+call-made Near x y z ts = record { same = refl; fits = λ s. (s .1, (s .0, s .3)) }
 
-call-fits : (k : CallKind) (x y : ℕ) (ts : List ℕ) → x < 2 ^ 32 → y < 2 ^ 32 → Below ts → Below (callNumbers (callForm k x y ts))
-call-fits Add x y ts hx hy b = (hx, tt)
-call-fits Map x y ts hx hy b = (hx, (hy, b))
-call-fits Link x y ts hx hy b = (hx, b)
-call-fits Unlink x y ts hx hy b = (hx, b)
-call-fits Sum x y ts hx hy b = (hx, b)
-call-fits Top x y ts hx hy b = (hx, b)
-call-fits Pick x y ts hx hy b = (hx, b)
-call-fits Near x y ts hx hy b = (hy, (hx, b))
+abbrev pub formOf : Parts CallKind → Call
+formOf p = callForm (p .kind) (p .x) (p .y) (p .to)
 
--- the call that was read fits
-pub call-words : (k : CallKind) (x y : ℕ) (ts : List ℕ) → x < 2 ^ 32 → y < 2 ^ 32 → Below ts → areWords (callNumbers (callForm k x y ts)) ≡ true
-call-words k x y ts hx hy b = below-words (callNumbers (callForm k x y ts)) (call-fits k x y ts hx hy b)
+abbrev pub partsOf : Call → Parts CallKind
+partsOf f = record { kind = callRead f .kind; x = callRead f .x; y = callRead f .y; z = 0; to = targetsOf f }
 
--- a call is the form of its value
-pub call-back : (f : Call) → callForm (callRead f .kind) (callRead f .x) (callRead f .y) (targetsOf f) ≡ f
-call-back (add value) = refl
-call-back (map a b to) = refl
-call-back (link key to) = refl
-call-back (unlink key to) = refl
-call-back (sum start to) = refl
-call-back (top start to) = refl
-call-back (pick start to) = refl
-call-back (near key start to) = refl
+parts : (f : Call) → PartsOf calls callNumbers formOf f (partsOf f)
+unfolding calls
+parts (add value) = record { back = refl; unused = ((refl, refl, refl), refl); small = λ b. (b .0, omega arith, omega arith, tt) }
+parts (map a b to) = record { back = refl; unused = ((refl, refl, refl), tt); small = λ b. (b .0, b .1 .0, omega arith, b .1 .1) }
+parts (link key to) = record { back = refl; unused = ((refl, refl, refl), tt); small = λ b. (b .0, omega arith, omega arith, b .1) }
+parts (unlink key to) = record { back = refl; unused = ((refl, refl, refl), tt); small = λ b. (b .0, omega arith, omega arith, b .1) }
+parts (sum start to) = record { back = refl; unused = ((refl, refl, refl), tt); small = λ b. (b .0, omega arith, omega arith, b .1) }
+parts (top start to) = record { back = refl; unused = ((refl, refl, refl), tt); small = λ b. (b .0, omega arith, omega arith, b .1) }
+parts (pick start to) = record { back = refl; unused = ((refl, refl, refl), tt); small = λ b. (b .0, omega arith, omega arith, b .1) }
+parts (near key start to) = record { back = refl; unused = ((refl, refl, refl), tt); small = λ b. (b .1 .0, b .0, omega arith, b .1 .1) }
 
--- what a call's value leaves unused is zero
-record Parts (f : Call) : Type 0 where
-  tailed : Tailed (callListed (callRead f .kind)) (targetsOf f)
-  spare : Spare (callLiterals (callRead f .kind)) (callRead f .x) (callRead f .y) 0
-  fits : Below (callNumbers f) → (callRead f .x < 2 ^ 32) × (callRead f .y < 2 ^ 32) × Below (targetsOf f)
-
-parts : (f : Call) → Parts f
-parts (add value) = record { tailed = refl; spare = (refl, refl, refl); fits = λ b. (b .0, omega arith, tt) }
-parts (map a b to) = record { tailed = tt; spare = (refl, refl, refl); fits = λ b. (b .0, b .1 .0, b .1 .1) }
-parts (link key to) = record { tailed = tt; spare = (refl, refl, refl); fits = λ b. (b .0, omega arith, b .1) }
-parts (unlink key to) = record { tailed = tt; spare = (refl, refl, refl); fits = λ b. (b .0, omega arith, b .1) }
-parts (sum start to) = record { tailed = tt; spare = (refl, refl, refl); fits = λ b. (b .0, omega arith, b .1) }
-parts (top start to) = record { tailed = tt; spare = (refl, refl, refl); fits = λ b. (b .0, omega arith, b .1) }
-parts (pick start to) = record { tailed = tt; spare = (refl, refl, refl); fits = λ b. (b .0, omega arith, b .1) }
-parts (near key start to) = record { tailed = tt; spare = (refl, refl, refl); fits = λ b. (b .1 .0, b .0, b .1 .1) }
-
-text-of : (f : Call) → callText f ≡ textIn calls (callRead f .kind) (callRead f .x) (callRead f .y) 0 (targetsOf f)
-text-of f = ap callText (sym (call-back f)) ∙ sym (call-text (callRead f .kind) (callRead f .x) (callRead f .y) 0 (targetsOf f))
+pub call-forms : Forms calls callText callNumbers formOf partsOf
+call-forms =
+    record {
+      parts = parts;
+      made = λ p. call-made (p .kind) (p .x) (p .y) (p .z) (p .to);
+    }
 
 -- a call line's text determines the call
 pub call-unique : (f g : Call) → callText f ≡ callText g → f ≡ g
-unfolding calls
-call-unique f g e =
-    let t = sym (text-of f) ∙ e ∙ text-of g in
-    let k : callRead f .kind ≡ callRead g .kind = kind-inj calls _ _ _ _ _ _ _ _ _ _ t in
-    let moved : textIn calls (callRead g .kind) (callRead f .x) (callRead f .y) 0 (targetsOf f) ≡ textIn calls (callRead g .kind) (callRead g .x) (callRead g .y) 0 (targetsOf g) = rw k at t in
-    let q = text-inj calls (callRead g .kind) _ _ 0 _ _ 0 _ _ (rw k at (parts f .spare)) (parts g .spare) (rw k at (parts f .tailed)) (parts g .tailed) moved in
-    sym (call-back f) ∙ cc (q .0, q .1, q .3, k) ∙ call-back g
+call-unique = unique call-forms
 
 -- ---- the answer
-
--- no call where the line is no text of the grammar
-pub call-never : (line : List ℕ) (r : CallLine) → Never calls line → r ≡ refusedCall 10 → CallRead line r
-unfolding calls
-call-never line r nv e =
-    other (λ f i. let p = parts f .fits (words-below (callNumbers f) (i .fits)) in nv (i .short) (callRead f .kind) (callRead f .x) (callRead f .y) 0 (targetsOf f) (p .0) (p .1) (omega arith) (p .2) (i .same ∙ text-of f)) e
-
-pub call-is : (line : List ℕ) (k : CallKind) (x y z : ℕ) (ts : List ℕ) (r : CallLine) → length line < 256 → areWords (callNumbers (callForm k x y ts)) ≡ true
-    → line ≡ textIn calls k x y z ts → r ≡ callAnswer (callForm k x y ts) → CallRead line r
-call-is line k x y z ts r short fits e a =
-    form (callForm k x y ts) (record { short = short; fits = fits; same = e ∙ call-text k x y z ts }) a
 
 -- the form's own tests, in their order
 tested : (f : Call) (a b : Bool) → areWords (callNumbers f) ≡ true → areKeys (operandsOf f ++ targetsOf f) ≡ a → leb (length (targetsOf f)) 8 && rising (targetsOf f) ≡ b

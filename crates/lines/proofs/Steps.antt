@@ -1,51 +1,26 @@
 -- Step lines: their grammar, their forms, and the answer to each form.
 -- Assumes nothing.
-use Prim.Native.Nat.{ℕ, _+_, _<_, _^_}
+use Prim.Native.Nat.{ℕ, _+_}
 use mathlib.Core.Path.{_≡_, refl, sym, ap, _∙_}
 use mathlib.Core.Bool.{Bool, true, false, cond, false≢true, and-true}
 use mathlib.Core.List.{List, []}
 use native.Mathlib.Omega.{arith}
 use lib.Dec.{eqb}
-use lib.ListN.{length, getD}
+use lib.ListN.{getD}
 use Rattle.graph.specs.Steps.{admit, realise, move, finish, join, split, swap, fuse}
 use Rattle.text.specs.Text.{ascii}
-use Rattle.text.proofs.Splits.{Clean, cleanTest, clean-by}
+use Rattle.text.proofs.Splits.{cleanTest, clean-by}
 use Rattle.graph.specs.KeyLists.{isKey, areKeys}
 use Rattle.lines.specs.Forms.{StepForm, work, drain, stepText, stepNumbers, stepKeys}
-use Rattle.lines.specs.Answers.{form, other, stepLine, refusedStep, stepRead, stepAnswer, StepRead, stepForm, stepOf}
-use Rattle.lines.specs.Reads.{Below, Spare, Literals, stepWord, stepLiterals, hasPlace, StepMade}
+use Rattle.lines.specs.Answers.{stepLine, refusedStep, stepRead, stepAnswer, stepForm, stepOf}
+use Rattle.lines.specs.Reads.{Spare, stepWord, stepLiterals, hasPlace, StepMade}
 use Rattle.lines.specs.declared.step.StepKind.{StepKind}
 use Rattle.lines.specs.declared.step.StepKind.the-variants.{Admit, Realise, Move, Finish, Join, Split, Swap, Fuse, Drain}
 use Rattle.lines.specs.declared.step.StepLine.{StepLine}
 use Rattle.lines.specs.declared.fields.Fields.{Fields}
-use Rattle.lines.proofs.KeyLists.{words-below, below-words}
-use Rattle.lines.proofs.Words.{Grammar, textIn, Never, kind-inj, text-inj}
+use Rattle.lines.proofs.Words.{KindOf, Grammar, Parts, PartsOf, Made, Forms, unique}
 
 -- ---- the grammar
-
-pub step-clean : (k : StepKind) → Clean 32 (stepWord k)
-unfolding ascii cleanTest
-step-clean Admit = clean-by 32 (stepWord Admit) refl
-step-clean Realise = clean-by 32 (stepWord Realise) refl
-step-clean Move = clean-by 32 (stepWord Move) refl
-step-clean Finish = clean-by 32 (stepWord Finish) refl
-step-clean Join = clean-by 32 (stepWord Join) refl
-step-clean Split = clean-by 32 (stepWord Split) refl
-step-clean Swap = clean-by 32 (stepWord Swap) refl
-step-clean Fuse = clean-by 32 (stepWord Fuse) refl
-step-clean Drain = clean-by 32 (stepWord Drain) refl
-
-pub step-gaps : (k : StepKind) → Literals (stepLiterals k)
-unfolding ascii
-step-gaps Admit = tt
-step-gaps Realise = (refl, tt)
-step-gaps Move = (refl, tt)
-step-gaps Finish = (refl, tt)
-step-gaps Join = (refl, (refl, tt))
-step-gaps Split = (refl, (refl, (refl, tt)))
-step-gaps Swap = (refl, (refl, tt))
-step-gaps Fuse = (refl, (refl, tt))
-step-gaps Drain = tt
 
 -- the first two letters tell the words apart, and so does their sum
 kindAt : ℕ → StepKind
@@ -62,20 +37,20 @@ kindAt b =
 letters : List ℕ → ℕ
 letters w = getD w 0 0 + getD w 1 0
 
-first-letters : (k : StepKind) → k ≡ kindAt (letters (stepWord k))
-unfolding kindAt letters ascii
-first-letters Admit = refl
-first-letters Realise = refl
-first-letters Move = refl
-first-letters Finish = refl
-first-letters Join = refl
-first-letters Split = refl
-first-letters Swap = refl
-first-letters Fuse = refl
-first-letters Drain = refl
+pub named : List ℕ → StepKind
+named w = kindAt (letters w)
 
-pub step-apart : (j k : StepKind) → stepWord j ≡ stepWord k → j ≡ k
-step-apart j k e = first-letters j ∙ ap (λ (w : List ℕ). kindAt (letters w)) e ∙ sym (first-letters k)
+pub step-kinds : (k : StepKind) → KindOf named k (stepWord k) (stepLiterals k)
+unfolding named kindAt letters ascii cleanTest
+step-kinds Admit = record { clean = clean-by 32 (stepWord Admit) refl; some = omega arith; names = refl; gaps = tt }
+step-kinds Realise = record { clean = clean-by 32 (stepWord Realise) refl; some = omega arith; names = refl; gaps = (refl, tt) }
+step-kinds Move = record { clean = clean-by 32 (stepWord Move) refl; some = omega arith; names = refl; gaps = (refl, tt) }
+step-kinds Finish = record { clean = clean-by 32 (stepWord Finish) refl; some = omega arith; names = refl; gaps = (refl, tt) }
+step-kinds Join = record { clean = clean-by 32 (stepWord Join) refl; some = omega arith; names = refl; gaps = (refl, (refl, tt)) }
+step-kinds Split = record { clean = clean-by 32 (stepWord Split) refl; some = omega arith; names = refl; gaps = (refl, (refl, (refl, tt))) }
+step-kinds Swap = record { clean = clean-by 32 (stepWord Swap) refl; some = omega arith; names = refl; gaps = (refl, (refl, tt)) }
+step-kinds Fuse = record { clean = clean-by 32 (stepWord Fuse) refl; some = omega arith; names = refl; gaps = (refl, (refl, tt)) }
+step-kinds Drain = record { clean = clean-by 32 (stepWord Drain) refl; some = omega arith; names = refl; gaps = tt }
 
 unfoldable pub steps : Grammar StepKind
 steps =
@@ -84,9 +59,8 @@ steps =
       word = stepWord;
       literals = stepLiterals;
       listed = λ k. false;
-      clean = step-clean;
-      gaps = step-gaps;
-      apart = step-apart;
+      named = named;
+      kinds = step-kinds;
     }
 
 pub no-step-word : (w : List ℕ) → (w ≡ ascii "admit" → ⊥) → (w ≡ ascii "realise" → ⊥) → (w ≡ ascii "move" → ⊥) → (w ≡ ascii "finish" → ⊥)
@@ -104,81 +78,52 @@ no-step-word w a r m f j p s u d Drain = d
 
 -- ---- the forms
 
-step-text : (k : StepKind) (x y z : ℕ) (ts : List ℕ) → textIn steps k x y z ts ≡ stepText (stepForm k x y z)
+step-made : (k : StepKind) (x y z : ℕ) (ts : List ℕ) → Made steps stepText stepNumbers (record { kind = k; x = x; y = y; z = z; to = ts }) (stepForm k x y z)
 unfolding steps ascii
-step-text Admit x y z ts = refl
-step-text Realise x y z ts = refl
-step-text Move x y z ts = refl
-step-text Finish x y z ts = refl
-step-text Join x y z ts = refl
-step-text Split x y z ts = refl
-step-text Swap x y z ts = refl
-step-text Fuse x y z ts = refl
-step-text Drain x y z ts = refl
+step-made Admit x y z ts = record { same = refl; fits = λ s. tt }
+step-made Realise x y z ts = record { same = refl; fits = λ s. (s .0, tt) }
+step-made Move x y z ts = record { same = refl; fits = λ s. (s .0, tt) }
+step-made Finish x y z ts = record { same = refl; fits = λ s. (s .0, tt) }
+step-made Join x y z ts = record { same = refl; fits = λ s. (s .0, (s .1, tt)) }
+step-made Split x y z ts = record { same = refl; fits = λ s. (s .0, (s .1, (s .2, tt))) }
+step-made Swap x y z ts = record { same = refl; fits = λ s. (s .0, (s .1, tt)) }
+step-made Fuse x y z ts = record { same = refl; fits = λ s. (s .0, (s .1, tt)) }
+step-made Drain x y z ts = record { same = refl; fits = λ s. tt }
 
-step-fits : (k : StepKind) (x y z : ℕ) → x < 2 ^ 32 → y < 2 ^ 32 → z < 2 ^ 32 → Below (stepNumbers (stepForm k x y z))
-step-fits Admit x y z hx hy hz = tt
-step-fits Realise x y z hx hy hz = (hx, tt)
-step-fits Move x y z hx hy hz = (hx, tt)
-step-fits Finish x y z hx hy hz = (hx, tt)
-step-fits Join x y z hx hy hz = (hx, (hy, tt))
-step-fits Split x y z hx hy hz = (hx, (hy, (hz, tt)))
-step-fits Swap x y z hx hy hz = (hx, (hy, tt))
-step-fits Fuse x y z hx hy hz = (hx, (hy, tt))
-step-fits Drain x y z hx hy hz = tt
+abbrev pub formOf : Parts StepKind → StepForm
+formOf p = stepForm (p .kind) (p .x) (p .y) (p .z)
+
+abbrev pub partsOf : StepForm → Parts StepKind
+partsOf f = record { kind = stepRead f .kind; x = stepRead f .at; y = stepRead f .unit; z = stepRead f .after; to = [] }
+
+parts : (f : StepForm) → PartsOf steps stepNumbers formOf f (partsOf f)
+unfolding steps
+parts (work admit) = record { back = refl; unused = ((refl, refl, refl), refl); small = λ b. (omega arith, omega arith, omega arith, tt) }
+parts (work (realise at)) = record { back = refl; unused = ((refl, refl, refl), refl); small = λ b. (b .0, omega arith, omega arith, tt) }
+parts (work (move at)) = record { back = refl; unused = ((refl, refl, refl), refl); small = λ b. (b .0, omega arith, omega arith, tt) }
+parts (work (finish at)) = record { back = refl; unused = ((refl, refl, refl), refl); small = λ b. (b .0, omega arith, omega arith, tt) }
+parts (work (join at unit)) = record { back = refl; unused = ((refl, refl, refl), refl); small = λ b. (b .0, b .1 .0, omega arith, tt) }
+parts (work (split at unit after)) = record { back = refl; unused = ((refl, refl, refl), refl); small = λ b. (b .0, b .1 .0, b .1 .1 .0, tt) }
+parts (work (swap at unit)) = record { back = refl; unused = ((refl, refl, refl), refl); small = λ b. (b .0, b .1 .0, omega arith, tt) }
+parts (work (fuse at unit)) = record { back = refl; unused = ((refl, refl, refl), refl); small = λ b. (b .0, b .1 .0, omega arith, tt) }
+parts drain = record { back = refl; unused = ((refl, refl, refl), refl); small = λ b. (omega arith, omega arith, omega arith, tt) }
 
 -- a step is the form of its value
 pub step-back : (f : StepForm) → stepOf (stepRead f) ≡ f
-step-back (work admit) = refl
-step-back (work (realise at)) = refl
-step-back (work (move at)) = refl
-step-back (work (finish at)) = refl
-step-back (work (join at unit)) = refl
-step-back (work (split at unit after)) = refl
-step-back (work (swap at unit)) = refl
-step-back (work (fuse at unit)) = refl
-step-back drain = refl
+step-back f = parts f .back
 
--- what a step's value leaves unused is zero
-record Parts (f : StepForm) : Type 0 where
-  spare : Spare (stepLiterals (stepRead f .kind)) (stepRead f .at) (stepRead f .unit) (stepRead f .after)
-  fits : Below (stepNumbers f) → (stepRead f .at < 2 ^ 32) × (stepRead f .unit < 2 ^ 32) × (stepRead f .after < 2 ^ 32)
-
-parts : (f : StepForm) → Parts f
-parts (work admit) = record { spare = (refl, refl, refl); fits = λ b. (omega arith, omega arith, omega arith) }
-parts (work (realise at)) = record { spare = (refl, refl, refl); fits = λ b. (b .0, omega arith, omega arith) }
-parts (work (move at)) = record { spare = (refl, refl, refl); fits = λ b. (b .0, omega arith, omega arith) }
-parts (work (finish at)) = record { spare = (refl, refl, refl); fits = λ b. (b .0, omega arith, omega arith) }
-parts (work (join at unit)) = record { spare = (refl, refl, refl); fits = λ b. (b .0, b .1 .0, omega arith) }
-parts (work (split at unit after)) = record { spare = (refl, refl, refl); fits = λ b. (b .0, b .1 .0, b .1 .1 .0) }
-parts (work (swap at unit)) = record { spare = (refl, refl, refl); fits = λ b. (b .0, b .1 .0, omega arith) }
-parts (work (fuse at unit)) = record { spare = (refl, refl, refl); fits = λ b. (b .0, b .1 .0, omega arith) }
-parts drain = record { spare = (refl, refl, refl); fits = λ b. (omega arith, omega arith, omega arith) }
-
-text-of : (f : StepForm) → stepText f ≡ textIn steps (stepRead f .kind) (stepRead f .at) (stepRead f .unit) (stepRead f .after) []
-text-of f = ap stepText (sym (step-back f)) ∙ sym (step-text (stepRead f .kind) (stepRead f .at) (stepRead f .unit) (stepRead f .after) [])
+pub step-forms : Forms steps stepText stepNumbers formOf partsOf
+step-forms =
+    record {
+      parts = parts;
+      made = λ p. step-made (p .kind) (p .x) (p .y) (p .z) (p .to);
+    }
 
 -- a step line's text determines the step
 pub step-unique : (f g : StepForm) → stepText f ≡ stepText g → f ≡ g
-unfolding steps
-step-unique f g e =
-    let t = sym (text-of f) ∙ e ∙ text-of g in
-    let k : stepRead f .kind ≡ stepRead g .kind = kind-inj steps _ _ _ _ _ _ _ _ _ _ t in
-    let moved : textIn steps (stepRead g .kind) (stepRead f .at) (stepRead f .unit) (stepRead f .after) [] ≡ textIn steps (stepRead g .kind) (stepRead g .at) (stepRead g .unit) (stepRead g .after) [] = rw k at t in
-    let q = text-inj steps (stepRead g .kind) _ _ _ _ _ _ _ _ (rw k at (parts f .spare)) (parts g .spare) refl refl moved in
-    sym (step-back f) ∙ cc (q .0, q .1, q .2, k) ∙ step-back g
+step-unique = unique step-forms
 
 -- ---- the answer
-
--- no step where the line is no text of the grammar
-pub step-never : (line : List ℕ) (r : StepLine) → Never steps line → r ≡ refusedStep 10 → StepRead line r
-step-never line r nv e =
-    other (λ f i. let p = parts f .fits (words-below (stepNumbers f) (i .fits)) in nv (i .short) (stepRead f .kind) (stepRead f .at) (stepRead f .unit) (stepRead f .after) [] (p .0) (p .1) (p .2) tt (i .same ∙ text-of f)) e
-
-pub step-is : (line : List ℕ) (k : StepKind) (x y z : ℕ) (ts : List ℕ) (r : StepLine) → length line < 256 → x < 2 ^ 32 → y < 2 ^ 32 → z < 2 ^ 32
-    → line ≡ textIn steps k x y z ts → r ≡ stepAnswer (stepForm k x y z) → StepRead line r
-step-is line k x y z ts r short hx hy hz e a =
-    form (stepForm k x y z) (record { short = short; fits = below-words (stepNumbers (stepForm k x y z)) (step-fits k x y z hx hy hz); same = e ∙ step-text k x y z ts }) a
 
 -- the form's own test
 tested : (f : StepForm) (a : Bool) → areKeys (stepKeys f) ≡ a → stepAnswer f ≡ cond a (stepRead f) (refusedStep 11)

@@ -1,90 +1,110 @@
 -- A line that begins with a head and a word, which decides the fields that follow.
 -- Assumes nothing.
-use Prim.Native.Nat.{ℕ, _+_, _<_, _≤_, _^_}
+use Prim.Native.Nat.{ℕ, _<_, _^_}
 use mathlib.Core.Path.{_≡_, refl, sym, ap, subst, _∙_}
 use mathlib.Core.Bool.{Bool, true, false, false≢true}
 use mathlib.Core.List.{List, [], _∷_, _++_}
 use native.Mathlib.Omega.{arith}
-use lib.ListN.{length, drop}
+use lib.ListN.{length, drop, length-append}
 use Rattle.text.specs.Text.{upTo, decimal, ascii, commas}
-use Rattle.text.specs.Reads.{PlaceOf, Gap}
-use Rattle.text.specs.declared.cut.Place.{Place}
-use Rattle.text.specs.declared.cut.Place.the-variants.{At, Missing}
-use Rattle.text.proofs.Splits.{Clean, Part, part, part-is, cancel, same-number}
+use Rattle.text.specs.Reads.{Gap}
+use Rattle.text.proofs.Splits.{Clean, split, part-is, cancel, same-number}
 use Rattle.text.proofs.Lists.{commas-inj}
-use Rattle.lines.specs.Reads.{Below, KeysOf, HeadOf, FieldsOf, tailText, Tailed, fieldsText, Spare, Literals}
+use Rattle.graph.specs.Calls.{areWords}
+use Rattle.lines.specs.Answers.{TextOf, Reads, form, other}
+use Rattle.lines.specs.Reads.{Below, KeysOf, AfterHead, found, missing, FieldsOf, tailText, Tailed, fieldsText, Spare, Literals}
 use Rattle.lines.specs.declared.fields.Fields.{Fields}
+use Rattle.lines.proofs.KeyLists.{words-below, below-words}
 use Rattle.lines.proofs.Chains.{fields-gap}
 
 -- a test that is not true
 pub unlike : (b : Bool) {P : Type 0} → (P → b ≡ true) → b ≡ false → P → ⊥
 unlike b t f p = false≢true (sym f ∙ t p)
 
--- a line that is not too long, and whether it begins with the head
-pub head-of : (line head : List ℕ) (r : Place) → length line ≤ 255 → PlaceOf line 0 head r → HeadOf line head r
-head-of line head (At n) h p = (omega arith, p)
-head-of line head Missing h p = λ x short e. p x e
+-- ---- what follows the head
 
--- the lines of several kinds: a head, a word for each kind, and the fields after it
+module _ {line head rest : List ℕ} where
+  pub rest-is : AfterHead line head rest → length line < 256 → (x : List ℕ) → line ≡ head ++ x → rest ≡ x
+  rest-is (found s e) short x q = cancel head rest x (sym e ∙ q)
+  rest-is (missing n e) short x q = absurd (n x short q)
+
+  pub head-found : AfterHead line head rest → 0 < length rest → (length line < 256) × (line ≡ head ++ rest)
+  head-found (found s e) h = (s, e)
+  head-found (missing n e) h = absurd (omega (arith, ap length e))
+
+-- ---- the lines of several kinds: a head, a word for each kind, and the fields after it
+
+-- a kind's word, which holds no space and names it, and its literals
+pub record KindOf {Kind : Type 0} (named : List ℕ → Kind) (k : Kind) (word : List ℕ) (literals : List (List ℕ)) : Type 0 where
+  pub clean : Clean 32 word
+  pub some : 0 < length word
+  pub names : k ≡ named word
+  pub gaps : Literals literals
+
 pub record Grammar (Kind : Type 0) : Type 0 where
   pub head : List ℕ
   pub word : Kind → List ℕ
   pub literals : Kind → List (List ℕ)
   pub listed : Kind → Bool
-  pub clean : (k : Kind) → Clean 32 (word k)
-  pub gaps : (k : Kind) → Literals (literals k)
-  pub apart : (j k : Kind) → word j ≡ word k → j ≡ k
+  pub named : List ℕ → Kind
+  pub kinds : (k : Kind) → KindOf named k (word k) (literals k)
 
-abbrev pub textIn : {K : Type 0} (G : Grammar K) → K → ℕ → ℕ → ℕ → List ℕ → List ℕ
-textIn G k x y z ts = G .head ++ (G .word k ++ fieldsText (G .literals k) (G .listed k) x y z ts)
+-- a line taken apart
+pub record Parts (Kind : Type 0) : Type 0 where
+  pub kind : Kind
+  pub x : ℕ
+  pub y : ℕ
+  pub z : ℕ
+  pub to : List ℕ
+
+abbrev withKind : {K : Type 0} → K → Parts K → Parts K
+withKind k p = record { kind = k; x = p .x; y = p .y; z = p .z; to = p .to }
+
+-- its numbers are 32-bit numbers
+abbrev pub Small : {K : Type 0} → Parts K → Type 0
+Small p = (p .x < 2 ^ 32) × (p .y < 2 ^ 32) × (p .z < 2 ^ 32) × Below (p .to)
+
+-- what its kind has no use for is zero, or empty
+abbrev pub Unused : {K : Type 0} → Grammar K → Parts K → Type 0
+Unused G p = Spare (G .literals (p .kind)) (p .x) (p .y) (p .z) × Tailed (G .listed (p .kind)) (p .to)
+
+abbrev pub fieldsIn : {K : Type 0} → Grammar K → Parts K → List ℕ
+fieldsIn G p = fieldsText (G .literals (p .kind)) (G .listed (p .kind)) (p .x) (p .y) (p .z) (p .to)
+
+abbrev pub textIn : {K : Type 0} → Grammar K → Parts K → List ℕ
+textIn G p = G .head ++ (G .word (p .kind) ++ fieldsIn G p)
 
 -- the line is no such text of at most 255 bytes
-abbrev pub Never : {K : Type 0} (G : Grammar K) → List ℕ → Type 0
-Never {K} G line =
-    length line < 256 → (k : K) (x y z : ℕ) (ts : List ℕ) → x < 2 ^ 32 → y < 2 ^ 32 → z < 2 ^ 32 → Below ts → line ≡ textIn G k x y z ts → ⊥
+abbrev Never : {K : Type 0} → Grammar K → List ℕ → Type 0
+Never {K} G line = length line < 256 → (p : Parts K) → Small p → line ≡ textIn G p → ⊥
 
 module _ {K : Type 0} (G : Grammar K) where
-  abbrev restOf : K → ℕ → ℕ → ℕ → List ℕ → List ℕ
-  restOf k x y z ts = fieldsText (G .literals k) (G .listed k) x y z ts
+  apart : (j k : K) → G .word j ≡ G .word k → j ≡ k
+  apart j k e = G .kinds j .names ∙ ap (G .named) e ∙ sym (G .kinds k .names)
 
-  rest-gap : (k : K) (x y z : ℕ) (ts : List ℕ) → Gap 32 (restOf k x y z ts)
-  rest-gap k x y z ts = fields-gap (G .literals k) (G .gaps k) (G .listed k) x y z ts
+  gap-in : (p : Parts K) → Gap 32 (fieldsIn G p)
+  gap-in p = fields-gap (G .literals (p .kind)) (G .kinds (p .kind) .gaps) (G .listed (p .kind)) (p .x) (p .y) (p .z) (p .to)
 
-  module _ (line : List ℕ) where
-    pub no-head : HeadOf line (G .head) Missing → Never G line
-    no-head p short k x y z ts hx hy hz b e = p (G .word k ++ restOf k x y z ts) short e
+  word-in : (p : Parts K) (l : List ℕ) → l ≡ G .word (p .kind) ++ fieldsIn G p → upTo 32 l ≡ G .word (p .kind)
+  word-in p l e = part-is 32 l (G .word (p .kind)) (fieldsIn G p) e (G .kinds (p .kind) .clean) (gap-in p)
 
-    module _ (n : ℕ) (p : HeadOf line (G .head) (At n)) where
-      after : Part 32 line n
-      after = part 32 line n (p .1 .0)
+  module _ (line rest word : List ℕ) (h : AfterHead line (G .head) rest) (v : word ≡ upTo 32 rest) where
+    no-word : ((k : K) → word ≡ G .word k → ⊥) → Never G line
+    no-word n short p s e = n (p .kind) (v ∙ word-in p rest (rest-is h short (G .word (p .kind) ++ fieldsIn G p) e))
 
-      pub word-within : n + length (upTo 32 (drop n line)) ≤ length line
-      word-within = after .within
+    module _ (k : K) (w : word ≡ G .word k) where
+      after-word : rest ≡ G .word k ++ drop (length word) rest
+      after-word = subst (λ (l : List ℕ). rest ≡ l ++ drop (length l) rest) (sym v) (split 32 rest .0) ∙ ap (λ (l : List ℕ). l ++ drop (length word) rest) w
 
-      after-head : (k : K) (x y z : ℕ) (ts : List ℕ) → line ≡ textIn G k x y z ts → drop n line ≡ G .word k ++ restOf k x y z ts
-      after-head k x y z ts e = cancel (G .head) (drop n line) (G .word k ++ restOf k x y z ts) (sym (p .1 .1) ∙ e)
+      headed : (length line < 256) × (line ≡ G .head ++ rest)
+      headed = head-found h (omega (arith, G .kinds k .some, ap length after-word, length-append (G .word k) (drop (length word) rest)))
 
-      word-is : (k : K) (x y z : ℕ) (ts : List ℕ) → line ≡ textIn G k x y z ts → upTo 32 (drop n line) ≡ G .word k
-      word-is k x y z ts e = part-is 32 (drop n line) (G .word k) (restOf k x y z ts) (after-head k x y z ts e) (G .clean k) (rest-gap k x y z ts)
-
-      pub no-word : ((k : K) → upTo 32 (drop n line) ≡ G .word k → ⊥) → Never G line
-      no-word q short k x y z ts hx hy hz b e = q k (word-is k x y z ts e)
-
-      module _ (k : K) (w : upTo 32 (drop n line) ≡ G .word k) where
-        after-word : drop n line ≡ G .word k ++ drop (n + length (upTo 32 (drop n line))) line
-        after-word = after .text ∙ ap (λ (l : List ℕ). l ++ drop (n + length (upTo 32 (drop n line))) line) w
-
-        module _ (r : Fields) (o : FieldsOf (G .literals k) (G .listed k) (drop (n + length (upTo 32 (drop n line))) line) r) where
-          pub no-rest : r .ok ≡ false → Never G line
-          no-rest bad short j x y z ts hx hy hz b e =
-              let same : j ≡ k = G .apart j k (sym (word-is j x y z ts e) ∙ w) in
-              let e′ : line ≡ textIn G k x y z ts = subst (λ (i : K). line ≡ textIn G i x y z ts) same e in
-              o .no bad x y z ts hx hy hz b (cancel (G .word k) (drop (n + length (upTo 32 (drop n line))) line) (restOf k x y z ts) (sym after-word ∙ after-head k x y z ts e′))
-
-          pub is-line : r .ok ≡ true → (ts : List ℕ) × Below ts × (line ≡ textIn G k (r .x) (r .y) (r .z) ts) × KeysOf ts (r .to) × Tailed (G .listed k) ts × Spare (G .literals k) (r .x) (r .y) (r .z)
-          is-line good =
-              let t = o .yes good in
-              (t .0, t .1, p .1 .1 ∙ ap (λ (l : List ℕ). G .head ++ l) (after-word ∙ ap (λ (l : List ℕ). G .word k ++ l) (t .2)), t .3, t .4, t .5)
+      no-fields : (r : Fields) → FieldsOf (G .literals k) (G .listed k) (drop (length word) rest) r → r .ok ≡ false → Never G line
+      no-fields r o bad short p s e =
+          let q : rest ≡ G .word (p .kind) ++ fieldsIn G p = rest-is h short (G .word (p .kind) ++ fieldsIn G p) e in
+          let same : p .kind ≡ k = apart (p .kind) k (sym (word-in p rest q) ∙ sym v ∙ w) in
+          let q′ : rest ≡ G .word k ++ fieldsIn G (withKind k p) = subst (λ (j : K). rest ≡ G .word j ++ fieldsIn G (withKind j p)) same q in
+          o .no bad (p .x) (p .y) (p .z) (p .to) (s .0) (s .1) (s .2) (s .3) (cancel (G .word k) (drop (length word) rest) (fieldsIn G (withKind k p)) (sym after-word ∙ q′))
 
 -- ---- the text determines the kind, the numbers and the targets
 
@@ -92,7 +112,7 @@ tail-inj : (listed : Bool) (ts us : List ℕ) → Tailed listed ts → Tailed li
 tail-inj true ts us p q e = commas-inj ts us (cancel (ascii " to=") (commas ts) (commas us) e)
 tail-inj false ts us p q e = p ∙ sym q
 
-pub fields-inj : (literals : List (List ℕ)) → Literals literals → (listed : Bool) (x y z x′ y′ z′ : ℕ) (ts us : List ℕ)
+fields-inj : (literals : List (List ℕ)) → Literals literals → (listed : Bool) (x y z x′ y′ z′ : ℕ) (ts us : List ℕ)
     → Spare literals x y z → Spare literals x′ y′ z′ → Tailed listed ts → Tailed listed us
     → fieldsText literals listed x y z ts ≡ fieldsText literals listed x′ y′ z′ us → (x ≡ x′) × (y ≡ y′) × (z ≡ z′) × (ts ≡ us)
 fields-inj [] g listed x y z x′ y′ z′ ts us s s′ t t′ e = (s .0 ∙ sym (s′ .0), s .1 ∙ sym (s′ .1), s .2 ∙ sym (s′ .2), tail-inj listed ts us t t′ e)
@@ -104,19 +124,76 @@ fields-inj ((c ∷ cs) ∷ others) g listed x y z x′ y′ z′ ts us s s′ t 
     let q = fields-inj others (g .1) listed y z 0 y′ z′ 0 ts us s s′ t t′ (p .1) in
     (p .0, q .0, q .1, q .3)
 
-module _ {K : Type 0} (G : Grammar K) (j k : K) (x y z x′ y′ z′ : ℕ) (ts us : List ℕ) (e : textIn G j x y z ts ≡ textIn G k x′ y′ z′ us) where
-  rests : G .word j ++ restOf G j x y z ts ≡ G .word k ++ restOf G k x′ y′ z′ us
-  rests = cancel (G .head) (G .word j ++ restOf G j x y z ts) (G .word k ++ restOf G k x′ y′ z′ us) e
+module _ {K : Type 0} (G : Grammar K) where
+  kind-inj : (p q : Parts K) → textIn G p ≡ textIn G q → p .kind ≡ q .kind
+  kind-inj p q e =
+      apart G (p .kind) (q .kind)
+      (sym (word-in G p (G .word (p .kind) ++ fieldsIn G p) refl)
+      ∙ word-in G q (G .word (p .kind) ++ fieldsIn G p) (cancel (G .head) (G .word (p .kind) ++ fieldsIn G p) (G .word (q .kind) ++ fieldsIn G q) e))
 
-  pub kind-inj : j ≡ k
-  kind-inj =
-      G .apart j k
-      (sym (part-is 32 (G .word j ++ restOf G j x y z ts) (G .word j) (restOf G j x y z ts) refl (G .clean j) (rest-gap G j x y z ts))
-      ∙ part-is 32 (G .word j ++ restOf G j x y z ts) (G .word k) (restOf G k x′ y′ z′ us) rests (G .clean k) (rest-gap G k x′ y′ z′ us))
+  parts-inj : (p q : Parts K) → Unused G p → Unused G q → textIn G p ≡ textIn G q → p ≡ q
+  parts-inj p q u v e =
+      let k : p .kind ≡ q .kind = kind-inj p q e in
+      let p′ : Parts K = withKind (q .kind) p in
+      let u′ : Unused G p′ = subst (λ (j : K). Unused G (withKind j p)) k u in
+      let e′ : textIn G p′ ≡ textIn G q = subst (λ (j : K). textIn G (withKind j p) ≡ textIn G q) k e in
+      let m =
+      fields-inj (G .literals (q .kind)) (G .kinds (q .kind) .gaps) (G .listed (q .kind)) (p .x) (p .y) (p .z) (q .x) (q .y) (q .z) (p .to) (q .to) (u′ .0) (v .0) (u′ .1) (v .1)
+      (cancel (G .word (q .kind)) (fieldsIn G p′) (fieldsIn G q) (cancel (G .head) (G .word (q .kind) ++ fieldsIn G p′) (G .word (q .kind) ++ fieldsIn G q) e′)) in
+      λ i. record { kind = k i; x = m .0 i; y = m .1 i; z = m .2 i; to = m .3 i }
 
-pub text-inj : {K : Type 0} (G : Grammar K) (k : K) (x y z x′ y′ z′ : ℕ) (ts us : List ℕ)
-    → Spare (G .literals k) x y z → Spare (G .literals k) x′ y′ z′ → Tailed (G .listed k) ts → Tailed (G .listed k) us
-    → textIn G k x y z ts ≡ textIn G k x′ y′ z′ us → (x ≡ x′) × (y ≡ y′) × (z ≡ z′) × (ts ≡ us)
-text-inj G k x y z x′ y′ z′ ts us s s′ t t′ e =
-    fields-inj (G .literals k) (G .gaps k) (G .listed k) x y z x′ y′ z′ ts us s s′ t t′
-    (cancel (G .word k) (restOf G k x y z ts) (restOf G k x′ y′ z′ us) (rests G k k x y z x′ y′ z′ ts us e))
+-- ---- forms whose texts are the lines of a grammar
+
+-- p is what the form f is taken apart into
+pub record PartsOf {K F : Type 0} (G : Grammar K) (numbers : F → List ℕ) (formOf : Parts K → F) (f : F) (p : Parts K) : Type 0 where
+  pub back : formOf p ≡ f
+  pub unused : Unused G p
+  pub small : Below (numbers f) → Small p
+
+-- f is what the parts p make
+pub record Made {K F : Type 0} (G : Grammar K) (text numbers : F → List ℕ) (p : Parts K) (f : F) : Type 0 where
+  pub same : textIn G p ≡ text f
+  pub fits : Small p → Below (numbers f)
+
+pub record Forms {K F : Type 0} (G : Grammar K) (text numbers : F → List ℕ) (formOf : Parts K → F) (partsOf : F → Parts K) : Type 0 where
+  pub parts : (f : F) → PartsOf G numbers formOf f (partsOf f)
+  pub made : (p : Parts K) → Made G text numbers p (formOf p)
+
+module _ {K F : Type 0} {G : Grammar K} {text numbers : F → List ℕ} {formOf : Parts K → F} {partsOf : F → Parts K} (L : Forms G text numbers formOf partsOf) where
+  text-of : (f : F) → text f ≡ textIn G (partsOf f)
+  text-of f = ap text (sym (L .parts f .back)) ∙ sym (L .made (partsOf f) .same)
+
+  -- a line's text determines the form
+  pub unique : (f g : F) → text f ≡ text g → f ≡ g
+  unique f g e =
+      sym (L .parts f .back)
+      ∙ ap formOf (parts-inj G (partsOf f) (partsOf g) (L .parts f .unused) (L .parts g .unused) (sym (text-of f) ∙ e ∙ text-of g))
+      ∙ L .parts g .back
+
+  -- the answer, by the word after the head and the fields after the word
+  module _ {R : Type 0} (answer : F → R) (ten r : R) (line rest word : List ℕ) (h : AfterHead line (G .head) rest) (v : word ≡ upTo 32 rest) where
+    abbrev Read : Type 0
+    Read = Reads (TextOf text numbers line) answer ten r
+
+    no-form : Never G line → r ≡ ten → Read
+    no-form n = other (λ f i. n (i .short) (partsOf f) (L .parts f .small (words-below (numbers f) (i .fits))) (i .same ∙ text-of f))
+
+    pub reads-no-word : ((k : K) → word ≡ G .word k → ⊥) → r ≡ ten → Read
+    reads-no-word n = no-form (no-word G line rest word h v n)
+
+    module _ (k : K) (w : word ≡ G .word k) (f : Fields) (o : FieldsOf (G .literals k) (G .listed k) (drop (length word) rest) f) where
+      pub reads-no-fields : f .ok ≡ false → r ≡ ten → Read
+      reads-no-fields bad = no-form (no-fields G line rest word h v k w f o bad)
+
+      abbrev partsWith : List ℕ → Parts K
+      partsWith ts = record { kind = k; x = f .x; y = f .y; z = f .z; to = ts }
+
+      pub reads-form : f .ok ≡ true → f .x < 2 ^ 32 → f .y < 2 ^ 32 → f .z < 2 ^ 32
+          → ((ts : List ℕ) → KeysOf ts (f .to) → Unused G (partsWith ts) → areWords (numbers (formOf (partsWith ts))) ≡ true → r ≡ answer (formOf (partsWith ts))) → Read
+      reads-form good hx hy hz made =
+          let t = o .yes good in
+          let p : Parts K = partsWith (t .0) in
+          let e = headed G line rest word h v k w in
+          let same : line ≡ textIn G p = e .1 ∙ ap (λ (l : List ℕ). G .head ++ l) (after-word G line rest word h v k w ∙ ap (λ (l : List ℕ). G .word k ++ l) (t .2)) in
+          let fits = below-words (numbers (formOf p)) (L .made p .fits (hx, hy, hz, t .1)) in
+          form (formOf p) (record { short = e .0; fits = fits; same = same ∙ L .made p .same }) (made (t .0) (t .3) (t .5, t .4) fits)

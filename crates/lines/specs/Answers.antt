@@ -10,6 +10,7 @@ use Rattle.graph.specs.Calls.{Call, add, map, link, unlink, sum, top, pick, nea
 use Rattle.graph.specs.KeyLists.{areKeys}
 use Rattle.graph.specs.Packed.{listed, packed}
 use Rattle.graph.specs.Refusals.{Answer, refused, done, Test, on, unless}
+use Rattle.graph.specs.Runs.{tallyPlace}
 use Rattle.graph.specs.Steps.{admit, realise, move, finish, join, split, swap, fuse}
 use Rattle.lines.specs.Forms.{callText, callNumbers, StepForm, work, drain, stepText, stepNumbers, stepKeys, claimText, claimNumbers}
 use Rattle.lines.specs.declared.call.CallKind.{CallKind}
@@ -129,6 +130,11 @@ stepForm Drain x y z = drain
 
 abbrev pub stepOf : StepLine → StepForm
 stepOf r = stepForm (r .kind) (r .at) (r .unit) (r .after)
+
+-- the step's place in document 01's list of kinds, which is the tally's order; drain, which has no count, is the ninth
+abbrev pub stepNumber : StepForm → ℕ
+stepNumber (work s) = tallyPlace s
+stepNumber drain = 8
 
 -- ---- claims
 

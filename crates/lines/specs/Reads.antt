@@ -6,9 +6,7 @@ use mathlib.Core.List.{List, [], _∷_, _++_}
 use mathlib.Core.Path.{_≡_}
 use lib.ListN.{length, drop}
 use Rattle.text.specs.Text.{ascii, decimal, commas}
-use Rattle.text.specs.Reads.{PlaceOf, Gap}
-use Rattle.text.specs.declared.cut.Place.{Place}
-use Rattle.text.specs.declared.cut.Place.the-variants.{At, Missing}
+use Rattle.text.specs.Reads.{Gap}
 use Rattle.graph.specs.Calls.{areWords}
 use Rattle.graph.specs.KeyLists.{isKey, areKeys, above}
 use Rattle.graph.specs.Packed.{packed}
@@ -62,10 +60,10 @@ ListOf s k =
 
 -- ---- a head
 
--- `At n`: the line has at most 255 bytes and begins with the head, which ends at n. `Missing`: it is no such line.
-abbrev pub HeadOf : List ℕ → List ℕ → Place → Type 0
-HeadOf line head (At n) = (length line < 256) × PlaceOf line 0 head (At n)
-HeadOf line head Missing = (x : List ℕ) → length line < 256 → line ≡ head ++ x → ⊥
+-- the line has at most 255 bytes, and is the head and the rest; or it is no such line, and the rest is empty
+pub data AfterHead (line head rest : List ℕ) : Type 0 where
+  found : length line < 256 → line ≡ head ++ rest → AfterHead line head rest
+  missing : ((x : List ℕ) → length line < 256 → line ≡ head ++ x → ⊥) → rest ≡ [] → AfterHead line head rest
 
 -- ---- a field
 

@@ -1,12 +1,11 @@
 // Call lines.
 use crate::fields::Fields;
+use crate::fields::after_head;
 use crate::fields::fields1;
 use crate::fields::fields2;
 use crate::fields::value_at;
-use crate::fields::word_place;
 use crate::keylist::is_key;
 use graph::keys::Keys;
-use text::cut::Place;
 use text::cut::part_to;
 ghost use mathlib.Core.Path.{_≡_};
 ghost use Prim.Native.Nat.{_≤_};
@@ -151,14 +150,12 @@ pub fn read_call(frame: &[u8], at: usize) -> CallLine
     ensures { λ r. ⌜ CallRead (lineAt (now (frame .entry)) at) r ⌝ }
 {
     let line = part_to(frame, at, b'\n');
-    let Place::At(from) = word_place(line, b"call=") else {
-        return refused_call(10);
-    };
-    let word = value_at(line, from);
+    let rest = after_head(line, b"call=");
+    let word = value_at(rest, 0);
     let CallWord::Is(kind) = call_word(word) else {
         return refused_call(10);
     };
-    let fields = call_fields(kind, line, from + word.len());
+    let fields = call_fields(kind, rest, word.len());
     if fields.ok {
         return call_made(kind, fields);
     }

@@ -1,6 +1,8 @@
 // Claim lines.
-use crate::fields::fields1;
+use crate::fields::after_head;
 use text::cut::part_to;
+use text::number::Number;
+use text::number::read_number;
 ghost use Rattle.lines.specs.Answers.{lineAt, ClaimRead};
 
 // A claim line as it was read: the refusal, or 0, and the label.
@@ -14,21 +16,14 @@ pub fn read_claim(frame: &[u8], at: usize) -> ClaimLine
     ensures { λ r. ⌜ ClaimRead (lineAt (now (frame .entry)) at) r ⌝ }
 {
     let line = part_to(frame, at, b'\n');
-    if 255 < line.len() {
+    let Number::Is(label) = read_number(after_head(line, b"claim=")) else {
         return ClaimLine {
             refusal: 10,
             label: 0,
         };
-    }
-    let fields = fields1(line, 0, b"claim=", false);
-    if !fields.ok {
-        return ClaimLine {
-            refusal: 10,
-            label: 0,
-        };
-    }
+    };
     ClaimLine {
         refusal: 0,
-        label: fields.x,
+        label: label,
     }
 }

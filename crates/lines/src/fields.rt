@@ -12,23 +12,26 @@ ghost use mathlib.Core.Bool.{false};
 ghost use Prim.Native.Nat.{_≤_};
 ghost use lib.ListN.{length, drop};
 ghost use Rattle.text.specs.Text.{upTo};
-ghost use Rattle.lines.specs.Reads.{HeadOf, FieldOf, TailOf, FieldsOf, Literals};
+ghost use Rattle.lines.specs.Reads.{AfterHead, FieldOf, TailOf, FieldsOf, Literals};
 
-// The bytes after an equals sign, whose place is before `from`: the part of the line up to the next space or the end.
+// The bytes from `from`, which follow an equals sign: the part up to the next space or the end.
 pub fn value_at(line: &[u8], from: usize) -> &[u8]
     ensures { λ r. ⌜ now r ≡ upTo 32 (drop from (now (line .entry))) ⌝ }
 {
     part_to(line, from, b' ')
 }
 
-// Where the word begins that follows the line's head: missing where the line has another head or more than 255 bytes.
-pub fn word_place(line: &[u8], head: &[u8]) -> Place
-    ensures { λ r. ⌜ HeadOf (now (line .entry)) (now (head .entry)) r ⌝ }
+// What follows the line's head: nothing where the line has another head or more than 255 bytes.
+pub fn after_head<'a>(line: &'a [u8], head: &[u8]) -> &'a [u8]
+    ensures { λ r. ⌜ AfterHead (now (line .entry)) (now (head .entry)) (now r) ⌝ }
 {
     if 255 < line.len() {
-        return Place::Missing;
+        return &line[..0];
     }
-    past(line, 0, head)
+    let Place::At(from) = past(line, 0, head) else {
+        return &line[..0];
+    };
+    &line[from..]
 }
 
 // A field's number and the place after it.

@@ -1,19 +1,18 @@
 // Step lines.
 use crate::fields::Fields;
+use crate::fields::after_head;
 use crate::fields::fields0;
 use crate::fields::fields1;
 use crate::fields::fields2;
 use crate::fields::fields3;
 use crate::fields::value_at;
-use crate::fields::word_place;
 use crate::keylist::is_key;
-use text::cut::Place;
 use text::cut::part_to;
 ghost use mathlib.Core.Path.{_≡_};
 ghost use Prim.Native.Nat.{_≤_};
 ghost use lib.ListN.{length, drop};
 ghost use Rattle.lines.specs.Reads.{StepWordOf, StepFields, StepMade, hasPlace};
-ghost use Rattle.lines.specs.Answers.{lineAt, StepRead, refusedStep};
+ghost use Rattle.lines.specs.Answers.{lineAt, StepRead, refusedStep, stepOf, stepNumber};
 
 pub enum StepKind {
     Admit,
@@ -34,6 +33,24 @@ pub struct StepLine {
     pub at: u32,
     pub unit: u32,
     pub after: u32,
+}
+
+// The place of a step's kind in document 01's list, which is the tally's order. Drain, which has no count, is the ninth.
+pub fn step_number(s: StepLine) -> u8
+    ensures { λ r. ⌜ r ≡ stepNumber (stepOf s) ⌝ }
+{
+    let kind = s.kind;
+    match kind {
+        StepKind::Admit => 0,
+        StepKind::Realise => 1,
+        StepKind::Move => 2,
+        StepKind::Finish => 3,
+        StepKind::Join => 4,
+        StepKind::Split => 5,
+        StepKind::Swap => 6,
+        StepKind::Fuse => 7,
+        StepKind::Drain => 8,
+    }
 }
 
 fn refused_step(refusal: u8) -> StepLine
@@ -145,14 +162,12 @@ pub fn read_step(frame: &[u8], at: usize) -> StepLine
     ensures { λ r. ⌜ StepRead (lineAt (now (frame .entry)) at) r ⌝ }
 {
     let line = part_to(frame, at, b'\n');
-    let Place::At(from) = word_place(line, b"step=") else {
-        return refused_step(10);
-    };
-    let word = value_at(line, from);
+    let rest = after_head(line, b"step=");
+    let word = value_at(rest, 0);
     let StepWord::Is(kind) = step_word(word) else {
         return refused_step(10);
     };
-    let fields = step_fields(kind, line, from + word.len());
+    let fields = step_fields(kind, rest, word.len());
     if fields.ok {
         return step_made(kind, fields);
     }

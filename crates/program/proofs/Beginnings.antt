@@ -6,26 +6,26 @@ use mathlib.Core.List.{List, [], _∷_, _++_}
 use Prim.Native.Nat.{ℕ}
 use lib.Dec.{eqb}
 use borrow.Author.Tests.{eqb-true, eq-eqb}
-use Rattle.program.specs.Lines.{begins}
+use Rattle.program.specs.Lines.{startsWith}
 
-begins-append : (text x : List ℕ) → begins text (text ++ x) ≡ true
-unfolding begins
-begins-append [] x = refl
-begins-append (c ∷ cs) x = rw (eq-eqb c c refl) (begins-append cs x)
+starts-append : (text x : List ℕ) → startsWith text (text ++ x) ≡ true
+unfolding startsWith
+starts-append [] x = refl
+starts-append (c ∷ cs) x = rw (eq-eqb c c refl) (starts-append cs x)
 
-pub begins-yes : (text line x : List ℕ) → line ≡ text ++ x → true ≡ begins text line
-begins-yes text line x e = sym (ap (begins text) e ∙ begins-append text x)
+pub starts-yes : (text line x : List ℕ) → line ≡ text ++ x → true ≡ startsWith text line
+starts-yes text line x e = sym (ap (startsWith text) e ∙ starts-append text x)
 
-pub begins-no : (text line : List ℕ) → ((x : List ℕ) → line ≡ text ++ x → ⊥) → false ≡ begins text line
-unfolding begins
-begins-no [] line n = absurd (n line refl)
-begins-no (c ∷ cs) [] n = refl
-begins-no (c ∷ cs) (x ∷ xs) n = go (eqb x c) refl (begins-no cs xs)
+pub starts-no : (text line : List ℕ) → ((x : List ℕ) → line ≡ text ++ x → ⊥) → false ≡ startsWith text line
+unfolding startsWith
+starts-no [] line n = absurd (n line refl)
+starts-no (c ∷ cs) [] n = refl
+starts-no (c ∷ cs) (x ∷ xs) n = go (eqb x c) refl (starts-no cs xs)
   where
-    go : (b : Bool) → eqb x c ≡ b → (((y : List ℕ) → xs ≡ cs ++ y → ⊥) → false ≡ begins cs xs) → false ≡ cond (eqb x c) (begins cs xs) false
+    go : (b : Bool) → eqb x c ≡ b → (((y : List ℕ) → xs ≡ cs ++ y → ⊥) → false ≡ startsWith cs xs) → false ≡ cond (eqb x c) (startsWith cs xs) false
     go true e ih = rw e (ih (λ y q. n y (λ i. eqb-true x c e i ∷ q i)))
     go false e ih = rw e refl
 
 -- the test of the part of the frame is the test of the line
-pub begins-line : (text : List ℕ) {line part : List ℕ} {b v : Bool} → part ≡ line → b ≡ begins text part → b ≡ v → begins text line ≡ v
-begins-line text e t q = ap (begins text) (sym e) ∙ sym t ∙ q
+pub starts-line : (text : List ℕ) {line part : List ℕ} {b v : Bool} → part ≡ line → b ≡ startsWith text part → b ≡ v → startsWith text line ≡ v
+starts-line text e t q = ap (startsWith text) (sym e) ∙ sym t ∙ q

@@ -6,6 +6,7 @@ use mathlib.Core.List.{List, [], _∷_, _++_}
 use Prim.Native.Nat.{ℕ, zero, suc, _+_, _≤_, _<_, _^_}
 use native.Mathlib.Omega.{arith}
 use lib.Dec.{eqb, ltb}
+use lib.IntN.{ℤ}
 use lib.ListN.{length, take}
 use borrow.Author.Tests.{eqb-true, le-leb, ltb-true}
 use Rattle.graph.specs.Refusals.{Answer, refused, done}
@@ -19,8 +20,8 @@ use Rattle.print.specs.Printed.{resultText}
 use Rattle.listing.specs.Listed.{listingOf}
 use Rattle.host.specs.Entries.{Called, ClaimMade, claimRefused, claimServed, Claims, Listed, listRefused, listServed}
 use Rattle.host.proofs.Determined.{both, claim-forms, call-once, tally-free}
-use Rattle.program.specs.Lines.{begins, told, shown, lengthIn, Line, step, claim, call}
-use Rattle.program.specs.Transcript.{Run, none, next, Ends, Transcript}
+use Rattle.program.specs.Lines.{startsWith, lengthIn, answerText, Line, step, claim, call}
+use Rattle.program.specs.Transcript.{Run, none, next, ListingPrinted, Transcript}
 use Rattle.program.proofs.Serving.{take-pasted}
 use Rattle.program.proofs.Rooms.{result-short, listing-short}
 
@@ -30,7 +31,7 @@ take-text out text = let e : length text ≡ 0 + length text = omega arith in ap
 -- ---- what a line leaves and prints
 
 abbrev SameClaim : ℕ → ClaimMade → ClaimMade → Type 0
-SameClaim n x y = (x .image ≡ y .image) × (shown n (x .answer) (x .output) ≡ shown n (y .answer) (y .output))
+SameClaim n x y = (x .image ≡ y .image) × (answerText n (x .answer) (take (lengthIn (x .answer)) (x .output)) ≡ answerText n (y .answer) (take (lengthIn (y .answer)) (y .output)))
 
 word : (line : List ℕ) (l : ℕ) → IsClaim line l → l < 2 ^ 32
 word line l i = go (ltb l (2 ^ 32)) refl (i .fits)
@@ -56,8 +57,8 @@ claim-same {image} {line} n {out} {out′} room room′ =
     both claim-forms (SameClaim n) (refused-same image n out out′) (λ s l i j. claim-made image n out out′ room room′ s l (word line l j) (claimOf l s) (claim-fine l s (i .valid)))
 
 -- no line begins with both
-apart : (line : List ℕ) → begins (ascii "step=") line ≡ true → begins (ascii "claim=") line ≡ true → ⊥
-unfolding begins ascii
+apart : (line : List ℕ) → startsWith (ascii "step=") line ≡ true → startsWith (ascii "claim=") line ≡ true → ⊥
+unfolding startsWith ascii
 apart [] a b = true≢false (sym a)
 apart (x ∷ xs) a b = go (eqb x 115) refl (eqb x 99) refl
   where
@@ -69,7 +70,7 @@ apart (x ∷ xs) a b = go (eqb x 115) refl (eqb x 99) refl
 module _ {image line : List ℕ} {n : ℕ} where
   -- A LINE DETERMINES WHAT IS PRINTED OF IT, AND THE IMAGE AFTER IT
   pub line-same : {a t a′ t′ : List ℕ} → Line image line n a t → Line image line n a′ t′ → (a ≡ a′) × (t ≡ t′)
-  line-same (step b t r h e q) (step b′ t′ r′ h′ e′ q′) = let m = tally-free h h′ in (sym e ∙ m .image ∙ e′, sym q ∙ ap (told n) (m .answer) ∙ q′)
+  line-same (step b t r h e q) (step b′ t′ r′ h′ e′ q′) = let m = tally-free h h′ in (sym e ∙ m .image ∙ e′, sym q ∙ ap (λ (z : ℤ). answerText n z []) (m .answer) ∙ q′)
   line-same (step b t r h e q) (claim b′ o l r′ h′ e′ q′) = absurd (apart line b b′)
   line-same (step b t r h e q) (call b′ c′ r′ h′ e′ q′) = absurd (true≢false (sym b ∙ b′))
   line-same (claim b o l r h e q) (step b′ t′ r′ h′ e′ q′) = absurd (apart line b′ b)
@@ -79,7 +80,7 @@ module _ {image line : List ℕ} {n : ℕ} where
   line-same (call b c r h e q) (claim b′ o′ l′ r′ h′ e′ q′) = absurd (true≢false (sym b′ ∙ c))
   line-same (call b c r h e q) (call b′ c′ r′ h′ e′ q′) =
       let m = call-once h h′ in
-      (sym e ∙ ap (λ (x : Called). x .image) m ∙ e′, sym q ∙ ap (λ (x : Called). told n (x .answer)) m ∙ q′)
+      (sym e ∙ ap (λ (x : Called). x .image) m ∙ e′, sym q ∙ ap (λ (x : Called). answerText n (x .answer) []) m ∙ q′)
 
 -- AND SO DO LINES, ONE AFTER THE OTHER
 pub run-same : {image image′ : List ℕ} {n : ℕ} {ls : List (List ℕ)} {a a′ : List ℕ} {m m′ : ℕ} {t t′ : List ℕ} → image ≡ image′ → Run image n ls a m t → Run image′ n ls a′ m′ t′ → (a ≡ a′) × (t ≡ t′)
@@ -104,14 +105,14 @@ served-listing out out′ room room′ s v =
     rw (le-leb (length (listingOf s)) (length out) (omega arith), le-leb (length (listingOf s)) (length out′) (omega arith))
     (take-text out (listingOf s) ∙ sym (take-text out′ (listingOf s)))
 
-ends-same : {image t t′ : List ℕ} → Ends image t → Ends image t′ → t ≡ t′
-ends-same x y =
-    sym (x .printed)
+listing-same : {image t t′ : List ℕ} → ListingPrinted image t → ListingPrinted image t′ → t ≡ t′
+listing-same x y =
+    sym (x .bytes)
     ∙ both (λ (f g : Unit {0}) (i j : Unit {0}). refl) SameListing (refused-listing (x .out) (y .out)) (λ s f i j. served-listing (x .out) (y .out) (x .room) (y .room) s (i .valid)) (x .lists) (y .lists)
-    ∙ y .printed
+    ∙ y .bytes
 
 -- AN INPUT DETERMINES THE WHOLE OUTPUT
 pub transcript-same : {input output output′ : List ℕ} → Transcript input output → Transcript input output′ → output ≡ output′
 transcript-same x y =
     let r = run-same refl (x .runs) (y .runs) in
-    sym (x .whole) ∙ (λ i. r .1 i ++ ends-same (x .ends) (subst (λ (a : List ℕ). Ends a (y .listing)) (sym (r .0)) (y .ends)) i) ∙ y .whole
+    sym (x .whole) ∙ (λ i. r .1 i ++ listing-same (x .ends) (subst (λ (a : List ℕ). ListingPrinted a (y .listing)) (sym (r .0)) (y .ends)) i) ∙ y .whole

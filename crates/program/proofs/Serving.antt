@@ -24,53 +24,45 @@ use Rattle.panel.specs.Answer.{numberOf, refusalIn}
 use Rattle.listing.specs.Listed.{listingOf}
 use Rattle.host.specs.Entries.{Calls, Steps, ClaimMade, claimRefused, claimServed, Claims, Listed, listServed, Lists}
 use Rattle.host.proofs.Determined.{each-case}
-use Rattle.program.specs.Lines.{begins, told, lengthIn, shown, step, claim, call}
+use Rattle.program.specs.Lines.{startsWith, lengthIn, answerText, step, claim, call}
 use Rattle.program.specs.Frames.{AnswerPrinted, Served, Ended}
 
-told-none : (n : ℕ) (z : ℤ) → 0 ≡ refusalIn z → [] ≡ told n z
-told-none n (pos k) e = refl
-told-none n (negsuc k) e = absurd (omega arith)
+text-served : (n : ℕ) (z : ℤ) (text : List ℕ) → 0 ≡ refusalIn z → text ≡ answerText n z text
+text-served n (pos k) text e = refl
+text-served n (negsuc k) text e = absurd (omega arith)
 
-told-refusal : (n : ℕ) (z : ℤ) (r : ℕ) → r ≡ refusalIn z → (r ≡ 0 → ⊥) → refusalText n r ≡ told n z
-told-refusal n (pos k) r e ne = absurd (ne e)
-told-refusal n (negsuc k) r e ne = ap (refusalText n) e
+text-refused : (n : ℕ) (z : ℤ) (text : List ℕ) (r : ℕ) → r ≡ refusalIn z → (r ≡ 0 → ⊥) → refusalText n r ≡ answerText n z text
+text-refused n (pos k) text r e ne = absurd (ne e)
+text-refused n (negsuc k) text r e ne = ap (refusalText n) e
 
 -- what was written at the start of a buffer
 pub take-pasted : (s text : List ℕ) → take (0 + length text) (pasted s 0 text) ≡ text
 unfolding pasted
 take-pasted s text = let e : length text ≡ 0 + length text = omega arith in take-at text (drop (0 + length text) s) (0 + length text) e
 
-pub printed-none : (n : ℕ) (z : ℤ) (out : List ℕ) (r : ℕ) → r ≡ refusalIn z → r ≡ 0 → AnswerPrinted n z out 0
-printed-none n z out r e q = record { within = omega arith; text = told-none n z (sym q ∙ e) }
+pub printed-served : (n : ℕ) (z : ℤ) (out : List ℕ) (m r : ℕ) → m ≤ length out → r ≡ refusalIn z → r ≡ 0 → AnswerPrinted n z (take m out) out m
+printed-served n z out m r h e q = record { within = h; bytes = text-served n z (take m out) (sym q ∙ e) }
 
 module _ (n r : ℕ) (line : n < 2 ^ 64) (refusal : r < 2 ^ 64) (s : List ℕ) (room : 128 ≤ length s) where
-  pub printed-room : 0 + length (refusalText n r) ≤ length s
-  printed-room = omega (arith, refusal-fits n r line refusal)
+  pub refusal-room : 0 + length (refusalText n r) ≤ length s
+  refusal-room = omega (arith, refusal-fits n r line refusal)
 
-  pub printed-written : (z : ℤ) (o : List ℕ) (p : ℕ) → Written s 0 (refusalText n r) o p → r ≡ refusalIn z → (r ≡ 0 → ⊥) → AnswerPrinted n z o p
-  printed-written z o p w e ne =
-      let size : length o ≡ length s = written-size w printed-room in
+  pub printed-refusal : (z : ℤ) (text o : List ℕ) (p : ℕ) → Written s 0 (refusalText n r) o p → r ≡ refusalIn z → (r ≡ 0 → ⊥) → AnswerPrinted n z text o p
+  printed-refusal z text o p w e ne =
+      let size : length o ≡ length s = written-size w refusal-room in
       record {
-        within = omega (arith, w .place, printed-room, size);
-        text = (λ i. take (w .place i) (w .bytes i)) ∙ take-pasted s (refusalText n r) ∙ told-refusal n z r e ne;
+        within = omega (arith, w .place, refusal-room, size);
+        bytes = (λ i. take (w .place i) (w .bytes i)) ∙ take-pasted s (refusalText n r) ∙ text-refused n z text r e ne;
       }
 
--- ---- a line served: the answer z that is told of is the answer w that the host's function gave
+-- ---- a line served: the answer z that is printed is the answer w that the host's function gave
 
 module _ {image line after out : List ℕ} {n r : ℕ} {z w : ℤ} (same : z ≡ w) where
-  pub call-served : begins (ascii "step=") line ≡ false → begins (ascii "claim=") line ≡ false → Calls image line (record { answer = w; image = after }) → AnswerPrinted n z out r → Served image line n after out r
-  call-served a b h t = record { within = t .within; served = call a b _ h refl (ap (told n) (sym same) ∙ sym (t .text)) }
+  pub call-served : startsWith (ascii "step=") line ≡ false → startsWith (ascii "claim=") line ≡ false → Calls image line (record { answer = w; image = after }) → AnswerPrinted n z [] out r → Served image line n after out r
+  call-served a b h t = record { within = t .within; served = call a b _ h refl (sym (t .bytes ∙ ap (λ (x : ℤ). answerText n x []) same)) }
 
-  pub step-served : {t u : Tally} → begins (ascii "step=") line ≡ true → Steps image line t (record { answer = w; image = after; tally = u }) → AnswerPrinted n z out r → Served image line n after out r
-  step-served {t} {u} b h s = record { within = s .within; served = step b t _ h refl (ap (told n) (sym same) ∙ sym (s .text)) }
-
-shown-refusal : (n : ℕ) (z : ℤ) (output : List ℕ) → (refusalIn z ≡ 0 → ⊥) → shown n z output ≡ told n z
-shown-refusal n (pos k) output ne = absurd (ne refl)
-shown-refusal n (negsuc k) output ne = refl
-
-shown-length : (n : ℕ) (z : ℤ) (output : List ℕ) → refusalIn z ≡ 0 → shown n z output ≡ take (lengthIn z) output
-shown-length n (pos k) output e = refl
-shown-length n (negsuc k) output e = absurd (omega arith)
+  pub step-served : {t u : Tally} → startsWith (ascii "step=") line ≡ true → Steps image line t (record { answer = w; image = after; tally = u }) → AnswerPrinted n z [] out r → Served image line n after out r
+  step-served {t} {u} b h s = record { within = s .within; served = step b t _ h refl (sym (s .bytes ∙ ap (λ (x : ℤ). answerText n x []) same)) }
 
 -- what was written lies within the output
 refused-length : (k n : ℕ) → lengthIn (numberOf (Refused k)) ≤ n
@@ -99,17 +91,16 @@ served-within image out s (done c) = go (leb (length (resultText (c .result))) (
 claim-within : {image line out : List ℕ} {r : ClaimMade} → Claims image line out r → Within r
 claim-within {image} {line} {out} h = each-case Within (refused-within image out) (λ s l. served-within image out s (claimOf l s)) h
 
-module _ {image line out after output : List ℕ} {n : ℕ} {z w : ℤ} (same : z ≡ w) (room : 128 ≤ length out) (b : begins (ascii "claim=") line ≡ true) (h : Claims image line out (record { answer = w; image = after; output = output })) where
-  pub claim-told : {written : List ℕ} {r k : ℕ} → k ≡ refusalIn z → (k ≡ 0 → ⊥) → AnswerPrinted n z written r → Served image line n after written r
-  claim-told e ne t = record { within = t .within; served = claim b out room _ h refl (ap (λ (x : ℤ). shown n x output) (sym same) ∙ shown-refusal n z output (λ q. ne (e ∙ q)) ∙ sym (t .text)) }
+module _ {image line out after output : List ℕ} {z w : ℤ} {k : ℕ} (h : Claims image line out (record { answer = w; image = after; output = output })) (same : z ≡ w) (l : k ≡ lengthIn z) where
+  size : k ≡ lengthIn w
+  size = l ∙ ap lengthIn same
 
-  pub claim-shown : {r k : ℕ} → k ≡ refusalIn z → k ≡ 0 → r ≡ lengthIn z → Served image line n after output r
-  claim-shown {r} {k} e q l =
-      let size : r ≡ lengthIn w = l ∙ ap lengthIn same in
-      record {
-        within = subst (λ (x : ℕ). x ≤ length output) (sym size) (claim-within h);
-        served = claim b out room _ h refl (ap (λ (x : ℤ). shown n x output) (sym same) ∙ shown-length n z output (sym e ∙ q) ∙ ap (λ (x : ℕ). take x output) (sym l));
-      }
+  pub claim-room : k ≤ length output
+  claim-room = subst (λ (x : ℕ). x ≤ length output) (sym size) (claim-within h)
+
+  pub claim-served : {written : List ℕ} {n r : ℕ} → 128 ≤ length out → startsWith (ascii "claim=") line ≡ true → AnswerPrinted n z (take k output) written r → Served image line n after written r
+  claim-served {written} {n} {r} room b t =
+      record { within = t .within; served = claim b out room _ h refl (sym (t .bytes ∙ (λ i. answerText n (same i) (take (size i) output)))) }
 
 -- ---- the listing
 
@@ -131,5 +122,5 @@ list-ended {image} {out} {output} {z} {w} {r} same room h e =
     let size : r ≡ lengthIn w = e ∙ ap lengthIn same in
     record {
       within = subst (λ (x : ℕ). x ≤ length output) (sym size) (list-inside h);
-      ends = record { out = out; room = room; listed = record { answer = w; output = output }; lists = h; printed = ap (λ (x : ℕ). take x output) (sym size) };
+      listing = record { out = out; room = room; listed = record { answer = w; output = output }; lists = h; bytes = ap (λ (x : ℕ). take x output) (sym size) };
     }

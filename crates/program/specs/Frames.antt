@@ -8,14 +8,14 @@ use mathlib.Core.List.{List, _++_}
 use lib.IntN.{ℤ}
 use lib.ListN.{length, take, drop}
 use Rattle.lines.specs.Answers.{lineAt}
-use Rattle.program.specs.Lines.{told, Line}
-use Rattle.program.specs.Transcript.{linesOf, Run, Ends}
+use Rattle.program.specs.Lines.{answerText, Line}
+use Rattle.program.specs.Transcript.{linesOf, Run, ListingPrinted}
 use Rattle.program.specs.declared.frame.Progress.{Progress}
 
--- what is printed of an answer is the first r bytes of the output
-pub record AnswerPrinted (n : ℕ) (answer : ℤ) (out : List ℕ) (r : ℕ) : Type 0 where
+-- what is printed by the answer, the text where the line is served, is the first r bytes of the output
+pub record AnswerPrinted (n : ℕ) (answer : ℤ) (text out : List ℕ) (r : ℕ) : Type 0 where
   pub within : r ≤ length out
-  pub text : take r out ≡ told n answer
+  pub bytes : take r out ≡ answerText n answer text
 
 -- what is printed of the line is the first r bytes of the output
 pub record Served (image line : List ℕ) (n : ℕ) (after out : List ℕ) (r : ℕ) : Type 0 where
@@ -49,4 +49,4 @@ pub record LinesServed (image frame : List ℕ) (at n : ℕ) (after out : List �
 -- the listing is the first r bytes of the output
 pub record Ended (image out : List ℕ) (r : ℕ) : Type 0 where
   pub within : r ≤ length out
-  pub ends : Ends image (take r out)
+  pub listing : ListingPrinted image (take r out)

@@ -14,30 +14,25 @@ use Rattle.panel.specs.declared.tally.Tally.{Tally}
 use Rattle.host.specs.Entries.{Called, Calls, Stepped, Steps, ClaimMade, Claims}
 
 -- the line begins with this text
-unfoldable pub begins : (text line : List ℕ) → Bool
-begins [] line = true
-begins (c ∷ cs) [] = false
-begins (c ∷ cs) (x ∷ xs) = cond (eqb x c) (begins cs xs) false
-
--- "prints `line=3 refused=12` as they occur": what is printed of a call or a step, by the line's number and the answer
-abbrev pub told : ℕ → ℤ → List ℕ
-told n (pos k) = []
-told n (negsuc k) = refusalText n (suc k)
+unfoldable pub startsWith : (text line : List ℕ) → Bool
+startsWith [] line = true
+startsWith (c ∷ cs) [] = false
+startsWith (c ∷ cs) (x ∷ xs) = cond (eqb x c) (startsWith cs xs) false
 
 -- the written length that an answer is, or 0
 abbrev pub lengthIn : ℤ → ℕ
 lengthIn (pos k) = k
 lengthIn (negsuc k) = 0
 
--- "claims as result lines": the answer is the length of what was written, if no refusal
-abbrev pub shown : ℕ → ℤ → List ℕ → List ℕ
-shown n (pos k) output = take k output
-shown n (negsuc k) output = refusalText n (suc k)
+-- what is printed of a line, by its number and the answer: the text where it is served, else "`line=3 refused=12`"
+abbrev pub answerText : ℕ → ℤ → List ℕ → List ℕ
+answerText n (pos k) text = text
+answerText n (negsuc k) text = refusalText n (suc k)
 
--- the line, with its number n, makes the image `after` of the image and prints the text. The output that a claim is lent has
--- room for every result line, so that none is refused for it.
+-- the line, with its number n, makes the image `after` of the image and prints the text: "claims as result lines", of which
+-- the answer is the length. The output that a claim is lent has room for every result line, so that none is refused for it.
 pub data Line (image line : List ℕ) (n : ℕ) (after text : List ℕ) : Type 0 where
-  step : begins (ascii "step=") line ≡ true → (t : Tally) (r : Stepped) → Steps image line t r → r .image ≡ after → told n (r .answer) ≡ text → Line image line n after text
-  claim : begins (ascii "claim=") line ≡ true → (out : List ℕ) → 128 ≤ length out → (r : ClaimMade) → Claims image line out r → r .image ≡ after → shown n (r .answer) (r .output) ≡ text
+  step : startsWith (ascii "step=") line ≡ true → (t : Tally) (r : Stepped) → Steps image line t r → r .image ≡ after → answerText n (r .answer) [] ≡ text → Line image line n after text
+  claim : startsWith (ascii "claim=") line ≡ true → (out : List ℕ) → 128 ≤ length out → (r : ClaimMade) → Claims image line out r → r .image ≡ after → answerText n (r .answer) (take (lengthIn (r .answer)) (r .output)) ≡ text
       → Line image line n after text
-  call : begins (ascii "step=") line ≡ false → begins (ascii "claim=") line ≡ false → (r : Called) → Calls image line r → r .image ≡ after → told n (r .answer) ≡ text → Line image line n after text
+  call : startsWith (ascii "step=") line ≡ false → startsWith (ascii "claim=") line ≡ false → (r : Called) → Calls image line r → r .image ≡ after → answerText n (r .answer) [] ≡ text → Line image line n after text

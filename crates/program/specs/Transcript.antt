@@ -29,12 +29,12 @@ pub data Run : (image : List ℕ) (n : ℕ) (lines : List (List ℕ)) (after : L
   next : {image between after l : List ℕ} {n m : ℕ} {ls : List (List ℕ)} {text texts : List ℕ} → Line image l n between text → Run between (suc n) ls after m texts → Run image n (l ∷ ls) after m (text ++ texts)
 
 -- the listing that is printed of an image, with room for every listing
-pub record Ends (image text : List ℕ) : Type 0 where
+pub record ListingPrinted (image text : List ℕ) : Type 0 where
   pub out : List ℕ
   pub room : 16512 ≤ length out
   pub listed : Listed
   pub lists : Lists image out listed
-  pub printed : take (lengthIn (listed .answer)) (listed .output) ≡ text
+  pub bytes : take (lengthIn (listed .answer)) (listed .output) ≡ text
 
 -- "reads lines from standard input, .. prints [refusals] as they occur (lines from 1), claims as result lines, then the
 -- listing", from the image that opening writes
@@ -44,5 +44,5 @@ pub record Transcript (input output : List ℕ) : Type 0 where
   pub text : List ℕ
   pub listing : List ℕ
   pub runs : Run (encode fresh) 1 (linesOf input) after count text
-  pub ends : Ends after listing
+  pub ends : ListingPrinted after listing
   pub whole : text ++ listing ≡ output

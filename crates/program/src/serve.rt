@@ -11,11 +11,11 @@ use text::cut::past;
 ghost use mathlib.Core.Bool.{true, false};
 ghost use mathlib.Core.Path.{_≡_};
 ghost use Prim.Native.Nat.{_≤_};
-ghost use lib.ListN.{length};
+ghost use lib.ListN.{length, take};
 ghost use Rattle.text.specs.Text.{ascii};
 ghost use Rattle.lines.specs.Answers.{lineAt};
 ghost use Rattle.panel.specs.Answer.{refusalIn};
-ghost use Rattle.program.specs.Lines.{begins as beginsWith, lengthIn};
+ghost use Rattle.program.specs.Lines.{startsWith, lengthIn};
 ghost use Rattle.program.specs.Frames.{AnswerPrinted, Served, Ended};
 
 // Nothing that is printed shows a tally, so each step is lent a fresh one.
@@ -30,8 +30,8 @@ const ZEROS: Tally = Tally {
     fuse: 0,
 };
 
-fn begins(line: &[u8], literal: &[u8]) -> bool
-    ensures { λ r. ⌜ r ≡ beginsWith (now (literal .entry)) (now (line .entry)) ⌝ }
+fn starts_with(line: &[u8], literal: &[u8]) -> bool
+    ensures { λ r. ⌜ r ≡ startsWith (now (literal .entry)) (now (line .entry)) ⌝ }
 {
     let Place::At(_) = past(line, 0, literal) else {
         return false;
@@ -59,43 +59,41 @@ fn length_in(answer: i64) -> usize
     answer as usize
 }
 
-// Writes the refusal of a line, where the answer is one, and gives the length of what it wrote.
-fn tell(out: &mut [u8], line: u64, answer: i64) -> usize
-    requires { ⌜ 128 ≤ length (now out) ⌝ }
-    ensures { λ r. ⌜ AnswerPrinted line answer (now (out .exit)) r ⌝ }
+// Writes the refusal of a line, where the answer is one. Gives the length of what is printed: `n` where the line is served.
+fn put_answer(out: &mut [u8], line: u64, answer: i64, n: usize) -> usize
+    requires { ⌜ (128 ≤ length (now out)) × (n ≤ length (now out)) ⌝ }
+    ensures { λ r. ⌜ AnswerPrinted line answer (take n (now (out .entry))) (now (out .exit)) r ⌝ }
 {
     let refusal = refusal_in(answer);
     if refusal == 0 {
-        return 0;
+        return n;
     }
     put_refusal(out, 0, line, refusal)
 }
 
 fn serve_call(image: &mut [u8], frame: &[u8], at: usize, line: u64, out: &mut [u8]) -> usize
-    requires { ⌜ (128 ≤ length (now out)) × (beginsWith (ascii "step=") (lineAt (now frame) at) ≡ false) × (beginsWith (ascii "claim=") (lineAt (now frame) at) ≡ false) ⌝ }
+    requires { ⌜ (128 ≤ length (now out)) × (startsWith (ascii "step=") (lineAt (now frame) at) ≡ false) × (startsWith (ascii "claim=") (lineAt (now frame) at) ≡ false) ⌝ }
     ensures { λ r. ⌜ Served (now (image .entry)) (lineAt (now (frame .entry)) at) line (now (image .exit)) (now (out .exit)) r ⌝ }
 {
     let answer = cg_call(image, frame, at);
-    tell(out, line, answer)
+    put_answer(out, line, answer, 0)
 }
 
 fn serve_step(image: &mut [u8], frame: &[u8], at: usize, line: u64, out: &mut [u8]) -> usize
-    requires { ⌜ (128 ≤ length (now out)) × (beginsWith (ascii "step=") (lineAt (now frame) at) ≡ true) ⌝ }
+    requires { ⌜ (128 ≤ length (now out)) × (startsWith (ascii "step=") (lineAt (now frame) at) ≡ true) ⌝ }
     ensures { λ r. ⌜ Served (now (image .entry)) (lineAt (now (frame .entry)) at) line (now (image .exit)) (now (out .exit)) r ⌝ }
 {
     let s = step_by(image, frame, at, ZEROS);
-    tell(out, line, s.answer)
+    put_answer(out, line, s.answer, 0)
 }
 
 fn serve_claim(image: &mut [u8], frame: &[u8], at: usize, line: u64, out: &mut [u8]) -> usize
-    requires { ⌜ (128 ≤ length (now out)) × (beginsWith (ascii "claim=") (lineAt (now frame) at) ≡ true) ⌝ }
+    requires { ⌜ (128 ≤ length (now out)) × (startsWith (ascii "claim=") (lineAt (now frame) at) ≡ true) ⌝ }
     ensures { λ r. ⌜ Served (now (image .entry)) (lineAt (now (frame .entry)) at) line (now (image .exit)) (now (out .exit)) r ⌝ }
 {
     let answer = cg_claim(image, frame, at, out);
-    if refusal_in(answer) != 0 {
-        return tell(out, line, answer);
-    }
-    length_in(answer)
+    let n = length_in(answer);
+    put_answer(out, line, answer, n)
 }
 
 // Serves the line at a place of the frame. What is printed of it stands at the start of `out`, and its length is given.
@@ -104,10 +102,10 @@ pub fn serve_line(image: &mut [u8], frame: &[u8], at: usize, line: u64, out: &mu
     ensures { λ r. ⌜ Served (now (image .entry)) (lineAt (now (frame .entry)) at) line (now (image .exit)) (now (out .exit)) r ⌝ }
 {
     let text = part_to(frame, at, b'\n');
-    if begins(text, b"step=") {
+    if starts_with(text, b"step=") {
         return serve_step(image, frame, at, line, out);
     }
-    if begins(text, b"claim=") {
+    if starts_with(text, b"claim=") {
         return serve_claim(image, frame, at, line, out);
     }
     serve_call(image, frame, at, line, out)

@@ -6,8 +6,8 @@ use graph::keys::Keys;
 use lines::call::CallKind;
 use lines::call::read_call;
 use lines::claim::read_claim;
-use lines::step::StepKind;
 use lines::step::read_step;
+use lines::step::step_number;
 use print::lines::head_len;
 use print::lines::node_len;
 use print::lines::put_head;
@@ -67,20 +67,6 @@ fn call_number(kind: CallKind) -> u32 {
     }
 }
 
-fn step_number(kind: StepKind) -> u32 {
-    match kind {
-        StepKind::Admit => 0,
-        StepKind::Realise => 1,
-        StepKind::Move => 2,
-        StepKind::Finish => 3,
-        StepKind::Join => 4,
-        StepKind::Split => 5,
-        StepKind::Swap => 6,
-        StepKind::Fuse => 7,
-        StepKind::Drain => 8,
-    }
-}
-
 fn show_call(frame: &[u8], at: usize, line: u32) {
     let c = read_call(frame, at);
     let refusal = c.refusal;
@@ -101,8 +87,7 @@ fn show_step(frame: &[u8], at: usize, line: u32) {
         show_refusal(line, refusal);
         return;
     }
-    let kind = s.kind;
-    show_result(line, step_number(kind), Keys::none());
+    show_result(line, step_number(s) as u32, Keys::none());
     show_head(s.at, s.unit, s.after);
 }
 

@@ -5,10 +5,11 @@ use Prim.Native.Nat.{ℕ}
 use mathlib.Core.List.{List}
 use mir.Syntax.{w64}
 use mir.Val.{toZ, ofZ}
+use Rattle.lines.specs.Answers.{stepNumber}
+use Rattle.lines.specs.declared.step.StepKind.the-variants.{Drain}
 use Rattle.panel.specs.Tally.{raised}
-use Rattle.host.specs.Tests.{placeOf}
 use Rattle.host.proofs.Entering.{entered-as, tested-refused, tested-session, session-live}
-use Rattle.host.proofs.Stepping.{line-refused, line-read, line-drained, line-not-taken, line-taken}
+use Rattle.host.proofs.Stepping.{line-refused, line-read, kind-is, line-drained, line-not-taken, line-taken}
 use borrow.Author.Needs.{needs}
 use Rattle.host.proofs.step.step_by.Statement.{statement}
 use Rattle.host.proofs.step.step_by.Tie as tie
@@ -45,8 +46,8 @@ returns-2 c =
     let after : List ℕ = _ in
     entered-as (λ i. record { answer = c .refused2 .ensures .0 i; image = after; tally = c .refused2 .ensures .1 i }) (line-refused _ _ _ _ h (c .before .before .before .before .read-step .ensures) (c .before .before .if2 .taken))
 
-place-of-requires : tie.Need-place-of-requires
-place-of-requires c κs = search needs
+step-number-requires : tie.Need-step-number-requires
+step-number-requires c κs = search needs
 
 drain-requires : tie.Need-drain-requires
 drain-requires c κs = session-live (tested-session (c .before .before .before .before .before .before .before .image-refusal .ensures) (c .before .before .before .before .before .before .if1 .left))
@@ -65,12 +66,12 @@ returns-3 c =
     let h = tested-session (c .before .before .before .before .before .before .before .before .before .before .before .before .image-refusal .ensures) (c .before .before .before .before .before .before .before .before .before .before .before .if1 .left) in
     let r = line-read _ _ (c .before .before .before .before .before .before .before .before .before .before .read-step .ensures) (c .before .before .before .before .before .before .before .before .if2 .left) in
     let same : toZ w64 (ofZ w64 (c .before .number .result)) ≡ c .before .number .result = search needs in
-    line-drained _ _ _ _ _ h r _ _ _ (sym (c .before .before .before .before .before .before .before .place-of .ensures) ∙ c .before .before .before .before .before .before .if3 .taken) (c .before .before .before .before .drain .ensures) (same ∙ c .before .number .ensures) (c .drained .ensures)
+    line-drained _ _ _ _ _ h r _ _ _ (sym (c .before .before .before .before .before .before .before .step-number .ensures) ∙ c .before .before .before .before .before .before .if3 .taken) (c .before .before .before .before .drain .ensures) (same ∙ c .before .number .ensures) (c .drained .ensures)
 
 work-of-requires : tie.Need-work-of-requires
 work-of-requires c κs =
     let r = line-read _ _ (c .before .before .before .before .before .read-step .ensures) (c .before .before .before .if2 .left) in
-    (r .small, λ e. c .before .if3 .left (c .before .before .place-of .ensures ∙ ap placeOf e))
+    (r .small, λ e. c .before .if3 .left (c .before .before .step-number .ensures ∙ ap stepNumber (kind-is (c .before .before .before .before .before .read-step .result) Drain e)))
 
 take-requires : tie.Need-take-requires
 take-requires c κs = session-live (tested-session (c .before .before .before .before .before .before .before .before .image-refusal .ensures) (c .before .before .before .before .before .before .before .if1 .left))
@@ -102,7 +103,7 @@ returns-5 c =
     let r = line-read _ _ (c .before .before .before .before .before .before .before .before .before .before .before .before .read-step .ensures) (c .before .before .before .before .before .before .before .before .before .before .if2 .left) in
     let same : toZ w64 (ofZ w64 (c .before .number2 .result)) ≡ c .before .number2 .result = search needs in
     line-taken _ _ _ _ _ h r _ _ (c .before .before .before .before .before .before .work-of .ensures) (c .before .before .before .before .before .take .ensures .0) (c .before .before .if4 .left) (same ∙ c .before .number2 .ensures)
-    (c .raised .ensures ∙ ap (λ (k : ℕ). raised (c .before .before .before .before .before .before .before .before .before .before .before .before .before .before .before .before .before .before .args .t) k 1) (c .before .before .before .before .before .before .before .before .before .place-of .ensures))
+    (c .raised .ensures ∙ ap (λ (k : ℕ). raised (c .before .before .before .before .before .before .before .before .before .before .before .before .before .before .before .before .before .before .args .t) k 1) (c .before .before .before .before .before .before .before .before .before .step-number .ensures))
 
 pub step-by-spec : {M : Type 1} → statement M
 step-by-spec =
@@ -117,7 +118,7 @@ step-by-spec =
     refused-requires-2
     same-length-2
     returns-2
-    place-of-requires
+    step-number-requires
     drain-requires
     number-requires
     drained-requires

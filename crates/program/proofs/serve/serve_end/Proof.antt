@@ -1,4 +1,4 @@
--- What the host listed is shown.
+-- What the host listed is printed.
 -- Assumes nothing.
 use mathlib.Core.Path.{_≡_}
 use mir.Syntax.{w64}

@@ -1,7 +1,7 @@
 -- The test of the line is what each server asks.
 -- Assumes nothing.
 use Rattle.text.specs.Text.{ascii}
-use Rattle.program.proofs.Beginnings.{begins-line}
+use Rattle.program.proofs.Beginnings.{starts-line}
 use borrow.Author.Needs.{needs}
 use Rattle.program.proofs.serve.serve_line.Statement.{statement}
 use Rattle.program.proofs.serve.serve_line.Tie as tie
@@ -9,15 +9,15 @@ use Rattle.program.proofs.serve.serve_line.Tie as tie
 part-to-requires : tie.Need-part-to-requires
 part-to-requires c κs = search needs
 
-slice-aggregate-begins : tie.Need-slice-aggregate-begins
-slice-aggregate-begins c = search needs
+slice-aggregate-starts-with : tie.Need-slice-aggregate-starts-with
+slice-aggregate-starts-with c = search needs
 
-begins-requires : tie.Need-begins-requires
-begins-requires c κs = search needs
+starts-with-requires : tie.Need-starts-with-requires
+starts-with-requires c κs = search needs
 
 serve-step-requires : tie.Need-serve-step-requires
 unfolding ascii
-serve-step-requires c κs = (c .before .before .before .before .before .before .before .before .before .pre, begins-line (ascii "step=") (c .before .before .before .before .before .part-to .ensures) (c .before .before .before .begins .ensures) (c .before .before .if1 .taken))
+serve-step-requires c κs = (c .before .before .before .before .before .before .before .before .before .pre, starts-line (ascii "step=") (c .before .before .before .before .before .part-to .ensures) (c .before .before .before .starts-with .ensures) (c .before .before .if1 .taken))
 
 same-length : tie.Need-same-length
 same-length c = search needs
@@ -28,15 +28,15 @@ same-length-2 c = search needs
 returns : tie.Need-returns
 returns c = search needs
 
-slice-aggregate-begins-2 : tie.Need-slice-aggregate-begins-2
-slice-aggregate-begins-2 c = search needs
+slice-aggregate-starts-with-2 : tie.Need-slice-aggregate-starts-with-2
+slice-aggregate-starts-with-2 c = search needs
 
-begins-requires-2 : tie.Need-begins-requires-2
-begins-requires-2 c κs = search needs
+starts-with-requires-2 : tie.Need-starts-with-requires-2
+starts-with-requires-2 c κs = search needs
 
 serve-claim-requires : tie.Need-serve-claim-requires
 unfolding ascii
-serve-claim-requires c κs = (c .before .before .before .before .before .before .before .before .before .before .before .before .pre, begins-line (ascii "claim=") (c .before .before .before .before .before .before .before .before .part-to .ensures) (c .before .before .before .begins2 .ensures) (c .before .before .if2 .taken))
+serve-claim-requires c κs = (c .before .before .before .before .before .before .before .before .before .before .before .before .pre, starts-line (ascii "claim=") (c .before .before .before .before .before .before .before .before .part-to .ensures) (c .before .before .before .starts-with2 .ensures) (c .before .before .if2 .taken))
 
 same-length-3 : tie.Need-same-length-3
 same-length-3 c = search needs
@@ -49,7 +49,7 @@ returns-2 c = search needs
 
 serve-call-requires : tie.Need-serve-call-requires
 unfolding ascii
-serve-call-requires c κs = (c .before .before .before .before .before .before .before .before .before .before .before .before .pre, begins-line (ascii "step=") (c .before .before .before .before .before .before .before .before .part-to .ensures) (c .before .before .before .before .before .before .begins .ensures) (c .before .before .before .before .before .if1 .left), begins-line (ascii "claim=") (c .before .before .before .before .before .before .before .before .part-to .ensures) (c .before .before .before .begins2 .ensures) (c .before .before .if2 .left))
+serve-call-requires c κs = (c .before .before .before .before .before .before .before .before .before .before .before .before .pre, starts-line (ascii "step=") (c .before .before .before .before .before .before .before .before .part-to .ensures) (c .before .before .before .before .before .before .starts-with .ensures) (c .before .before .before .before .before .if1 .left), starts-line (ascii "claim=") (c .before .before .before .before .before .before .before .before .part-to .ensures) (c .before .before .before .starts-with2 .ensures) (c .before .before .if2 .left))
 
 same-length-5 : tie.Need-same-length-5
 same-length-5 c = search needs
@@ -65,14 +65,14 @@ serve-line-spec =
     tie.close
     (tie.spec
     part-to-requires
-    slice-aggregate-begins
-    begins-requires
+    slice-aggregate-starts-with
+    starts-with-requires
     serve-step-requires
     same-length
     same-length-2
     returns
-    slice-aggregate-begins-2
-    begins-requires-2
+    slice-aggregate-starts-with-2
+    starts-with-requires-2
     serve-claim-requires
     same-length-3
     same-length-4
