@@ -20,7 +20,7 @@ pub record Names (ls : List ℕ) (r : Labels) : Type 0 where
   pub normal : r ≡ packedLabels (labelsOf r)
 
 -- how many labels and adds the queue has
-pub record Counts (q : List Tagged) (r : Waiting) : Type 0 where
+pub record WaitingIn (q : List Tagged) (r : Waiting) : Type 0 where
   pub labels : Bounded (length (queued q)) 256 (r .labels)
   pub adds : Bounded (addsQueued q) 64 (r .adds)
 

@@ -12,7 +12,7 @@ ghost use Rattle.worksteps.specs.FlatEvents.{labelsIn, queued, addIn, addsQueue
 ghost use Rattle.valid.specs.Values.{labelsOf, packedLabels};
 ghost use Rattle.state.specs.Operations.{Bounded};
 ghost use Rattle.state.specs.State.{held, Proper};
-ghost use Rattle.calls.specs.Admission.{Names, Counts};
+ghost use Rattle.calls.specs.Admission.{Names, WaitingIn};
 
 // The labels of the call at i. An add's record has its label where the others have theirs.
 fn labels_at(image: &[u8], i: usize) -> Labels
@@ -49,7 +49,7 @@ pub struct Waiting {
 
 fn count_queue(image: &[u8]) -> Waiting
     requires { ⌜ Proper (now image) ⌝ }
-    ensures { λ r. ⌜ Counts (held (now (image .entry)) .queue) r ⌝ }
+    ensures { λ r. ⌜ WaitingIn (held (now (image .entry)) .queue) r ⌝ }
 {
     let n = ops::total(image);
     let mut labels: usize = 0;

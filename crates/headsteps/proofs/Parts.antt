@@ -24,7 +24,7 @@ use Rattle.graph.specs.Sessions.{Session, store}
 use Rattle.graph.proofs.KeyLaws.{listed-packed}
 use Rattle.graph.proofs.Tasks.{acts-exactly, finishes-exactly, passes-exactly}
 use Rattle.queue.specs.Flat.{Tagged, Flat, flat, nest, carried}
-use Rattle.worksteps.specs.FlatSteps.{alter, removeAt, mapFrom, firstIn, noOp, noNode, openAs, withOp, withQueue, opIn, taskAt, ruleHolds, actAt, takeOut, finishPlace}
+use Rattle.worksteps.specs.FlatSteps.{alter, removeAt, mapFrom, firstIn, noOp, noNode, openAs, withOp, withQueue, opIn, taskAt, ruleHolds, actAt, takeOut, finishPlace, handOn}
 use Rattle.worksteps.specs.FlatEvents.{labelsIn}
 use Rattle.worksteps.proofs.Turns.{first-stop, first-next, first-end, alter-length, mapFrom-none, mapFrom-next}
 use Rattle.worksteps.proofs.Facts.{labels-room}
@@ -35,7 +35,7 @@ use Rattle.state.specs.Operations.{opValue, Carries, Bounded}
 use Rattle.state.specs.Results.{IsBody, nodeWith}
 use Rattle.state.specs.State.{held, Proper, Shows, withNodes, withResults}
 use Rattle.live.specs.Live.{Live}
-use Rattle.headsteps.specs.Heads.{bodyValue, handOn}
+use Rattle.headsteps.specs.Heads.{bodyValue}
 
 -- WHICH TASK RULE HOLDS
 rule-holds : (t : Task) (k : ℕ) (x : Tagged) → sameTask t (taskAt k x) ≡ ruleHolds t k x

@@ -1,6 +1,6 @@
 -- What the steps on a head unit state, part by part.
 -- Assumes nothing.
-use Prim.Native.Nat.{ℕ, suc}
+use Prim.Native.Nat.{ℕ}
 use mathlib.Core.Bool.{cond}
 use mathlib.Core.List.{List}
 use lib.Dec.{ltb}
@@ -9,17 +9,13 @@ use Rattle.graph.specs.Refusals.{Answer, refused, done}
 use Rattle.graph.specs.Nodes.{Node}
 use Rattle.graph.specs.Packed.{listed}
 use Rattle.queue.specs.Flat.{Tagged, Flat}
-use Rattle.worksteps.specs.FlatSteps.{alter, openAs, firstIn, ruleHolds}
+use Rattle.worksteps.specs.FlatSteps.{firstIn, ruleHolds}
 use Rattle.state.specs.declared.nodes.Body.{Body}
 use Rattle.units.specs.Numbered.{andThen, Span, locate}
 
 -- the node of a struct
 abbrev pub bodyValue : Body → Node
 bodyValue b = record { key = b .key; value = b .value; links = listed (b .links) }
-
--- the queue where x, which stands at p in a unit that ends at e, handed its mark on to the next of its unit
-abbrev pub handOn : ℕ → ℕ → Tagged → List Tagged → List Tagged
-handOn p e x q = cond (ltb (suc p) e) (alter (suc p) (openAs (x .opens)) q) q
 
 -- in the head unit of station k, the first operation that this task rule holds for, and where the unit ends
 abbrev pub before : ℕ → ℕ → Answer Span

@@ -18,12 +18,12 @@ ghost use Rattle.graph.specs.Nodes.{actBy};
 ghost use Rattle.graph.specs.OneAtATime.{opOf};
 ghost use Rattle.graph.specs.Steps.{realise, move, finish};
 ghost use Rattle.queue.specs.Flat.{isOp};
-ghost use Rattle.worksteps.specs.FlatSteps.{noOp, noNode, moveTo, mapFrom, firstIn, withQueue, taskAt, ruleHolds, actAt, takeOut, finishPlace, known, flatStep};
+ghost use Rattle.worksteps.specs.FlatSteps.{noOp, noNode, moveTo, mapFrom, firstIn, withQueue, taskAt, ruleHolds, actAt, takeOut, finishPlace, known, flatStep, handOn};
 ghost use Rattle.state.specs.Operations.{opValue, Normal, Carries, Bounded};
 ghost use Rattle.state.specs.State.{held, Proper, Shows};
 ghost use Rattle.live.specs.Live.{Live, Works};
 ghost use Rattle.units.specs.Numbered.{spotted};
-ghost use Rattle.headsteps.specs.Heads.{bodyValue, handOn, locateFirst};
+ghost use Rattle.headsteps.specs.Heads.{bodyValue, locateFirst};
 
 // The task rule that holds for the operation at i, at the station with key k.
 fn task_at(image: &[u8], k: u8, i: usize) -> Task

@@ -22,7 +22,7 @@ use Rattle.state.specs.State.{held}
 use Rattle.live.specs.Live.{Live}
 use Rattle.live.proofs.Serving.{session-held, shows-encode}
 use Rattle.session.specs.declared.drain.Counts.{Counts}
-use Rattle.session.specs.DrainStep.{placeTaken, LeavesTaken, DrainsOne, more, raisedCounts}
+use Rattle.session.specs.DrainStep.{placeTaken, LeavesTaken, DrainsOne, raisedIf, raisedCounts}
 use Rattle.session.specs.Drained.{Drains}
 use Rattle.session.proofs.DrainTurns.{Turn, drain-turn, Rests, drain-stops}
 
@@ -44,7 +44,7 @@ pub record Loop (first image : List ℕ) (c : Counts) : Type 0 where
 pub loop-first : (image : List ℕ) → Live image → Loop image image (record { admit = 0; realise = 0; moved = 0; finish = 0 })
 loop-first image l = record { live = l; size = refl; end = refl; admits = omega arith; realises = omega arith; moves = omega arith; finishes = omega arith }
 
-sums-next : (own r n : ℕ) (first image after : List ℕ) (t : Step) → r ≡ tallyPlace t → stepsOf image ≡ t ∷ stepsOf after → Sums own first image n → Sums own first after (more own r n)
+sums-next : (own r n : ℕ) (first image after : List ℕ) (t : Step) → r ≡ tallyPlace t → stepsOf image ≡ t ∷ stepsOf after → Sums own first image n → Sums own first after (raisedIf own r n)
 sums-next own r n first image after t e q h =
     let f : ofKind own (stepsOf image) ≡ cond (eqb own r) 1 0 + ofKind own (stepsOf after) = ap (ofKind own) q ∙ ap (λ (m : ℕ). cond (eqb own m) 1 0 + ofKind own (stepsOf after)) (sym e) in
     go (eqb own r) (ofKind own (stepsOf image)) (ofKind own (stepsOf after)) (ofKind own (stepsOf first)) f h

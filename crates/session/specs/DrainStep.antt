@@ -33,8 +33,8 @@ pub record Begins (image : List ℕ) (k : ℕ) : Type 0 where
   pub station : eqb k 65 ≡ false
 
 -- the counts with one more of the kind at this place of the tally
-abbrev pub more : ℕ → ℕ → ℕ → ℕ
-more own place n = cond (eqb own place) (n + 1) n
+abbrev pub raisedIf : ℕ → ℕ → ℕ → ℕ
+raisedIf own place n = cond (eqb own place) (n + 1) n
 
 abbrev pub raisedCounts : Counts → ℕ → Counts
-raisedCounts c place = record { admit = more 0 place (c .admit); realise = more 1 place (c .realise); moved = more 2 place (c .moved); finish = more 3 place (c .finish) }
+raisedCounts c place = record { admit = raisedIf 0 place (c .admit); realise = raisedIf 1 place (c .realise); moved = raisedIf 2 place (c .moved); finish = raisedIf 3 place (c .finish) }

@@ -19,16 +19,16 @@ use Rattle.units.specs.Numbered.{andThen, Span, locate, alone, locateTwo
 
 -- WHERE A UNIT STARTS: one turn of the loop
 module _ (k : ℕ) (q : List Tagged) where
-  pub unit-next : (m i p : ℕ) → i ≡ m + 1 → 1 ≤ m → isAt k p q ≡ true → unitStart k i p q ≡ unitStart k m (endOf k p q) q
-  unit-next zero i p e h t = absurd (omega arith)
-  unit-next (suc m) i p e h t =
+  pub start-next : (m i p : ℕ) → i ≡ m + 1 → 1 ≤ m → isAt k p q ≡ true → unitStart k i p q ≡ unitStart k m (endOf k p q) q
+  start-next zero i p e h t = absurd (omega arith)
+  start-next (suc m) i p e h t =
       let f : i ≡ suc (suc m) = omega arith in
       ap (λ (n : ℕ). unitStart k n p q) f ∙ rw t refl
 
-  pub unit-none : (i p : ℕ) → 1 < i → isAt k p q ≡ false → unitStart k i p q ≡ length q
-  unit-none zero p h t = absurd (omega arith)
-  unit-none (suc zero) p h t = absurd (omega arith)
-  unit-none (suc (suc i)) p h t = rw t refl
+  pub start-none : (i p : ℕ) → 1 < i → isAt k p q ≡ false → unitStart k i p q ≡ length q
+  start-none zero p h t = absurd (omega arith)
+  start-none (suc zero) p h t = absurd (omega arith)
+  start-none (suc (suc i)) p h t = rw t refl
 
   -- an operation of a station stands before the queue's end, and its unit ends at most there
   pub at-within : (p : ℕ) → isAt k p q ≡ true → p < length q

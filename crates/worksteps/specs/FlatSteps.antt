@@ -117,9 +117,12 @@ abbrev pub realiseFlat : ℕ → ℕ → ℕ → Flat → Answer Flat
 realiseFlat k = onFirst (hitsKey k) (actFlat k)
 
 -- FINISH
--- the operation at p goes, and hands its mark on to the next of its unit
+-- x, which stands at p in a unit that ends at e, hands its mark on to the next of its unit
+abbrev pub handOn : ℕ → ℕ → Tagged → List Tagged → List Tagged
+handOn p e x q = cond (ltb (suc p) e) (alter (suc p) (openAs (x .opens)) q) q
+
 abbrev pub takeOut : ℕ → ℕ → Tagged → List Tagged → List Tagged
-takeOut p e x q = removeAt p (cond (ltb (suc p) e) (alter (suc p) (openAs (x .opens)) q) q)
+takeOut p e x q = removeAt p (handOn p e x q)
 
 abbrev pub finishPlace : ℕ → ℕ → Tagged → Flat → Flat
 finishPlace p e x f = record { nodes = f .nodes; queue = takeOut p e x (f .queue); results = store (stored (opIn x)) (f .results); last = f .last }

@@ -9,7 +9,7 @@ use Rattle.queue.proofs.Places.{find-within}
 use borrow.Author.Tests.{not-true, not-false}
 use Rattle.state.specs.State.{held}
 use Rattle.worksteps.specs.FlatSteps.{unitStart}
-use Rattle.units.proofs.Located.{unit-next, unit-none, at-within}
+use Rattle.units.proofs.Located.{start-next, start-none, at-within}
 use borrow.Author.Needs.{needs}
 use native.Mathlib.Omega.{arith}
 use Rattle.units.proofs.unit_start.Statement.{statement}
@@ -51,7 +51,7 @@ returns-2 c =
     let n = l .before .before .before .total .ensures in
     let t : isAt (a .k) (l .loop .p) q ≡ false = sym (c .before .is-at .ensures) ∙ not-true _ (c .if2 .taken) in
     let h : 1 < l .loop .i = omega arith in
-    record { is = n .is ∙ sym (unit-none (a .k) q (l .loop .i) (l .loop .p) h t) ∙ l .loop .inv .2; within = omega (arith, n .is) }
+    record { is = n .is ∙ sym (start-none (a .k) q (l .loop .i) (l .loop .p) h t) ∙ l .loop .inv .2; within = omega (arith, n .is) }
 
 unit-end-requires : tie.Need-unit-end-requires Inv-loop μ-loop
 unit-end-requires c κs =
@@ -78,7 +78,7 @@ loop-again c =
     let h : 1 < l .loop .i = c .before .before .before .loop-test .taken in
     let one : l .loop .i ≡ l .loop .i - 1 + 1 = omega arith in
     let m : 1 ≤ l .loop .i - 1 = omega arith in
-    (m, c .unit-end .ensures .within, ap (λ (p : ℕ). unitStart (a .k) (l .loop .i - 1) p q) (c .unit-end .ensures .is) ∙ sym (unit-next (a .k) q (l .loop .i - 1) (l .loop .i) (l .loop .p) one m t) ∙ l .loop .inv .2)
+    (m, c .unit-end .ensures .within, ap (λ (p : ℕ). unitStart (a .k) (l .loop .i - 1) p q) (c .unit-end .ensures .is) ∙ sym (start-next (a .k) q (l .loop .i - 1) (l .loop .i) (l .loop .p) one m t) ∙ l .loop .inv .2)
 
 returns-3 : tie.Need-returns-3 Inv-loop μ-loop
 returns-3 c =
