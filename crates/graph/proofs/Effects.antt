@@ -14,6 +14,7 @@ use Rattle.graph.specs.KeyLists.{isNil}
 use Rattle.graph.specs.Nodes.{Node, Op, hits, actOn, actBy, mayFinish, stored}
 use Rattle.graph.specs.Sessions.{Station, station, Session}
 use Rattle.graph.specs.Steps.{Step, admit, realise, move, finish, join, split, swap, fuse, Change, only, behind, at, any, anyHits, FirstOp, firstOp, realiseAt, atTail, moveAt, putUnit, finishAt, unitAt, pairAt, joinUnits, maySplit, splitUnit, onSingles, maySwap, swapOps, mayFuse, fused, fuseOps, onUnits, admitHead, atStation, stepAt, step}
+use Rattle.graph.specs.Runs.{tallyPlace}
 use Rattle.graph.proofs.Answers.{Holds, refuses, holds, holds-map, holds-cond, and-left, and-right}
 
 -- units alone: join, split, swap and fuse, among units before and after them
@@ -48,6 +49,17 @@ costs (join k i) = 0
 costs (split k i j) = 0
 costs (swap k i) = 0
 costs (fuse k i) = 0
+
+-- the tally has eight places
+pub place-below : (t : Step) → tallyPlace t < 8
+place-below admit = omega arith
+place-below (realise k) = omega arith
+place-below (move k) = omega arith
+place-below (finish k) = omega arith
+place-below (join k i) = omega arith
+place-below (split k i j) = omega arith
+place-below (swap k i) = omega arith
+place-below (fuse k i) = omega arith
 
 -- what realise and finish take is in the unit, and the rule holds of it, but of none before it
 record Taken (p : Op → Bool) (u : List Op) (f : FirstOp) : Type 0 where

@@ -19,6 +19,7 @@ use Rattle.graph.proofs.Answers.{isDone, and-left, and-right}
 use Rattle.graph.specs.Allowed.{fromKey, unitsOf, fromUnit, allowed, tests, stepTests}
 use Rattle.graph.proofs.Verdicts.{step-number, step-done}
 use Rattle.graph.proofs.Drains.{drain-works}
+use Rattle.graph.proofs.Effects.{place-below}
 use Rattle.lines.specs.Forms.{StepForm, work, drain as drains, stepKeys}
 use Rattle.lines.specs.declared.step.StepKind.{StepKind}
 use Rattle.lines.specs.declared.step.StepLine.{StepLine}
@@ -138,14 +139,7 @@ kind-is c kind e = ap (λ (k : StepKind). stepForm k (c .at) (c .unit) (c .after
 
 -- the ninth is drain alone
 drain-form : (f : StepForm) → stepNumber f ≡ 8 → f ≡ drains
-drain-form (work admit) e = absurd (omega arith)
-drain-form (work (realise at)) e = absurd (omega arith)
-drain-form (work (move at)) e = absurd (omega arith)
-drain-form (work (finish at)) e = absurd (omega arith)
-drain-form (work (join at unit)) e = absurd (omega arith)
-drain-form (work (split at unit after)) e = absurd (omega arith)
-drain-form (work (swap at unit)) e = absurd (omega arith)
-drain-form (work (fuse at unit)) e = absurd (omega arith)
+drain-form (work w) e = absurd (omega (arith, place-below w))
 drain-form drains e = refl
 
 module _ (image after line : List ℕ) (t : Tally) (c : StepLine) (h : ImageOf image (sessionOf image)) (r : Read line c) where

@@ -14,13 +14,13 @@ use Rattle.graph.specs.Sessions.{Session}
 use Rattle.graph.specs.Acceptance.{Claimed, claim as claimOf}
 use Rattle.graph.specs.Valid.{Valid}
 use Rattle.graph.proofs.Validity.{Fine, claim-fine}
-use Rattle.text.specs.Text.{ascii, pasted}
+use Rattle.text.specs.Text.{ascii, pasted, startsWith}
 use Rattle.lines.specs.Answers.{IsClaim}
 use Rattle.print.specs.Printed.{resultText}
 use Rattle.listing.specs.Listed.{listingOf}
 use Rattle.host.specs.Entries.{Called, ClaimMade, claimRefused, claimServed, Claims, Listed, listRefused, listServed}
 use Rattle.host.proofs.Determined.{both, claim-forms, call-once, tally-free}
-use Rattle.program.specs.Lines.{startsWith, lengthIn, answerText, Line, step, claim, call}
+use Rattle.program.specs.Lines.{lengthIn, answerText, Line, step, claim, call}
 use Rattle.program.specs.Transcript.{Run, none, next, ListingPrinted, Transcript}
 use Rattle.program.proofs.Serving.{take-pasted}
 use Rattle.program.proofs.Rooms.{result-short, listing-short}

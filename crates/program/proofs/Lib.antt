@@ -1,5 +1,4 @@
 pub mod Signs
-pub mod Beginnings
 pub mod Serving
 pub mod Framing
 pub mod LineCases

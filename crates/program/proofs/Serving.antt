@@ -10,7 +10,7 @@ use lib.IntN.{ℤ, pos, negsuc}
 use lib.ListN.{length, take, drop}
 use lib.Seq.{take-at}
 use borrow.Author.Tests.{leb-true}
-use Rattle.text.specs.Text.{ascii, pasted, Written}
+use Rattle.text.specs.Text.{ascii, pasted, Written, startsWith}
 use Rattle.text.proofs.Pasting.{written-size}
 use Rattle.print.specs.Printed.{refusalText}
 use Rattle.print.proofs.Refusals.{refusal-fits}
@@ -24,7 +24,7 @@ use Rattle.panel.specs.Answer.{numberOf, refusalIn}
 use Rattle.listing.specs.Listed.{listingOf}
 use Rattle.host.specs.Entries.{Calls, Steps, ClaimMade, claimRefused, claimServed, Claims, Listed, listServed, Lists}
 use Rattle.host.proofs.Determined.{each-case}
-use Rattle.program.specs.Lines.{startsWith, lengthIn, answerText, step, claim, call}
+use Rattle.program.specs.Lines.{lengthIn, answerText, step, claim, call}
 use Rattle.program.specs.Frames.{AnswerPrinted, Served, Ended}
 
 text-served : (n : ℕ) (z : ℤ) (text : List ℕ) → 0 ≡ refusalIn z → text ≡ answerText n z text
@@ -124,3 +124,7 @@ list-ended {image} {out} {output} {z} {w} {r} same room h e =
       within = subst (λ (x : ℕ). x ≤ length output) (sym size) (list-inside h);
       listing = record { out = out; room = room; listed = record { answer = w; output = output }; lists = h; bytes = ap (λ (x : ℕ). take x output) (sym size) };
     }
+
+-- the test of the part of the frame is the test of the line
+pub starts-line : (text : List ℕ) {line part : List ℕ} {b v : Bool} → part ≡ line → b ≡ startsWith text part → b ≡ v → startsWith text line ≡ v
+starts-line text e t q = ap (startsWith text) (sym e) ∙ sym t ∙ q

@@ -3,21 +3,14 @@
 -- Assumes nothing.
 use Prim.Native.Nat.{ℕ, suc, _≤_}
 use mathlib.Core.Path.{_≡_}
-use mathlib.Core.Bool.{Bool, true, false, cond}
-use mathlib.Core.List.{List, [], _∷_}
-use lib.Dec.{eqb}
+use mathlib.Core.Bool.{true, false}
+use mathlib.Core.List.{List, []}
 use lib.IntN.{ℤ, pos, negsuc}
 use lib.ListN.{length, take}
-use Rattle.text.specs.Text.{ascii}
+use Rattle.text.specs.Text.{ascii, startsWith}
 use Rattle.print.specs.Printed.{refusalText}
 use Rattle.panel.specs.declared.tally.Tally.{Tally}
 use Rattle.host.specs.Entries.{Called, Calls, Stepped, Steps, ClaimMade, Claims}
-
--- the line begins with this text
-unfoldable pub startsWith : (text line : List ℕ) → Bool
-startsWith [] line = true
-startsWith (c ∷ cs) [] = false
-startsWith (c ∷ cs) (x ∷ xs) = cond (eqb x c) (startsWith cs xs) false
 
 -- the written length that an answer is, or 0
 abbrev pub lengthIn : ℤ → ℕ

@@ -5,17 +5,16 @@ use host::list::cg_list;
 use host::step::step_by;
 use panel::tally::Tally;
 use print::lines::put_refusal;
-use text::cut::Place;
 use text::cut::part_to;
-use text::cut::past;
+use text::cut::starts_with;
 ghost use mathlib.Core.Bool.{true, false};
 ghost use mathlib.Core.Path.{_≡_};
 ghost use Prim.Native.Nat.{_≤_};
 ghost use lib.ListN.{length, take};
-ghost use Rattle.text.specs.Text.{ascii};
+ghost use Rattle.text.specs.Text.{ascii, startsWith};
 ghost use Rattle.lines.specs.Answers.{lineAt};
 ghost use Rattle.panel.specs.Answer.{refusalIn};
-ghost use Rattle.program.specs.Lines.{startsWith, lengthIn};
+ghost use Rattle.program.specs.Lines.{lengthIn};
 ghost use Rattle.program.specs.Frames.{AnswerPrinted, Served, Ended};
 
 // Nothing that is printed shows a tally, so each step is lent a fresh one.
@@ -29,15 +28,6 @@ const ZEROS: Tally = Tally {
     swap: 0,
     fuse: 0,
 };
-
-fn starts_with(line: &[u8], literal: &[u8]) -> bool
-    ensures { λ r. ⌜ r ≡ startsWith (now (literal .entry)) (now (line .entry)) ⌝ }
-{
-    let Place::At(_) = past(line, 0, literal) else {
-        return false;
-    };
-    true
-}
 
 // The refusal that an answer of the host is, or 0.
 fn refusal_in(answer: i64) -> u64

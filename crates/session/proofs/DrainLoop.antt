@@ -9,12 +9,13 @@ use lib.Dec.{eqb}
 use lib.ListN.{length}
 use Rattle.graph.specs.Refusals.{Answer, refused, done}
 use Rattle.graph.specs.Sessions.{Session}
-use Rattle.graph.specs.Steps.{Step, admit, realise, move, finish, join, split, swap, fuse}
+use Rattle.graph.specs.Steps.{Step, admit, realise, finish}
 use Rattle.graph.specs.Drain.{drain, weightOf}
 use Rattle.graph.specs.Valid.{Valid}
 use Rattle.graph.specs.Runs.{tallyPlace, ofKind, workSteps}
 use Rattle.graph.proofs.Drains.{drain-drains, weight-bound}
 use Rattle.worksteps.specs.FlatEvents.{FlatTaken, flatDrainStep}
+use Rattle.graph.proofs.Effects.{place-below}
 use Rattle.queue.specs.Flat.{flat, nest}
 use Rattle.records.proofs.Codecs.{Bytes}
 use Rattle.valid.specs.Values.{encode, sessionOf}
@@ -79,16 +80,6 @@ loop-next first image after c r h d ne size = go (flatDrainStep (held image)) re
         }
 
 -- where none was, drain has ended here
-place-small : (t : Step) → tallyPlace t ≡ 8 → ⊥
-place-small admit e = omega arith
-place-small (realise k) e = omega arith
-place-small (move k) e = omega arith
-place-small (finish k) e = omega arith
-place-small (join k i) e = omega arith
-place-small (split k i j) e = omega arith
-place-small (swap k i) e = omega arith
-place-small (fuse k i) e = omega arith
-
 sums-done : (own n : ℕ) (first image : List ℕ) → stepsOf image ≡ [] → Sums own first image n → n ≡ ofKind own (stepsOf first)
 sums-done own n first image e h = omega (arith, ap (ofKind own) e, h)
 
@@ -100,7 +91,7 @@ pub loop-done : (first image after : List ℕ) (c : Counts) (r : ℕ) → Loop f
 loop-done first image after c r h d e b = go (flatDrainStep (held image)) refl (d .kind) (d .leaves)
   where
     go : (x : Answer FlatTaken) → flatDrainStep (held image) ≡ x → r ≡ placeTaken x → LeavesTaken x image after → Drains first after c
-    go (done t) q k l = absurd (place-small (t .what) (sym k ∙ e))
+    go (done t) q k l = absurd (omega (arith, place-below (t .what), k, e))
     go (refused n) q k l =
         let s : Rests image = drain-stops image n (h .live) q in
         record {

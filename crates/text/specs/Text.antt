@@ -3,7 +3,7 @@
 use Prim.Native.Nat.{ℕ, zero, suc, _+_, _/_, _%_}
 use Prim.Native.Char.{code}
 use Prim.Native.String.{String, [] as none, _∷_ as _then_}
-use mathlib.Core.Bool.{cond}
+use mathlib.Core.Bool.{Bool, true, false, cond}
 use mathlib.Core.List.{List, [], _∷_, _++_}
 use mathlib.Core.Path.{_≡_}
 use lib.Dec.{ltb, eqb}
@@ -18,6 +18,12 @@ ascii (_then_ c s) = code c ∷ ascii s
 unfoldable pub upTo : ℕ → List ℕ → List ℕ
 upTo stop [] = []
 upTo stop (x ∷ xs) = cond (eqb x stop) [] (x ∷ upTo stop xs)
+
+-- does the text begin with this one?
+unfoldable pub startsWith : (literal text : List ℕ) → Bool
+startsWith [] text = true
+startsWith (c ∷ cs) [] = false
+startsWith (c ∷ cs) (x ∷ xs) = cond (eqb x c) (startsWith cs xs) false
 
 -- the digits of n, most significant first, in at most `turns` divisions
 unfoldable pub digits : (turns n : ℕ) → List ℕ

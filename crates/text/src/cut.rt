@@ -2,7 +2,7 @@
 ghost use mathlib.Core.Path.{_≡_};
 ghost use Prim.Native.Nat.{_≤_};
 ghost use lib.ListN.{length, drop};
-ghost use Rattle.text.specs.Text.{upTo};
+ghost use Rattle.text.specs.Text.{upTo, startsWith};
 ghost use Rattle.text.specs.Reads.{PlaceOf};
 
 // The part of `s` from `at` to the next byte `stop`, or to the end. A place past the end gives the empty part.
@@ -43,4 +43,13 @@ pub fn past(s: &[u8], at: usize, literal: &[u8]) -> Place
     } else {
         Place::Missing
     }
+}
+
+pub fn starts_with(s: &[u8], literal: &[u8]) -> bool
+    ensures { λ r. ⌜ r ≡ startsWith (now (literal .entry)) (now (s .entry)) ⌝ }
+{
+    let Place::At(_) = past(s, 0, literal) else {
+        return false;
+    };
+    true
 }

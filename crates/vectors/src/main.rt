@@ -15,9 +15,8 @@ use print::lines::put_node;
 use print::lines::put_refusal;
 use print::lines::put_result;
 use print::lines::result_len;
-use text::cut::Place;
 use text::cut::part_to;
-use text::cut::past;
+use text::cut::starts_with;
 ghost use Prim.Native.Nat.{_≤_};
 ghost use lib.ListN.{length};
 
@@ -101,23 +100,15 @@ fn show_claim(frame: &[u8], at: usize, line: u32) {
     show_result(line, c.label, Keys::none());
 }
 
-fn starts(frame: &[u8], at: usize, literal: &[u8]) -> bool
-    requires { ⌜ at ≤ length (now frame) ⌝ }
-{
-    let Place::At(_) = past(frame, at, literal) else {
-        return false;
-    };
-    true
-}
-
 fn show(frame: &[u8], at: usize, line: u32)
     requires { ⌜ at ≤ length (now frame) ⌝ }
 {
-    if starts(frame, at, b"step=") {
+    let rest = &frame[at..];
+    if starts_with(rest, b"step=") {
         show_step(frame, at, line);
         return;
     }
-    if starts(frame, at, b"claim=") {
+    if starts_with(rest, b"claim=") {
         show_claim(frame, at, line);
         return;
     }

@@ -1,7 +1,7 @@
 -- The test of the line is what each server asks.
 -- Assumes nothing.
 use Rattle.text.specs.Text.{ascii}
-use Rattle.program.proofs.Beginnings.{starts-line}
+use Rattle.program.proofs.Serving.{starts-line}
 use borrow.Author.Needs.{needs}
 use Rattle.program.proofs.serve.serve_line.Statement.{statement}
 use Rattle.program.proofs.serve.serve_line.Tie as tie

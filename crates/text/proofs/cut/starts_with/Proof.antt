@@ -1,9 +1,9 @@
 -- What was found, or not, at the start.
 -- Assumes nothing.
-use Rattle.program.proofs.Beginnings.{starts-yes, starts-no}
+use Rattle.text.proofs.Beginnings.{starts-yes, starts-no}
 use borrow.Author.Needs.{needs}
-use Rattle.program.proofs.serve.starts_with.Statement.{statement}
-use Rattle.program.proofs.serve.starts_with.Tie as tie
+use Rattle.text.proofs.cut.starts_with.Statement.{statement}
+use Rattle.text.proofs.cut.starts_with.Tie as tie
 
 past-requires : tie.Need-past-requires
 past-requires c κs = search needs

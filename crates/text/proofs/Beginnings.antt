@@ -1,4 +1,4 @@
--- Whether a line begins with a text.
+-- Whether a text begins with another.
 -- Assumes nothing.
 use mathlib.Core.Path.{_≡_, refl, sym, ap, _∙_}
 use mathlib.Core.Bool.{Bool, true, false, cond}
@@ -6,7 +6,7 @@ use mathlib.Core.List.{List, [], _∷_, _++_}
 use Prim.Native.Nat.{ℕ}
 use lib.Dec.{eqb}
 use borrow.Author.Tests.{eqb-true, eq-eqb}
-use Rattle.program.specs.Lines.{startsWith}
+use Rattle.text.specs.Text.{startsWith}
 
 starts-append : (text x : List ℕ) → startsWith text (text ++ x) ≡ true
 unfolding startsWith
@@ -25,7 +25,3 @@ starts-no (c ∷ cs) (x ∷ xs) n = go (eqb x c) refl (starts-no cs xs)
     go : (b : Bool) → eqb x c ≡ b → (((y : List ℕ) → xs ≡ cs ++ y → ⊥) → false ≡ startsWith cs xs) → false ≡ cond (eqb x c) (startsWith cs xs) false
     go true e ih = rw e (ih (λ y q. n y (λ i. eqb-true x c e i ∷ q i)))
     go false e ih = rw e refl
-
--- the test of the part of the frame is the test of the line
-pub starts-line : (text : List ℕ) {line part : List ℕ} {b v : Bool} → part ≡ line → b ≡ startsWith text part → b ≡ v → startsWith text line ≡ v
-starts-line text e t q = ap (startsWith text) (sym e) ∙ sym t ∙ q
