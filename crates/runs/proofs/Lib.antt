@@ -1,4 +1,5 @@
 pub mod Entered
+pub mod OneLine
 pub mod Reached
 pub mod Seen
 pub mod Demand3

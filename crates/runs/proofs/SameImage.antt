@@ -1,7 +1,7 @@
 -- Two lists that also claimed the same labels leave images that are equal byte for byte: their sessions are equal.
 -- Assumes nothing.
 use mathlib.Core.Path.{_≡_, refl, sym, ap, subst, _∙_}
-use Prim.Native.Nat.{ℕ, _≤_, _<_}
+use Prim.Native.Nat.{ℕ, _+_, _≤_, _<_}
 use native.Mathlib.Omega.{arith}
 use mathlib.Core.Bool.{Bool, true, false, cond, true≢false}
 use mathlib.Core.List.{List, [], _∷_}
@@ -15,7 +15,7 @@ use Rattle.graph.specs.Nodes.{Node, Result}
 use Rattle.graph.specs.OneAtATime.{oneAtATime}
 use Rattle.graph.specs.Sessions.{Station, Session, graphOf, labelsOfResults, pending, live}
 use Rattle.graph.specs.Drain.{backmost}
-use Rattle.graph.specs.Runs.{find}
+use Rattle.graph.specs.Runs.{Run, find}
 use Rattle.graph.specs.Valid.{Each, Given, count}
 use Rattle.graph.proofs.Answers.{and-left, and-right}
 use Rattle.graph.proofs.Drains.{Resting, no-units, pending-resting}
@@ -26,7 +26,7 @@ use Rattle.valid.specs.Values.{encode}
 use Rattle.runs.specs.Runs.{Sent, Runs, opening, after, isServed, acceptedLines, TextsOf, ClaimedIn, here, there}
 use Rattle.runs.specs.Demand.{NonePending, ClaimedLabel}
 use Rattle.runs.proofs.Seen.{some-same, none-some}
-use Rattle.runs.proofs.Reached.{Gave, pastCall, pastStep, pastRefusal, pastClaim}
+use Rattle.runs.proofs.OneLine.{Gave, pastCall, pastStep, pastRefusal, pastClaim}
 use Rattle.host.proofs.Determined.{claim-forms}
 use Rattle.runs.proofs.Demand3.{InEither, first, second, find-either, gave-claimed}
 use Rattle.runs.proofs.Demand3 as main
@@ -160,8 +160,11 @@ module _ (es : List Sent) (h : Runs opening es) where
         total-append (is l) (pending s) (labelsOfResults (s .results)),
       )
 
+  once : (l : ℕ) → count l (labelsOfResults (main.x es h .claimed)) + count l (live s) ≤ 1
+  once l = subst (λ (y : Run). count l (labelsOfResults (y .claimed)) + count l (live (y .now)) ≤ 1) (main.to es h .moved) (label-once (main.to es h .made) l)
+
   not-both : (l : ℕ) (q p : Result) → find l (s .results) ≡ some q → find l (main.x es h .claimed) ≡ some p → ⊥
-  not-both l q p e f = omega (arith, counted l q (s .results) e, counted l p (main.x es h .claimed) f, results-live l, label-once (main.to es h .made) l)
+  not-both l q p e f = omega (arith, counted l q (s .results) e, counted l p (main.x es h .claimed) f, results-live l, once l)
 
   results-given : Each (Given (s .last)) (labelsOfResults (s .results))
   results-given = each-right (Given (s .last)) (pending s) (labelsOfResults (s .results)) (main.v es h .given)
@@ -188,17 +191,17 @@ module _ (es : List Sent) (h : Runs opening es) where
         go (r .result) (r .there) (find-either l (r .result) (main.x es h .claimed) (s .results) (r .here))
       where
         go : (p : Result) → find l meant ≡ some p → InEither l p (main.x es h .claimed) (s .results) → find l (s .results) ≡ some q
-        go p m (first f) = absurd (n (record { result = p; is = gave-claimed l p (main.to es h .wrote) (sym (ap (find l) (main.to es h .claimed)) ∙ f) }))
+        go p m (first f) = absurd (n (record { result = p; is = gave-claimed l p (main.to es h .wrote) f }))
         go p m (second f) = f ∙ sym m ∙ e
 
     held-unclaimed : (l : ℕ) (q : Result) → find l (s .results) ≡ some q → ClaimedLabel l es → ⊥
     held-unclaimed l q e c =
         let f = claimed-gave l (c .result) (c .is) (main.to es h .wrote) in
-        not-both l q (f .which) e (ap (find l) (main.to es h .claimed) ∙ f .found)
+        not-both l q (f .which) e (f .found)
 
 module _ (es fs : List Sent) (h : Runs opening es) (k : Runs opening fs) (same : acceptedLines es ≡ acceptedLines fs) (p : NonePending es) (q : NonePending fs) where
   fed : main.x es h .accepted ≡ main.x fs k .accepted
-  fed = main.fed es h ∙ texts-same (main.to es h .texts) (subst (λ (ls : List (List ℕ)). TextsOf ls (main.to fs k .calls)) (sym same) (main.to fs k .texts)) ∙ sym (main.fed fs k)
+  fed = texts-same (main.to es h .texts) (subst (λ (ls : List (List ℕ)). TextsOf ls (main.to fs k .calls)) (sym same) (main.to fs k .texts))
 
   last : main.s es h .last ≡ main.s fs k .last
   last = main.size es h ∙ ap length same ∙ sym (main.size fs k)

@@ -38,7 +38,7 @@ use Rattle.valid.specs.Values.{encode}
 use Rattle.host.specs.Entries.{served, ClaimMade, claimRefused, claimWritten, claimServed, stepServed, Steps}
 use Rattle.runs.specs.Runs.{isServed, Pending, Wrote, WouldWrite}
 use Rattle.runs.specs.Demand.{StepLines, ended, stepped}
-use Rattle.runs.proofs.Entered.{own, Entered, noForm, aForm, entered}
+use Rattle.runs.proofs.Entered.{own, entered}
 
 refusal-of : (n : ℕ) → refusalIn (numberOf (Refused n)) ≡ n
 refusal-of zero = refl
@@ -167,7 +167,9 @@ module _ (s : Session) (v : Valid s) (l : ℕ) where
   refused-31 e = subst (Fine l s) e (claim-fine l s v) .1 refl
 
   pub pending-only : Pending (encode s) l → contains l (pending s) ≡ true
-  pending-only h = go (entered s v (h []))
+  pending-only h =
+      entered s v (λ (r : ClaimMade). claimRefused (encode s) [] 31 ≡ r → contains l (pending s) ≡ true) (λ e. let unlike : _≡_ {A = ℕ} 31 10 = answers e in absurd (omega arith))
+      (λ m i. form m (sym (claim-unique l m (i .same))) (claim m s) refl) (h []) refl
     where
       answers : {n : ℕ} → claimRefused (encode s) [] 31 ≡ claimRefused (encode s) [] n → 31 ≡ n
       answers {n} e = ap (λ (y : ClaimMade). refusalIn (y .answer)) e ∙ refusal-of n
@@ -179,10 +181,6 @@ module _ (s : Session) (v : Valid s) (l : ℕ) where
           room : (b : Bool) → claimRefused (encode s) [] 31 ≡ cond b (claimWritten [] s c) (claimRefused (encode s) [] 33) → contains l (pending s) ≡ true
           room true e = absurd (true≢false (sym (ap (λ (y : ClaimMade). isServed (y .answer)) e)))
           room false e = let unlike : _≡_ {A = ℕ} 31 33 = answers e in absurd (omega arith)
-
-      go : Entered (IsClaim (claimText l)) (claimRefused (encode s) []) (λ u m. claimServed (encode s) [] u (claim m u)) s (claimRefused (encode s) [] 31) → contains l (pending s) ≡ true
-      go (noForm n e) = let unlike : _≡_ {A = ℕ} 31 10 = answers e in absurd (omega arith)
-      go (aForm m i e) = form m (sym (claim-unique l m (i .same))) (claim m s) refl e
 
 -- WHAT A CLAIM WOULD WRITE
 record Found (l : ℕ) (rs : List Result) (q : Result) : Type 0 where
