@@ -3,13 +3,12 @@
 use mathlib.Core.Path.{_≡_, refl, sym, ap, subst, _∙_}
 use Prim.Native.Nat.{ℕ, zero, suc, _*_, _≤_}
 use native.Mathlib.Omega.{arith}
-use mathlib.Core.Bool.{Bool, true, false, cond, _||_, true≢false}
+use mathlib.Core.Bool.{Bool, true, false, _||_, true≢false}
 use mathlib.Core.List.{List, [], _∷_, _++_, append-assoc}
 use mathlib.Core.Option.{some}
-use lib.Dec.{eqb}
 use lib.IntN.{pos}
 use lib.ListN.{length}
-use borrow.Author.Tests.{eqb-true, eq-eqb}
+use borrow.Author.Tests.{eq-eqb}
 use Rattle.graph.specs.Refusals.{Answer, refused, done}
 use Rattle.graph.specs.KeyLists.{contains}
 use Rattle.graph.specs.Calls.{Call}
@@ -39,9 +38,10 @@ use Rattle.runs.specs.Runs.{Sent, step, claim, Runs, opening, after, acc
 use Rattle.runs.specs.Demand.{ResultOf, claimed, unclaimed, HasResult, ClaimsMeant, Progress, StepLines, NonePending, Demand3}
 use Rattle.host.proofs.Determined.{same-session}
 use Rattle.runs.proofs.Entered.{own}
+use Rattle.runs.proofs.Found.{none-some, find-here, find-skip, Where, first-of, later, where-found}
 use Rattle.runs.proofs.OneLine.{Gave, noClaim, pastCall, pastStep, pastRefusal, pastClaim, adding}
 use Rattle.runs.proofs.Reached.{Reached, reached}
-use Rattle.runs.proofs.Seen.{line-taken, all-lines, pending-seen, pending-only, would-write, some-same, none-some}
+use Rattle.runs.proofs.Seen.{line-taken, all-lines, pending-seen, pending-only, would-write}
 
 texts-length : {lines : List (List ℕ)} {cs : List Call} → TextsOf lines cs → length lines ≡ length cs
 texts-length noLine = refl
@@ -54,15 +54,15 @@ pub data InEither (l : ℕ) (q : Result) (xs ys : List Result) : Type 0 where
 
 pub find-either : (l : ℕ) (q : Result) (xs ys : List Result) → find l (xs ++ ys) ≡ some q → InEither l q xs ys
 find-either l q [] ys e = second e
-find-either l q (x ∷ xs) ys e = go (eqb (x .label) l) refl (λ d. find-either l q xs ys d) e
+find-either l q (x ∷ xs) ys e = go (where-found l q x (xs ++ ys) e) (find-either l q xs ys)
   where
-    further : eqb (x .label) l ≡ false → InEither l q xs ys → InEither l q (x ∷ xs) ys
-    further d (first e) = first (rw d e)
-    further d (second e) = second e
+    further : (x .label ≡ l → ⊥) → InEither l q xs ys → InEither l q (x ∷ xs) ys
+    further n (first e) = first (find-skip l x xs n ∙ e)
+    further n (second e) = second e
 
-    go : (b : Bool) → eqb (x .label) l ≡ b → (find l (xs ++ ys) ≡ some q → InEither l q xs ys) → cond b (some x) (find l (xs ++ ys)) ≡ some q → InEither l q (x ∷ xs) ys
-    go true d g e = first (rw d e)
-    go false d g e = further d (g e)
+    go : Where l q x (xs ++ ys) → (find l (xs ++ ys) ≡ some q → InEither l q xs ys) → InEither l q (x ∷ xs) ys
+    go (first-of d s) g = first (find-here l x xs d ∙ ap some s)
+    go (later n s) g = further n (g s)
 
 -- what was claimed was written
 pub gave-claimed : (l : ℕ) (q : Result) {es : List Sent} {qs : List Result} → Gave es qs → find l qs ≡ some q → ClaimedIn l q es
@@ -70,13 +70,11 @@ gave-claimed l q noClaim e = absurd (none-some e)
 gave-claimed l q (pastCall h) e = there (gave-claimed l q h e)
 gave-claimed l q (pastStep h) e = there (gave-claimed l q h e)
 gave-claimed l q (pastRefusal n h) e = there (gave-claimed l q h e)
-gave-claimed l q (pastClaim {line} {out} {r} {es} {q = p} {qs} i w h) e = go (eqb (p .label) l) refl (λ d. gave-claimed l q h d) e
+gave-claimed l q (pastClaim {line} {out} {r} {es} {q = p} {qs} i w h) e = go (where-found l q p qs e) (gave-claimed l q h)
   where
-    go : (b : Bool) → eqb (p .label) l ≡ b → (find l qs ≡ some q → ClaimedIn l q es) → cond b (some p) (find l qs) ≡ some q → ClaimedIn l q (claim line out r ∷ es)
-    go true d g e =
-        let same : p ≡ q = some-same e in
-        here (subst (IsClaim line) (eqb-true (p .label) l d) i) (subst (λ (x : Result). Wrote out x r) same w)
-    go false d g e = there (g e)
+    go : Where l q p qs → (find l qs ≡ some q → ClaimedIn l q es) → ClaimedIn l q (claim line out r ∷ es)
+    go (first-of d s) g = here (subst (IsClaim line) d i) (subst (λ (x : Result). Wrote out x r) s w)
+    go (later n s) g = there (g s)
 
 module _ (meant : List Result) (all : List Result) (right : (pre post : List Result) (r : Result) → all ≡ pre ++ (r ∷ post) → find (r .label) meant ≡ some r) where
   gave-meant : (pre : List Result) {es : List Sent} {qs : List Result} → Gave es qs → all ≡ pre ++ qs → ClaimsMeant meant es
