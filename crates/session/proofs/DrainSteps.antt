@@ -76,7 +76,7 @@ module _ (image : List ℕ) (l : Live image) (k : ℕ) (b : Begins image k) wher
   apart : eqb (x .place) 65 ≡ false
   apart = ap (λ (j : ℕ). eqb j 65) (b .place) ∙ b .station
 
-  pub node-known : known k (held image) ≡ true
+  node-known : known k (held image) ≡ true
   node-known =
       let s = nest (held image) in
       let g : Stands (length (held image .nodes)) x = subst (λ (g : Flat). (0 < length (g .queue)) → Stands (length (g .nodes)) (getD (g .queue) 0 noOp)) (l .flat) (λ h. stands-at s (l .valid) 0 h) (b .inside) in
@@ -87,32 +87,32 @@ module _ (image : List ℕ) (l : Live image) (k : ℕ) (b : Begins image k) wher
   begins-head e d h = record { node = node-known; first = sym (rw (begins, b .place, eqb-same k)); inside = b .inside; ends = d; fits = h }
 
   -- the three steps at that station, and their order: its head unit ends at e
-  module _ (e : ℕ) (d : e ≡ endOf k 0 (held image .queue)) (w : e ≤ length (held image .queue)) where
+  module _ {e : ℕ} (at : Head image k 0 e) where
     canon : (p : Tagged → Bool) → firstIn p 0 e (held image .queue) ≡ firstIn p 0 (endOf k 0 (held image .queue)) (held image .queue)
-    canon p = ap (λ (n : ℕ). firstIn p 0 n (held image .queue)) d
+    canon p = ap (λ (n : ℕ). firstIn p 0 n (held image .queue)) (at .ends)
 
-    pub takes-realise : (p : ℕ) → p ≡ firstIn (hitsKey k) 0 e (held image .queue) → p < e →
+    pub takes-realise : {p : ℕ} → p ≡ firstIn (hitsKey k) 0 e (held image .queue) → p < e →
         flatDrainStep (held image) ≡ done (taken (realise k) (actAt k p (getD (held image .queue) p noOp) (getD (held image .nodes) (k - 1) noNode) (held image)))
-    takes-realise p s h =
+    takes-realise s h =
         let is = s ∙ canon (hitsKey k) in
         subst (λ (n : ℕ). flatDrainStep (held image) ≡ done (taken (realise k) (actAt k n (getD (held image .queue) n noOp) (getD (held image .nodes) (k - 1) noNode) (held image)))) (sym is)
-        (drain-realises (held image) k x (drop 1 (held image .queue)) begins (b .place) (b .station) node-known (omega (arith, is, d, h)))
+        (drain-realises (held image) k x (drop 1 (held image .queue)) begins (b .place) (b .station) node-known (omega (arith, is, at .ends, h)))
 
-    pub takes-finish : (p r : ℕ) → p ≡ firstIn (hitsKey k) 0 e (held image .queue) → e ≤ p → r ≡ firstIn (finishesAt k) 0 e (held image .queue) → r < e →
+    pub takes-finish : {p r : ℕ} → p ≡ firstIn (hitsKey k) 0 e (held image .queue) → e ≤ p → r ≡ firstIn (finishesAt k) 0 e (held image .queue) → r < e →
         flatDrainStep (held image) ≡ done (taken (finish k) (finishPlace r e (getD (held image .queue) r noOp) (held image)))
-    takes-finish p r s h t j =
+    takes-finish s h t j =
         let is = t ∙ canon (finishesAt k) in
         let hit = s ∙ canon (hitsKey k) in
-        drain-finishes (held image) k x (drop 1 (held image .queue)) begins (b .place) (b .station) node-known (omega (arith, hit, d, h)) (omega (arith, is, d, j))
-        ∙ (λ i. done (taken (finish k) (finishPlace (sym is i) (sym d i) (getD (held image .queue) (sym is i) noOp) (held image))))
+        drain-finishes (held image) k x (drop 1 (held image .queue)) begins (b .place) (b .station) node-known (omega (arith, hit, at .ends, h)) (omega (arith, is, at .ends, j))
+        ∙ (λ i. done (taken (finish k) (finishPlace (sym is i) (sym (at .ends) i) (getD (held image .queue) (sym is i) noOp) (held image))))
 
-    pub takes-move : (p r : ℕ) → p ≡ firstIn (hitsKey k) 0 e (held image .queue) → e ≤ p → r ≡ firstIn (finishesAt k) 0 e (held image .queue) → e ≤ r →
+    pub takes-move : {p r : ℕ} → p ≡ firstIn (hitsKey k) 0 e (held image .queue) → e ≤ p → r ≡ firstIn (finishesAt k) 0 e (held image .queue) → e ≤ r →
         flatDrainStep (held image) ≡ done (taken (move k) (withQueue (held image) (mapFrom (moveTo (k - 1)) 0 e (held image .queue))))
-    takes-move p r s h t j =
+    takes-move s h t j =
         let is = t ∙ canon (finishesAt k) in
         let hit = s ∙ canon (hitsKey k) in
-        drain-moves (held image) k x (drop 1 (held image .queue)) begins (b .place) (b .station) node-known (omega (arith, d, w)) (omega arith) (omega (arith, hit, d, h)) (omega (arith, is, d, j))
-        ∙ (λ i. done (taken (move k) (withQueue (held image) (mapFrom (moveTo (k - 1)) 0 (sym d i) (held image .queue)))))
+        drain-moves (held image) k x (drop 1 (held image .queue)) begins (b .place) (b .station) node-known (omega (arith, at .ends, at .fits)) (omega arith) (omega (arith, hit, at .ends, h)) (omega (arith, is, at .ends, j))
+        ∙ (λ i. done (taken (move k) (withQueue (held image) (mapFrom (moveTo (k - 1)) 0 (sym (at .ends) i) (held image .queue)))))
 
 -- the first waiting call begins the queue
 pub takes-admit : (image : List ℕ) → 0 < length (held image .queue) → (getD (held image .queue) 0 noOp) .place ≡ 65 → flatDrainStep (held image) ≡ done (taken admit (admitCall 0 ((getD (held image .queue) 0 noOp) .call) (held image)))
