@@ -10,16 +10,14 @@ use lib.ListN.{length, getD, drop}
 use lib.Seq.{drop-cons}
 use borrow.Author.Tests.{le-leb}
 use Rattle.graph.specs.Refusals.{Answer, refused, done}
-use Rattle.graph.specs.Nodes.{Op}
-use Rattle.graph.specs.OneAtATime.{Labelled}
-use Rattle.graph.specs.Sessions.{Station, Session}
+use Rattle.graph.specs.Sessions.{Session}
 use Rattle.graph.specs.Steps.{admit, realise, move, finish}
-use Rattle.graph.specs.Valid.{Each, KeysFall, Valid}
+use Rattle.graph.specs.Valid.{Valid}
 use Rattle.graph.specs.Runs.{tallyPlace}
 use Rattle.graph.proofs.Answers.{eqb-same}
-use Rattle.graph.proofs.Limits.{each-append, each-at}
-use Rattle.queue.specs.Flat.{Tagged, Flat, tagUnit, tagUnits, queueOf, waiting, flat, nest, endOf}
-use Rattle.queue.proofs.Places.{length-nodes}
+use Rattle.graph.proofs.Limits.{each-at}
+use Rattle.queue.specs.Flat.{Tagged, Flat, flat, nest, endOf}
+use Rattle.queue.proofs.Elements.{each-queued}
 use Rattle.worksteps.specs.FlatSteps.{mapFrom, firstIn, noOp, noNode, moveTo, withQueue, hitsKey, actAt, finishesAt, finishPlace, admitCall, known, flatStep}
 use Rattle.worksteps.specs.FlatEvents.{FlatTaken, flatDrainStep}
 use Rattle.state.specs.State.{held, Shows}
@@ -40,28 +38,10 @@ module _ {x : Answer FlatTaken} {before after : List ℕ} where
 record Stands (n : ℕ) (x : Tagged) : Type 0 where
   known : eqb (x .place) 65 ≡ false → (1 ≤ x .place) × (x .place ≤ n)
 
-stands-unit : (n k : ℕ) (b : Bool) (u : List Op) → 1 ≤ k → k ≤ n → Each (Stands n) (tagUnit k b u)
-stands-unit n k b [] l h = tt
-stands-unit n k b (o ∷ os) l h = (record { known = λ e. (l, h) }, stands-unit n k false os l h)
-
-stands-units : (n k : ℕ) (us : List (List Op)) → 1 ≤ k → k ≤ n → Each (Stands n) (tagUnits k us)
-stands-units n k [] l h = tt
-stands-units n k (u ∷ us) l h = each-append (Stands n) (tagUnit k true u) (tagUnits k us) (stands-unit n k true u l h) (stands-units n k us l h)
-
-stands-queue : (n : ℕ) (ss : List Station) → KeysFall ss → length ss ≤ n → Each (Stands n) (queueOf ss)
-stands-queue n [] f h = tt
-stands-queue n (s ∷ ss) f h =
-    each-append (Stands n) (queueOf ss) (tagUnits (s .node .key) (s .units)) (stands-queue n ss (f .1) (omega arith)) (stands-units n (s .node .key) (s .units) (omega (arith, f .0)) (omega (arith, f .0)))
-
-stands-waiting : (n : ℕ) (cs : List Labelled) → Each (Stands n) (waiting cs)
-stands-waiting n [] = tt
-stands-waiting n (c ∷ cs) = (record { known = λ e. absurd (true≢false e) }, stands-waiting n cs)
-
 stands-at : (s : Session) → Valid s → (i : ℕ) → i < length (flat s .queue) → Stands (length (flat s .nodes)) (getD (flat s .queue) i noOp)
 stands-at s g i h =
-    let n = length (flat s .nodes) in
-    each-at (Stands n) (flat s .queue) noOp
-    (each-append (Stands n) (queueOf (s .stations)) (waiting (s .topStream)) (stands-queue n (s .stations) (g .falling) (omega (arith, length-nodes (s .stations)))) (stands-waiting n (s .topStream))) i h
+    each-at (Stands (length (flat s .nodes))) (flat s .queue) noOp
+    (each-queued (Stands (length (flat s .nodes))) (λ c v. record { known = λ e. absurd (true≢false e) }) s g (λ k b o l m v. record { known = λ e. (l, m) })) i h
 
 module _ (image : List ℕ) (l : Live image) (k : ℕ) (b : Begins image k) where
   abbrev f : Flat
