@@ -8,10 +8,11 @@ use mathlib.Core.List.{List, [], _∷_, _++_}
 use lib.Dec.{leb}
 use lib.ListN.{length}
 use borrow.Author.Tests.{leb-false}
-use Rattle.graph.specs.Calls.{Call, add, map, link, unlink, sum, top, pick, near, isAdd, numbersOf, operandsOf, targetsOf, areWords, formTests}
+use Rattle.graph.specs.Calls.{Call, isAdd, numbersOf, operandsOf, targetsOf, areWords, formTests}
 use Rattle.graph.specs.KeyLists.{areKeys, rising}
 use Rattle.graph.specs.OneAtATime.{Labelled, labelled}
 use Rattle.graph.specs.Refusals.{Answer, refused, done, Test, on, firstOf, unless}
+use Rattle.graph.proofs.Validity.{Sort, adds, operates, sort}
 use Rattle.queue.specs.Flat.{Flat, isOp}
 use Rattle.worksteps.specs.FlatSteps.{withQueue}
 use Rattle.worksteps.specs.FlatEvents.{addsQueued, flatLive, flatAccept, acceptedAs}
@@ -63,14 +64,11 @@ module _ (x : Labelled) (f : Flat) where
 
 -- a call whose form is good is accepted by what follows
 is-add : (c : Call) (l : ℕ) → isAdd c ≡ not (isOp (labelled c l))
-is-add (add v) l = refl
-is-add (map a b ts) l = refl
-is-add (link k ts) l = refl
-is-add (unlink k ts) l = refl
-is-add (sum s ts) l = refl
-is-add (top s ts) l = refl
-is-add (pick s ts) l = refl
-is-add (near k s ts) l = refl
+is-add c l = go (sort c l)
+  where
+    go : Sort c l → isAdd c ≡ not (isOp (labelled c l))
+    go (adds v i e) = i ∙ ap (λ (x : Labelled). not (isOp x)) (sym e)
+    go (operates a h i e) = i ∙ ap (λ (x : Labelled). not (isOp x)) (sym e)
 
 pub accept-rest : (c : Call) (f : Flat) → firstOf (formTests c) ≡ 0 → flatAccept c f ≡ flatAcceptRest (labelled c (suc (f .last))) f
 accept-rest c f e =

@@ -61,7 +61,7 @@ plain-process c n x h = go (sort c (suc n))
 
     go : Sort c (suc n) → Plain (suc n) (process (labelled c (suc n)) x)
     go (adds v i e) = rw e (plain-snoc n x _ _ h refl)
-    go (operates a v e) =
+    go (operates a v i e) =
         let o : Op = record { act = a; held = v; targets = targetsOf c; labels = suc n ∷ [] } in
         rw e (one o (passOp o (x .nodes)) _ (pass-labels o (x .nodes)))
 
@@ -99,7 +99,7 @@ weight-call c s l f = go (sort c l)
   where
     go : Sort c l → weightOfCall (labelled c l) ≤ 73
     go (adds v i e) = rw e (omega arith)
-    go (operates a h e) = rw e (omega (arith, f .few))
+    go (operates a h i e) = rw e (omega (arith, f .few))
 
 good-accepted : (c : Call) (x : Run) → Good x → Fits c (x .now) → Valid (accepted c (x .now)) → Good (onCall c x (done (accepted c (x .now))))
 good-accepted c x g f v =

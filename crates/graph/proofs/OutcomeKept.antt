@@ -11,7 +11,7 @@ use lib.ListN.{length}
 use borrow.Author.Tests.{not-true}
 use Rattle.graph.specs.declared.affine.Affine.{Affine}
 use Rattle.graph.specs.declared.act.Act.{Act}
-use Rattle.graph.specs.declared.act.Act.the-variants.{Map, Link, Unlink, Sum, Top, Pick, Near}
+use Rattle.graph.specs.declared.act.Act.the-variants.{Map}
 use Rattle.graph.specs.Affine.{composed}
 use Rattle.graph.specs.KeyLists.{isNil, contains, strike, sameKeys}
 use Rattle.graph.specs.Acts.{isMap, affineOf}
@@ -21,7 +21,7 @@ use Rattle.graph.specs.Sessions.{Station, station, Session, store}
 use Rattle.graph.specs.Steps.{Step, Change, anyHits, putUnit, mayFuse, fused, enter, admitted, admitHead, stepAt, step}
 use Rattle.graph.proofs.Answers.{Holds, refuses, holds, holds-map, by-bool, and-left, and-right}
 use Rattle.graph.proofs.Striking.{same-eq, struck-out, nil-out}
-use Rattle.graph.proofs.AffineLaws.{applied-composed}
+use Rattle.graph.proofs.AffineLaws.{applied-composed, map-of}
 use Rattle.graph.proofs.Effects.{Reshaped, joined, cut, swapped, fusing, before, after, Effect, realised, moved, finished, reshaped, further, effect-at, effect-size, by-station}
 use Rattle.graph.proofs.Outcome.{flat, flowNode, flowOps, Seen, front, plus, seen-path, plus-zero, plus-plus, plus-swap, flat-append, flowNode-append, flowOps-append, sum, through, admitting, outcome, sum-store, sumOps-append, through-enter}
 use Rattle.graph.proofs.Meeting.{flow-key, pass-node, pass-op, hit-node, hit-op, flowNode-pass, flowOps-pass, flowNode-passes, flowOps-passes, anyHits-key, Commute, swap-commutes, meet, meet-sym, commute-op, commute-node, commute-visited}
@@ -122,15 +122,6 @@ module _ (w : Result → ℕ) where
       (λ i. front (flowNode post (pN i)) (through w ss (flowOps xs n ++ (pass-op o m e i ∷ pO i ∷ flowOps post (pN i)))))
       ∙ ap (front _) (through-fuse ss (flowOps xs n) (flowOps post m) f g h1 h2 ts ls ms)
       ∙ sym (λ i. front (flowNode post (pass-node r m e i)) (through w ss (flowOps xs n ++ (pass-op r m e i ∷ flowOps post (pass-node r m e i)))))))
-
-  map-of : (a : Act) → isMap a ≡ true → a ≡ Map (affineOf a)
-  map-of (Map m) e = refl
-  map-of (Link k) e = absurd (true≢false (sym e))
-  map-of (Unlink k) e = absurd (true≢false (sym e))
-  map-of Sum e = absurd (true≢false (sym e))
-  map-of Top e = absurd (true≢false (sym e))
-  map-of Pick e = absurd (true≢false (sym e))
-  map-of (Near k) e = absurd (true≢false (sym e))
 
   fused-through : (ss : List Station) (pre post : List Op) (o q : Op) → mayFuse o q ≡ true → through w ss (pre ++ (o ∷ q ∷ post)) ≡ through w ss (pre ++ (fused o q ∷ post))
   fused-through ss pre post o q e =

@@ -314,24 +314,24 @@ valid-labelled (near k x ts) s l f = let g = keys-each (k ∷ ts) (f .keys) in v
 -- a call with its label is an add, or an operation with that label alone
 pub data Sort (c : Call) (l : ℕ) : Type 0 where
   adds : (v : ℕ) → isAdd c ≡ true → labelled c l ≡ addOf l v → Sort c l
-  operates : (a : Act) (h : ℕ) → labelled c l ≡ operation a h (targetsOf c) l → Sort c l
+  operates : (a : Act) (h : ℕ) → isAdd c ≡ false → labelled c l ≡ operation a h (targetsOf c) l → Sort c l
 
 pub sort : (c : Call) (l : ℕ) → Sort c l
 sort (add v) l = adds v refl refl
-sort (map a b ts) l = operates _ 0 refl
-sort (link k ts) l = operates _ 0 refl
-sort (unlink k ts) l = operates _ 0 refl
-sort (sum x ts) l = operates _ x refl
-sort (top x ts) l = operates _ x refl
-sort (pick x ts) l = operates _ x refl
-sort (near k x ts) l = operates _ x refl
+sort (map a b ts) l = operates _ 0 refl refl
+sort (link k ts) l = operates _ 0 refl refl
+sort (unlink k ts) l = operates _ 0 refl refl
+sort (sum x ts) l = operates _ x refl refl
+sort (top x ts) l = operates _ x refl refl
+sort (pick x ts) l = operates _ x refl refl
+sort (near k x ts) l = operates _ x refl refl
 
 labels-one : (v : ℕ → ℕ) (c : Call) (l : ℕ) → total v (labelsOfCalls (labelled c l ∷ [])) ≡ v l
 labels-one v c l = go (sort c l)
   where
     go : Sort c l → total v (labelsOfCalls (labelled c l ∷ [])) ≡ v l
     go (adds x i e) = rw e (omega arith)
-    go (operates a h e) = rw e (omega arith)
+    go (operates a h i e) = rw e (omega arith)
 
 labels-last : (v : ℕ → ℕ) (cs : List Labelled) (c : Call) (l : ℕ) → total v (labelsOfCalls (cs ++ (labelled c l ∷ []))) ≡ total v (labelsOfCalls cs) + v l
 labels-last v [] c l = omega (arith, labels-one v c l)
@@ -343,7 +343,7 @@ adds-one c l n h f = go (sort c l)
   where
     go : Sort c l → n + addsIn (labelled c l ∷ []) ≤ 64
     go (adds x i e) = rw e (omega (arith, f i))
-    go (operates a x e) = rw e (omega arith)
+    go (operates a x i e) = rw e (omega arith)
 
 pub adds-append : (cs ds : List Labelled) → addsIn (cs ++ ds) ≡ addsIn cs + addsIn ds
 adds-append [] ds = omega arith

@@ -4,14 +4,13 @@ use mathlib.Core.Path.{_≡_, refl, sym, _∙_, ap, subst}
 use Prim.Native.Nat.{ℕ, suc, _+_, _-_, _≤_, _<_}
 use native.Mathlib.Numerals.{add-one}
 use native.Mathlib.Omega.{arith}
-use mathlib.Core.Bool.{Bool, true, false, cond, true≢false}
+use mathlib.Core.Bool.{Bool, true, false, cond}
 use mathlib.Core.List.{List, [], _++_, map}
 use lib.Dec.{eqb, ltb}
 use lib.ListN.{length, take, drop, getD, set, length-append, length-map, length-drop}
 use lib.Seq.{slice, length-slice, length-take-le}
 use borrow.Author.Tests.{lt-ltb, le-ltb}
 use Rattle.graph.specs.declared.act.Act.{Act}
-use Rattle.graph.specs.declared.act.Act.the-variants.{Map, Link, Unlink, Sum, Top, Pick, Near}
 use Rattle.graph.specs.declared.keys.Keys.{Keys}
 use Rattle.graph.specs.declared.task.Task.{Task}
 use Rattle.graph.specs.declared.task.Task.the-variants.{Acts, Finishes, Passes}
@@ -21,6 +20,7 @@ use Rattle.graph.specs.Tasks.{sameTask}
 use Rattle.graph.specs.OneAtATime.{opOf}
 use Rattle.graph.specs.Packed.{listed, packed}
 use Rattle.graph.specs.Sessions.{Session, store}
+use Rattle.graph.proofs.AffineLaws.{map-of}
 use Rattle.graph.proofs.KeyLaws.{listed-packed}
 use Rattle.graph.proofs.Tasks.{acts-exactly, finishes-exactly, passes-exactly}
 use Rattle.queue.specs.Flat.{Tagged, Flat, flat, nest, carried}
@@ -63,13 +63,7 @@ module _ (p : Tagged → Bool) (q : List Tagged) (h e : ℕ) (fits : e ≤ lengt
 -- AN ACT
 -- a map holds what it held
 pub map-holds : (a : Act) (h v : ℕ) (ls : List ℕ) → isMap a ≡ true → newHeld a h v ls ≡ h
-map-holds (Map m) h v ls e = refl
-map-holds (Link k) h v ls e = absurd (true≢false (sym e))
-map-holds (Unlink k) h v ls e = absurd (true≢false (sym e))
-map-holds Sum h v ls e = absurd (true≢false (sym e))
-map-holds Top h v ls e = absurd (true≢false (sym e))
-map-holds Pick h v ls e = absurd (true≢false (sym e))
-map-holds (Near k) h v ls e = absurd (true≢false (sym e))
+map-holds a h v ls e = ap (λ (m : Act). newHeld m h v ls) (map-of a e)
 
 body-is : (n : Node) (b : Body) → IsBody n b → bodyValue b ≡ n
 body-is n b s = λ i. record { key = s .key i; value = s .value i; links = s .links .is i }

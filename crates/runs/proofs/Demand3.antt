@@ -1,26 +1,24 @@
 -- Demand 3 of lines and images: one theorem, from the session's own.
 -- Assumes nothing.
 use mathlib.Core.Path.{_≡_, refl, sym, ap, subst, _∙_}
-use Prim.Native.Nat.{ℕ, zero, suc, _+_, _*_, _≤_}
+use Prim.Native.Nat.{ℕ, zero, suc, _*_, _≤_}
 use native.Mathlib.Omega.{arith}
-use mathlib.Core.Bool.{Bool, true, false, cond, _||_, true≢false}
+use mathlib.Core.Bool.{Bool, true, false, _||_, true≢false}
 use mathlib.Core.List.{List, [], _∷_, _++_, append-assoc}
 use mathlib.Core.Option.{some}
-use lib.Dec.{eqb}
 use lib.IntN.{pos}
 use lib.ListN.{length}
-use borrow.Author.Tests.{eqb-true, eq-eqb}
+use borrow.Author.Tests.{eq-eqb}
 use Rattle.graph.specs.Refusals.{Answer, refused, done}
 use Rattle.graph.specs.KeyLists.{contains}
 use Rattle.graph.specs.Calls.{Call}
 use Rattle.graph.specs.Nodes.{Result}
 use Rattle.graph.specs.OneAtATime.{oneAtATime}
 use Rattle.graph.specs.Sessions.{Session, pending, labelsOfResults}
-use Rattle.graph.specs.Steps.{Step}
 use Rattle.graph.specs.Steps as graph
 use Rattle.graph.specs.Allowed.{allowed}
 use Rattle.graph.specs.Drain.{drain, weightOf}
-use Rattle.graph.specs.Runs.{Run, start, run, find, ofKind, workSteps}
+use Rattle.graph.specs.Runs.{Run, start, find, ofKind, workSteps}
 use Rattle.graph.specs.Runs as graphRuns
 use Rattle.graph.specs.Valid.{Each, Given, Valid}
 use Rattle.graph.proofs.Answers.{isDone, by-bool}
@@ -40,8 +38,10 @@ use Rattle.runs.specs.Runs.{Sent, step, claim, Runs, opening, after, acc
 use Rattle.runs.specs.Demand.{ResultOf, claimed, unclaimed, HasResult, ClaimsMeant, Progress, StepLines, NonePending, Demand3}
 use Rattle.host.proofs.Determined.{same-session}
 use Rattle.runs.proofs.Entered.{own}
-use Rattle.runs.proofs.Reached.{Gave, noClaim, pastCall, pastStep, pastRefusal, pastClaim, Reached, reached}
-use Rattle.runs.proofs.Seen.{line-taken, all-lines, pending-seen, pending-only, would-write, some-same, none-some}
+use Rattle.runs.proofs.Found.{none-some, find-here, find-skip, Where, first-of, later, where-found}
+use Rattle.runs.proofs.OneLine.{Gave, noClaim, pastCall, pastStep, pastRefusal, pastClaim, adding}
+use Rattle.runs.proofs.Reached.{Reached, reached}
+use Rattle.runs.proofs.Seen.{line-taken, all-lines, pending-seen, pending-only, would-write}
 
 texts-length : {lines : List (List ℕ)} {cs : List Call} → TextsOf lines cs → length lines ≡ length cs
 texts-length noLine = refl
@@ -54,15 +54,15 @@ pub data InEither (l : ℕ) (q : Result) (xs ys : List Result) : Type 0 where
 
 pub find-either : (l : ℕ) (q : Result) (xs ys : List Result) → find l (xs ++ ys) ≡ some q → InEither l q xs ys
 find-either l q [] ys e = second e
-find-either l q (x ∷ xs) ys e = go (eqb (x .label) l) refl (λ d. find-either l q xs ys d) e
+find-either l q (x ∷ xs) ys e = go (where-found l q x (xs ++ ys) e) (find-either l q xs ys)
   where
-    further : eqb (x .label) l ≡ false → InEither l q xs ys → InEither l q (x ∷ xs) ys
-    further d (first e) = first (rw d e)
-    further d (second e) = second e
+    further : (x .label ≡ l → ⊥) → InEither l q xs ys → InEither l q (x ∷ xs) ys
+    further n (first e) = first (find-skip l x xs n ∙ e)
+    further n (second e) = second e
 
-    go : (b : Bool) → eqb (x .label) l ≡ b → (find l (xs ++ ys) ≡ some q → InEither l q xs ys) → cond b (some x) (find l (xs ++ ys)) ≡ some q → InEither l q (x ∷ xs) ys
-    go true d g e = first (rw d e)
-    go false d g e = further d (g e)
+    go : Where l q x (xs ++ ys) → (find l (xs ++ ys) ≡ some q → InEither l q xs ys) → InEither l q (x ∷ xs) ys
+    go (first-of d s) g = first (find-here l x xs d ∙ ap some s)
+    go (later n s) g = further n (g s)
 
 -- what was claimed was written
 pub gave-claimed : (l : ℕ) (q : Result) {es : List Sent} {qs : List Result} → Gave es qs → find l qs ≡ some q → ClaimedIn l q es
@@ -70,13 +70,11 @@ gave-claimed l q noClaim e = absurd (none-some e)
 gave-claimed l q (pastCall h) e = there (gave-claimed l q h e)
 gave-claimed l q (pastStep h) e = there (gave-claimed l q h e)
 gave-claimed l q (pastRefusal n h) e = there (gave-claimed l q h e)
-gave-claimed l q (pastClaim {line} {out} {r} {es} {q = p} {qs} i w h) e = go (eqb (p .label) l) refl (λ d. gave-claimed l q h d) e
+gave-claimed l q (pastClaim {line} {out} {r} {es} {q = p} {qs} i w h) e = go (where-found l q p qs e) (gave-claimed l q h)
   where
-    go : (b : Bool) → eqb (p .label) l ≡ b → (find l qs ≡ some q → ClaimedIn l q es) → cond b (some p) (find l qs) ≡ some q → ClaimedIn l q (claim line out r ∷ es)
-    go true d g e =
-        let same : p ≡ q = some-same e in
-        here (subst (IsClaim line) (eqb-true (p .label) l d) i) (subst (λ (x : Result). Wrote out x r) same w)
-    go false d g e = there (g e)
+    go : Where l q p qs → (find l qs ≡ some q → ClaimedIn l q es) → ClaimedIn l q (claim line out r ∷ es)
+    go (first-of d s) g = here (subst (IsClaim line) d i) (subst (λ (x : Result). Wrote out x r) s w)
+    go (later n s) g = there (g s)
 
 module _ (meant : List Result) (all : List Result) (right : (pre post : List Result) (r : Result) → all ≡ pre ++ (r ∷ post) → find (r .label) meant ≡ some r) where
   gave-meant : (pre : List Result) {es : List Sent} {qs : List Result} → Gave es qs → all ≡ pre ++ qs → ClaimsMeant meant es
@@ -98,22 +96,19 @@ module _ (es : List Sent) (h : Runs opening es) where
   to = reached start valid-fresh es h
 
   abbrev pub x : Run
-  x = run (to .made)
+  x = adding start (to .now) (to .calls) (to .steps) (to .gave)
 
   abbrev pub s : Session
   s = x .now
 
   pub d : graphRuns.Demand3 x
-  d = sessions.demand3 (to .made)
+  d = subst graphRuns.Demand3 (to .moved) (sessions.demand3 (to .made))
 
   pub v : Valid s
   v = d .valid
 
-  pub fed : x .accepted ≡ to .calls
-  fed = to .accepted
-
   pub size : s .last ≡ length (acceptedLines es)
-  size = d .labels ∙ ap length fed ∙ sym (texts-length (to .texts))
+  size = d .labels ∙ sym (texts-length (to .texts))
 
   pub image : after opening es ≡ encode s
   image = to .image
@@ -131,11 +126,11 @@ module _ (es : List Sent) (h : Runs opening es) where
       record {
         result = r .result;
         given = go (r .result) (find-either l (r .result) (x .claimed) (s .results) (r .here));
-        same = sym (ap (λ (cs : List Call). find l ((oneAtATime cs) .results)) fed) ∙ r .there;
+        same = r .there;
       }
     where
       go : (q : Result) → InEither l q (x .claimed) (s .results) → ResultOf es l q
-      go q (first e) = claimed (gave-claimed l q (to .wrote) (sym (ap (find l) (to .claimed)) ∙ e))
+      go q (first e) = claimed (gave-claimed l q (to .wrote) e)
       go q (second e) = unclaimed (λ out room. subst (λ (i : List ℕ). WouldWrite i out l q) (sym image) (would-write s v l a (omega (arith, size)) c q e out room))
 
   pub no-more : NonePending es → pending s ≡ []
@@ -165,7 +160,7 @@ module _ (es : List Sent) (h : Runs opening es) where
       })
 
   few : workSteps (to .steps) ≤ 73 * length (acceptedLines es)
-  few = subst (λ (ts : List Step). workSteps ts ≤ 73 * length (acceptedLines es)) (to .taken) (omega (arith, d .bound, d .labels, size))
+  few = omega (arith, d .bound, d .labels, size)
 
   tallied : OneTally zeros es → lastTally zeros es ≡ each (λ k c. upBy c (ofKind k (to .steps))) zeros
   tallied o = to .tally zeros o ∙ counted-kinds zeros (to .steps)
@@ -188,8 +183,8 @@ module _ (es : List Sent) (h : Runs opening es) where
         texts = to .texts;
         labels = to .labels;
         results = λ l a b np. result l a b (by-bool (contains l (pending s)) (λ c. absurd (np (waits l a b c))) (λ c. c));
-        claims = gave-meant ((oneAtATime (to .calls)) .results) (x .claimed) (λ pre post r e. sym (ap (λ (cs : List Call). find (r .label) ((oneAtATime cs) .results)) fed) ∙ d .claims pre post r e) [] (to .wrote) (to .claimed);
-        graph = λ np. record { session = s; holds = subst (λ (i : List ℕ). ImageOf i s) (sym image) (own s v); graph = d .graph (no-more np) ∙ ap (λ (cs : List Call). (oneAtATime cs) .nodes) fed };
+        claims = gave-meant ((oneAtATime (to .calls)) .results) (to .gave) (d .claims) [] (to .wrote) refl;
+        graph = λ np. record { session = s; holds = subst (λ (i : List ℕ). ImageOf i s) (sym image) (own s v); graph = d .graph (no-more np) };
         progress = onward;
         steps = to .steps;
         taken = to .took;

@@ -1,5 +1,7 @@
 pub mod Entered
+pub mod OneLine
 pub mod Reached
+pub mod Found
 pub mod Seen
 pub mod Demand3
 pub mod Unchanged

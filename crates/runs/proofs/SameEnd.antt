@@ -10,18 +10,21 @@ use Rattle.graph.specs.OneAtATime.{oneAtATime}
 use Rattle.graph.specs.Runs.{find}
 use Rattle.runs.specs.Runs.{Sent, Runs, opening, after, acceptedLines, TextsOf, noLine, aLine, here, there, GraphOf}
 use Rattle.runs.specs.Demand.{ResultOf, NonePending, SameEnd}
-use Rattle.runs.proofs.Seen.{some-same}
+use Rattle.runs.proofs.Found.{some-same}
 use Rattle.host.proofs.Determined.{call-forms}
 use Rattle.runs.proofs.Demand3.{demand3}
 
 -- the same lines are the texts of the same calls
-pub texts-same : {lines : List (List ℕ)} {cs ds : List Call} → TextsOf lines cs → TextsOf lines ds → cs ≡ ds
-texts-same noLine noLine = refl
-texts-same (aLine {c = c} i h) (aLine {c = d} j k) = λ t. call-forms c d i j t ∷ texts-same h k t
+same-texts : {lines : List (List ℕ)} {cs ds : List Call} → TextsOf lines cs → TextsOf lines ds → cs ≡ ds
+same-texts noLine noLine = refl
+same-texts (aLine {c = c} i h) (aLine {c = d} j k) = λ t. call-forms c d i j t ∷ same-texts h k t
+
+pub texts-same : {lines others : List (List ℕ)} {cs ds : List Call} → lines ≡ others → TextsOf lines cs → TextsOf others ds → cs ≡ ds
+texts-same {ds = ds} same h k = same-texts h (subst (λ (ls : List (List ℕ)). TextsOf ls ds) (sym same) k)
 
 module _ (es fs : List Sent) (h : Runs opening es) (k : Runs opening fs) (same : acceptedLines es ≡ acceptedLines fs) where
   calls-same : demand3 es h .calls ≡ demand3 fs k .calls
-  calls-same = texts-same (demand3 es h .texts) (subst (λ (ls : List (List ℕ)). TextsOf ls (demand3 fs k .calls)) (sym same) (demand3 fs k .texts))
+  calls-same = texts-same same (demand3 es h .texts) (demand3 fs k .texts)
 
   pub same-end : NonePending es → NonePending fs → SameEnd es fs
   same-end p q =

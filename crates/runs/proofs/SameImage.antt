@@ -1,21 +1,21 @@
 -- Two lists that also claimed the same labels leave images that are equal byte for byte: their sessions are equal.
 -- Assumes nothing.
 use mathlib.Core.Path.{_≡_, refl, sym, ap, subst, _∙_}
-use Prim.Native.Nat.{ℕ, _≤_, _<_}
+use Prim.Native.Nat.{ℕ, _+_, _≤_, _<_}
 use native.Mathlib.Omega.{arith}
-use mathlib.Core.Bool.{Bool, true, false, cond, true≢false}
+use mathlib.Core.Bool.{Bool, true, false, true≢false}
 use mathlib.Core.List.{List, [], _∷_}
 use mathlib.Core.Option.{none, some}
 use lib.Dec.{eqb, ltb}
 use lib.ListN.{length}
-use borrow.Author.Tests.{eqb-true, eqb-false, eq-eqb, ne-eqb, ltb-true}
+use borrow.Author.Tests.{eqb-true, eqb-false, eq-eqb, ltb-true}
 use Rattle.graph.specs.KeyLists.{above, rising, contains}
 use Rattle.graph.specs.Calls.{Call}
 use Rattle.graph.specs.Nodes.{Node, Result}
 use Rattle.graph.specs.OneAtATime.{oneAtATime}
 use Rattle.graph.specs.Sessions.{Station, Session, graphOf, labelsOfResults, pending, live}
 use Rattle.graph.specs.Drain.{backmost}
-use Rattle.graph.specs.Runs.{find}
+use Rattle.graph.specs.Runs.{Run, find}
 use Rattle.graph.specs.Valid.{Each, Given, count}
 use Rattle.graph.proofs.Answers.{and-left, and-right}
 use Rattle.graph.proofs.Drains.{Resting, no-units, pending-resting}
@@ -23,33 +23,16 @@ use Rattle.graph.proofs.Limits.{rising-above, each-right}
 use Rattle.graph.proofs.Demand3.{label-once}
 use Rattle.graph.proofs.Labels.{is, total-append, total-is}
 use Rattle.valid.specs.Values.{encode}
-use Rattle.runs.specs.Runs.{Sent, Runs, opening, after, isServed, acceptedLines, TextsOf, ClaimedIn, here, there}
+use Rattle.runs.specs.Runs.{Sent, Runs, opening, after, isServed, acceptedLines, ClaimedIn, here, there}
 use Rattle.runs.specs.Demand.{NonePending, ClaimedLabel}
-use Rattle.runs.proofs.Seen.{some-same, none-some}
-use Rattle.runs.proofs.Reached.{Gave, pastCall, pastStep, pastRefusal, pastClaim}
+use Rattle.runs.proofs.Found.{none-some, find-here, find-skip, Where, first-of, later, where-found}
+use Rattle.runs.proofs.OneLine.{Gave, pastCall, pastStep, pastRefusal, pastClaim}
 use Rattle.host.proofs.Determined.{claim-forms}
 use Rattle.runs.proofs.Demand3.{InEither, first, second, find-either, gave-claimed}
 use Rattle.runs.proofs.Demand3 as main
 use Rattle.runs.proofs.SameEnd.{texts-same}
 
 -- FOUND BY LABEL
-find-skip : (l : ℕ) (r : Result) (rs : List Result) → (r .label ≡ l → ⊥) → find l (r ∷ rs) ≡ find l rs
-find-skip l r rs n = ap (λ (b : Bool). cond b (some r) (find l rs)) (ne-eqb (r .label) l n)
-
-find-first : (r : Result) (rs : List Result) → find (r .label) (r ∷ rs) ≡ some r
-find-first r rs = ap (λ (b : Bool). cond b (some r) (find (r .label) rs)) (eq-eqb (r .label) (r .label) refl)
-
-data Where (l : ℕ) (q r : Result) (rs : List Result) : Type 0 where
-  first-of : r .label ≡ l → r ≡ q → Where l q r rs
-  later : (r .label ≡ l → ⊥) → find l rs ≡ some q → Where l q r rs
-
-where-found : (l : ℕ) (q r : Result) (rs : List Result) → find l (r ∷ rs) ≡ some q → Where l q r rs
-where-found l q r rs e = go (eqb (r .label) l) refl e
-  where
-    go : (b : Bool) → eqb (r .label) l ≡ b → cond b (some r) (find l rs) ≡ some q → Where l q r rs
-    go true d e = first-of (eqb-true (r .label) l d) (some-same e)
-    go false d e = later (eqb-false (r .label) l d) e
-
 counted : (l : ℕ) (q : Result) (rs : List Result) → find l rs ≡ some q → 1 ≤ count l (labelsOfResults rs)
 counted l q [] e = absurd (none-some e)
 counted l q (r ∷ rs) e = go (where-found l q r rs e) (counted l q rs)
@@ -84,7 +67,7 @@ Finds xs ys = (l : ℕ) (q : Result) → find l xs ≡ some q → find l ys ≡ 
 module _ (x y : Result) (xs ys : List Result) (a : above (x .label) (labelsOfResults xs) ≡ true) (b : above (y .label) (labelsOfResults ys) ≡ true) where
   heads : Finds (x ∷ xs) (y ∷ ys) → Finds (y ∷ ys) (x ∷ xs) → y ≡ x
   unfolding Finds
-  heads f g = go (where-found (x .label) x y ys (f (x .label) x (find-first x xs))) (where-found (y .label) y x xs (g (y .label) y (find-first y ys)))
+  heads f g = go (where-found (x .label) x y ys (f (x .label) x (find-here (x .label) x xs refl))) (where-found (y .label) y x xs (g (y .label) y (find-here (y .label) y ys refl)))
     where
       go : Where (x .label) x y ys → Where (y .label) y x xs → y ≡ x
       go (first-of d s) w = s
@@ -100,8 +83,8 @@ module _ (x y : Result) (xs ys : List Result) (a : above (x .label) (labelsOfRes
 same-list : (xs ys : List Result) → rising (labelsOfResults xs) ≡ true → rising (labelsOfResults ys) ≡ true → Finds xs ys → Finds ys xs → xs ≡ ys
 unfolding Finds
 same-list [] [] a b f g = refl
-same-list [] (y ∷ ys) a b f g = absurd (none-some (g (y .label) y (find-first y ys)))
-same-list (x ∷ xs) [] a b f g = absurd (none-some (f (x .label) x (find-first x xs)))
+same-list [] (y ∷ ys) a b f g = absurd (none-some (g (y .label) y (find-here (y .label) y ys refl)))
+same-list (x ∷ xs) [] a b f g = absurd (none-some (f (x .label) x (find-here (x .label) x xs refl)))
 same-list (x ∷ xs) (y ∷ ys) a b f g =
     let h : y ≡ x = heads x y xs ys a b f g in
     let e : y .label ≡ x .label = ap (λ (r : Result). r .label) h in
@@ -114,15 +97,15 @@ record FoundIn (l : ℕ) (qs : List Result) : Type 0 where
 
 claimed-gave : (l : ℕ) (q : Result) {es : List Sent} {qs : List Result} → ClaimedIn l q es → Gave es qs → FoundIn l qs
 claimed-gave l q (here i w) (pastRefusal n g) = absurd (true≢false (sym (ap isServed (w .answer)) ∙ n))
-claimed-gave l q (here i w) (pastClaim {q = p} {qs} j u g) = record { which = p; found = ap (λ (b : Bool). cond b (some p) (find l qs)) (eq-eqb (p .label) l (claim-forms (p .label) l j i)) }
+claimed-gave l q (here i w) (pastClaim {q = p} {qs} j u g) = record { which = p; found = find-here l p qs (claim-forms (p .label) l j i) }
 claimed-gave l q (there c) (pastCall g) = claimed-gave l q c g
 claimed-gave l q (there c) (pastStep g) = claimed-gave l q c g
 claimed-gave l q (there c) (pastRefusal n g) = claimed-gave l q c g
 claimed-gave l q (there c) (pastClaim {q = p} {qs} j u g) = go (eqb (p .label) l) refl (claimed-gave l q c g)
   where
     go : (b : Bool) → eqb (p .label) l ≡ b → FoundIn l qs → FoundIn l (p ∷ qs)
-    go true d f = record { which = p; found = ap (λ (b : Bool). cond b (some p) (find l qs)) d }
-    go false d f = record { which = f .which; found = ap (λ (b : Bool). cond b (some p) (find l qs)) d ∙ f .found }
+    go true d f = record { which = p; found = find-here l p qs (eqb-true (p .label) l d) }
+    go false d f = record { which = f .which; found = find-skip l p qs (eqb-false (p .label) l d) ∙ f .found }
 
 -- stations where nothing waits
 nodes-tail : List Node → List Node
@@ -160,8 +143,11 @@ module _ (es : List Sent) (h : Runs opening es) where
         total-append (is l) (pending s) (labelsOfResults (s .results)),
       )
 
+  once : (l : ℕ) → count l (labelsOfResults (main.x es h .claimed)) + count l (live s) ≤ 1
+  once l = subst (λ (y : Run). count l (labelsOfResults (y .claimed)) + count l (live (y .now)) ≤ 1) (main.to es h .moved) (label-once (main.to es h .made) l)
+
   not-both : (l : ℕ) (q p : Result) → find l (s .results) ≡ some q → find l (main.x es h .claimed) ≡ some p → ⊥
-  not-both l q p e f = omega (arith, counted l q (s .results) e, counted l p (main.x es h .claimed) f, results-live l, label-once (main.to es h .made) l)
+  not-both l q p e f = omega (arith, counted l q (s .results) e, counted l p (main.x es h .claimed) f, results-live l, once l)
 
   results-given : Each (Given (s .last)) (labelsOfResults (s .results))
   results-given = each-right (Given (s .last)) (pending s) (labelsOfResults (s .results)) (main.v es h .given)
@@ -188,17 +174,17 @@ module _ (es : List Sent) (h : Runs opening es) where
         go (r .result) (r .there) (find-either l (r .result) (main.x es h .claimed) (s .results) (r .here))
       where
         go : (p : Result) → find l meant ≡ some p → InEither l p (main.x es h .claimed) (s .results) → find l (s .results) ≡ some q
-        go p m (first f) = absurd (n (record { result = p; is = gave-claimed l p (main.to es h .wrote) (sym (ap (find l) (main.to es h .claimed)) ∙ f) }))
+        go p m (first f) = absurd (n (record { result = p; is = gave-claimed l p (main.to es h .wrote) f }))
         go p m (second f) = f ∙ sym m ∙ e
 
     held-unclaimed : (l : ℕ) (q : Result) → find l (s .results) ≡ some q → ClaimedLabel l es → ⊥
     held-unclaimed l q e c =
         let f = claimed-gave l (c .result) (c .is) (main.to es h .wrote) in
-        not-both l q (f .which) e (ap (find l) (main.to es h .claimed) ∙ f .found)
+        not-both l q (f .which) e (f .found)
 
 module _ (es fs : List Sent) (h : Runs opening es) (k : Runs opening fs) (same : acceptedLines es ≡ acceptedLines fs) (p : NonePending es) (q : NonePending fs) where
   fed : main.x es h .accepted ≡ main.x fs k .accepted
-  fed = main.fed es h ∙ texts-same (main.to es h .texts) (subst (λ (ls : List (List ℕ)). TextsOf ls (main.to fs k .calls)) (sym same) (main.to fs k .texts)) ∙ sym (main.fed fs k)
+  fed = texts-same same (main.to es h .texts) (main.to fs k .texts)
 
   last : main.s es h .last ≡ main.s fs k .last
   last = main.size es h ∙ ap length same ∙ sym (main.size fs k)

@@ -1,16 +1,16 @@
 -- What answers say of the session that an image holds: which lines are forms, what is pending, what is allowed, what a claim writes.
 -- Assumes nothing.
 use mathlib.Core.Path.{_≡_, refl, sym, ap, subst, _∙_}
-use Prim.Native.Nat.{ℕ, zero, suc, _+_, _≤_, _<_, _^_}
+use Prim.Native.Nat.{ℕ, zero, suc, _≤_, _<_, _^_}
 use native.Mathlib.Omega.{arith}
 use mathlib.Core.Bool.{Bool, true, false, not, cond, true≢false, _&&_}
 use mathlib.Core.List.{List, [], _∷_, _++_}
-use mathlib.Core.Option.{Option, none, some}
+use mathlib.Core.Option.{some}
 use Prim.Native.String.{String}
 use lib.Dec.{eqb, leb}
 use lib.IntN.{pos}
 use lib.ListN.{length, length-append}
-use borrow.Author.Tests.{lt-ltb, le-leb, eqb-true}
+use borrow.Author.Tests.{lt-ltb, le-leb, eqb-true, eq-eqb, ne-eqb}
 use Rattle.graph.specs.Refusals.{Answer, refused, done, mapDone, unless}
 use Rattle.graph.specs.KeyLists.{areKeys, contains}
 use Rattle.graph.specs.Calls.{areWords}
@@ -26,7 +26,7 @@ use Rattle.graph.proofs.Validity.{step-valid, Fine, claim-fine}
 use Rattle.graph.proofs.Drains.{done-holds, work-cons}
 use Rattle.text.specs.Text.{ascii, decimal, pasted}
 use Rattle.text.proofs.Decimals.{len-ten}
-use Rattle.lines.specs.Forms.{work, field, stepText, stepKeys, claimText}
+use Rattle.lines.specs.Forms.{work, field, stepText, stepNumbers, stepKeys, claimText}
 use Rattle.lines.specs.Answers.{IsStep, IsClaim, stepFormTests}
 use Rattle.lines.proofs.Claims.{claim-unique}
 use Rattle.print.specs.Printed.{resultText}
@@ -38,7 +38,8 @@ use Rattle.valid.specs.Values.{encode}
 use Rattle.host.specs.Entries.{served, ClaimMade, claimRefused, claimWritten, claimServed, stepServed, Steps}
 use Rattle.runs.specs.Runs.{isServed, Pending, Wrote, WouldWrite}
 use Rattle.runs.specs.Demand.{StepLines, ended, stepped}
-use Rattle.runs.proofs.Entered.{own, Entered, noForm, aForm, entered}
+use Rattle.runs.proofs.Entered.{own, entered}
+use Rattle.runs.proofs.Found.{none-some, Where, first-of, later, where-found}
 
 refusal-of : (n : ℕ) → refusalIn (numberOf (Refused n)) ≡ n
 refusal-of zero = refl
@@ -47,20 +48,6 @@ refusal-of (suc n) = refl
 abbrev sessionIn : Session → Answer Session → Session
 sessionIn s (refused n) = s
 sessionIn s (done u) = u
-
-abbrev isSome : Option Result → Bool
-isSome none = false
-isSome (some r) = true
-
-abbrev resultIn : Result → Option Result → Result
-resultIn q none = q
-resultIn q (some r) = r
-
-pub none-some : {q : Result} → none ≡ some q → ⊥
-none-some e = true≢false (sym (ap isSome e))
-
-pub some-same : {r q : Result} → some r ≡ some q → r ≡ q
-some-same {r} e = ap (resultIn r) e
 
 -- LINES THAT ARE FORMS
 word : (n : ℕ) → n < 2 ^ 32 → areWords (n ∷ []) ≡ true
@@ -100,18 +87,19 @@ record GoodLine (w : Step) : Type 0 where
   keys : areKeys (stepKeys (work w)) ≡ true
   form : IsStep (stepText (work w)) (work w)
 
+key-line : (w : Step) (name : String) (k : ℕ) → length (ascii name) ≤ 20 → stepText (work w) ≡ field name k [] → stepNumbers (work w) ≡ k ∷ [] → stepKeys (work w) ≡ k ∷ [] → GoodKey k → GoodLine w
+key-line w name k l text numbers keys g =
+    record {
+      keys = ap areKeys keys ∙ g .keys;
+      form = record { short = subst (λ (t : List ℕ). length t < 256) (sym text) (field-short name k l (g .small)); fits = ap areWords numbers ∙ word k (g .small); same = refl };
+    }
+
 good-line : (s : Session) → Valid s → (w : Step) → costs w ≡ 1 → {u : Session} → step w s ≡ done u → GoodLine w
 unfolding ascii
 good-line s v admit c e = record { keys = refl; form = record { short = omega arith; fits = refl; same = refl } }
-good-line s v (realise k) c e =
-    let g = good-key s v k _ _ e in
-    record { keys = g .keys; form = record { short = field-short "step=realise at=" k (omega arith) (g .small); fits = word k (g .small); same = refl } }
-good-line s v (move k) c e =
-    let g = good-key s v k _ _ e in
-    record { keys = g .keys; form = record { short = field-short "step=move at=" k (omega arith) (g .small); fits = word k (g .small); same = refl } }
-good-line s v (finish k) c e =
-    let g = good-key s v k _ _ e in
-    record { keys = g .keys; form = record { short = field-short "step=finish at=" k (omega arith) (g .small); fits = word k (g .small); same = refl } }
+good-line s v (realise k) c e = key-line (realise k) "step=realise at=" k (omega arith) refl refl refl (good-key s v k _ _ e)
+good-line s v (move k) c e = key-line (move k) "step=move at=" k (omega arith) refl refl refl (good-key s v k _ _ e)
+good-line s v (finish k) c e = key-line (finish k) "step=finish at=" k (omega arith) refl refl refl (good-key s v k _ _ e)
 good-line s v (join k i) c e = absurd (omega arith)
 good-line s v (split k i j) c e = absurd (omega arith)
 good-line s v (swap k i) c e = absurd (omega arith)
@@ -167,7 +155,9 @@ module _ (s : Session) (v : Valid s) (l : ℕ) where
   refused-31 e = subst (Fine l s) e (claim-fine l s v) .1 refl
 
   pub pending-only : Pending (encode s) l → contains l (pending s) ≡ true
-  pending-only h = go (entered s v (h []))
+  pending-only h =
+      entered s v (λ (r : ClaimMade). claimRefused (encode s) [] 31 ≡ r → contains l (pending s) ≡ true) (λ e. let unlike : _≡_ {A = ℕ} 31 10 = answers e in absurd (omega arith))
+      (λ m i. form m (sym (claim-unique l m (i .same))) (claim m s) refl) (h []) refl
     where
       answers : {n : ℕ} → claimRefused (encode s) [] 31 ≡ claimRefused (encode s) [] n → 31 ≡ n
       answers {n} e = ap (λ (y : ClaimMade). refusalIn (y .answer)) e ∙ refusal-of n
@@ -180,10 +170,6 @@ module _ (s : Session) (v : Valid s) (l : ℕ) where
           room true e = absurd (true≢false (sym (ap (λ (y : ClaimMade). isServed (y .answer)) e)))
           room false e = let unlike : _≡_ {A = ℕ} 31 33 = answers e in absurd (omega arith)
 
-      go : Entered (IsClaim (claimText l)) (claimRefused (encode s) []) (λ u m. claimServed (encode s) [] u (claim m u)) s (claimRefused (encode s) [] 31) → contains l (pending s) ≡ true
-      go (noForm n e) = let unlike : _≡_ {A = ℕ} 31 10 = answers e in absurd (omega arith)
-      go (aForm m i e) = form m (sym (claim-unique l m (i .same))) (claim m s) refl e
-
 -- WHAT A CLAIM WOULD WRITE
 record Found (l : ℕ) (rs : List Result) (q : Result) : Type 0 where
   taken : Claimed
@@ -192,13 +178,13 @@ record Found (l : ℕ) (rs : List Result) (q : Result) : Type 0 where
 
 found-taken : (l : ℕ) (rs : List Result) (q : Result) → find l rs ≡ some q → Found l rs q
 found-taken l [] q e = absurd (none-some e)
-found-taken l (r ∷ rs) q e = go (eqb (r .label) l) refl (λ d. found-taken l rs q d) e
+found-taken l (r ∷ rs) q e = go (where-found l q r rs e) (found-taken l rs q)
   where
-    go : (b : Bool) → eqb (r .label) l ≡ b → (find l rs ≡ some q → Found l rs q) → cond b (some r) (find l rs) ≡ some q → Found l (r ∷ rs) q
-    go true d g e = record { taken = record { result = r; others = rs }; is = rw d refl; same = some-same e }
-    go false d g e =
-        let f = g e in
-        record { taken = record { result = f .taken .result; others = r ∷ f .taken .others }; is = rw (d, f .is) refl; same = f .same }
+    go : Where l q r rs → (find l rs ≡ some q → Found l rs q) → Found l (r ∷ rs) q
+    go (first-of d s) g = record { taken = record { result = r; others = rs }; is = rw (eq-eqb (r .label) l d) refl; same = s }
+    go (later n s) g =
+        let f = g s in
+        record { taken = record { result = f .taken .result; others = r ∷ f .taken .others }; is = rw (ne-eqb (r .label) l n, f .is) refl; same = f .same }
 
 pub would-write : (s : Session) → Valid s → (l : ℕ) → 1 ≤ l → l ≤ s .last → contains l (pending s) ≡ false → (q : Result) → find l (s .results) ≡ some q → (out : List ℕ) → length (resultText q) ≤ length out → WouldWrite (encode s) out l q
 would-write s v l h k c q e out room =

@@ -10,16 +10,14 @@ use lib.ListN.{length, getD, drop}
 use lib.Seq.{drop-cons}
 use borrow.Author.Tests.{le-leb}
 use Rattle.graph.specs.Refusals.{Answer, refused, done}
-use Rattle.graph.specs.Nodes.{Op}
-use Rattle.graph.specs.OneAtATime.{Labelled}
-use Rattle.graph.specs.Sessions.{Station, Session}
+use Rattle.graph.specs.Sessions.{Session}
 use Rattle.graph.specs.Steps.{admit, realise, move, finish}
-use Rattle.graph.specs.Valid.{Each, KeysFall, Valid}
+use Rattle.graph.specs.Valid.{Valid}
 use Rattle.graph.specs.Runs.{tallyPlace}
 use Rattle.graph.proofs.Answers.{eqb-same}
-use Rattle.graph.proofs.Limits.{each-append, each-at}
-use Rattle.queue.specs.Flat.{Tagged, Flat, tagUnit, tagUnits, queueOf, waiting, flat, nest, isOp, endOf}
-use Rattle.queue.proofs.Places.{length-nodes}
+use Rattle.graph.proofs.Limits.{each-at}
+use Rattle.queue.specs.Flat.{Tagged, Flat, flat, nest, isOp, endOf}
+use Rattle.queue.proofs.Elements.{each-queued}
 use Rattle.worksteps.specs.FlatSteps.{mapFrom, firstIn, noOp, noNode, moveTo, withQueue, hitsKey, actAt, finishesAt, finishPlace, admitCall, known, flatStep}
 use Rattle.worksteps.specs.FlatEvents.{FlatTaken, flatDrainStep}
 use Rattle.state.specs.State.{held, Shows}
@@ -40,28 +38,16 @@ module _ {x : Answer FlatTaken} {before after : List ℕ} where
 record Stands (n : ℕ) (x : Tagged) : Type 0 where
   known : eqb (x .place) 65 ≡ false → (1 ≤ x .place) × (x .place ≤ n)
 
-stands-unit : (n k : ℕ) (b : Bool) (u : List Op) → 1 ≤ k → k ≤ n → Each (Stands n) (tagUnit k b u)
-stands-unit n k b [] l h = tt
-stands-unit n k b (o ∷ os) l h = (record { known = λ e. (l, h) }, stands-unit n k false os l h)
-
-stands-units : (n k : ℕ) (us : List (List Op)) → 1 ≤ k → k ≤ n → Each (Stands n) (tagUnits k us)
-stands-units n k [] l h = tt
-stands-units n k (u ∷ us) l h = each-append (Stands n) (tagUnit k true u) (tagUnits k us) (stands-unit n k true u l h) (stands-units n k us l h)
-
-stands-queue : (n : ℕ) (ss : List Station) → KeysFall ss → length ss ≤ n → Each (Stands n) (queueOf ss)
-stands-queue n [] f h = tt
-stands-queue n (s ∷ ss) f h =
-    each-append (Stands n) (queueOf ss) (tagUnits (s .node .key) (s .units)) (stands-queue n ss (f .1) (omega arith)) (stands-units n (s .node .key) (s .units) (omega (arith, f .0)) (omega (arith, f .0)))
-
-stands-waiting : (n : ℕ) (cs : List Labelled) → Each (Stands n) (waiting cs)
-stands-waiting n [] = tt
-stands-waiting n (c ∷ cs) = (record { known = λ e. absurd (true≢false e) }, stands-waiting n cs)
-
 stands-at : (s : Session) → Valid s → (i : ℕ) → i < length (flat s .queue) → Stands (length (flat s .nodes)) (getD (flat s .queue) i noOp)
 stands-at s g i h =
-    let n = length (flat s .nodes) in
-    each-at (Stands n) (flat s .queue) noOp
-    (each-append (Stands n) (queueOf (s .stations)) (waiting (s .topStream)) (stands-queue n (s .stations) (g .falling) (omega (arith, length-nodes (s .stations)))) (stands-waiting n (s .topStream))) i h
+    each-at (Stands (length (flat s .nodes))) (flat s .queue) noOp
+    (each-queued (Stands (length (flat s .nodes))) (λ c v. record { known = λ e. absurd (true≢false e) }) s g (λ k b o l m v. record { known = λ e. (l, m) })) i h
+
+-- the head unit of station k begins the queue, and ends at e
+pub record HeadUnit (image : List ℕ) (k e : ℕ) : Type 0 where
+  pub node : known k (held image) ≡ true
+  pub ends : e ≡ endOf k 0 (held image .queue)
+  pub fits : e ≤ length (held image .queue)
 
 module _ (image : List ℕ) (l : Live image) (k : ℕ) (b : Begins image k) where
   abbrev f : Flat
@@ -76,44 +62,47 @@ module _ (image : List ℕ) (l : Live image) (k : ℕ) (b : Begins image k) wher
   apart : eqb (x .place) 65 ≡ false
   apart = ap (λ (j : ℕ). eqb j 65) (b .place) ∙ b .station
 
-  pub node-known : known k (held image) ≡ true
+  node-known : known k (held image) ≡ true
   node-known =
       let s = nest (held image) in
       let g : Stands (length (held image .nodes)) x = subst (λ (g : Flat). (0 < length (g .queue)) → Stands (length (g .nodes)) (getD (g .queue) 0 noOp)) (l .flat) (λ h. stands-at s (l .valid) 0 h) (b .inside) in
       let w = g .known apart in
       rw (le-leb 1 k (omega (arith, b .place, w .0)), le-leb k (length (held image .nodes)) (omega (arith, b .place, w .1)))
 
-  -- what stands in its head unit, which ends at e, is no add
-  pub begins-op : (e p : ℕ) → e ≡ endOf k 0 (held image .queue) → p < e → isOp ((getD (held image .queue) p noOp) .call) ≡ true
-  begins-op e p d h = op-at image l k p node-known (unit-place k (held image .queue) 0 p (rw (begins, b .place) (eqb-same k)) (omega arith) (omega arith))
+  pub begins-head : (e : ℕ) → e ≡ endOf k 0 (held image .queue) → e ≤ length (held image .queue) → HeadUnit image k e
+  begins-head e d h = record { node = node-known; ends = d; fits = h }
 
   -- the three steps at that station, and their order: its head unit ends at e
-  module _ (e : ℕ) (d : e ≡ endOf k 0 (held image .queue)) (w : e ≤ length (held image .queue)) where
-    canon : (p : Tagged → Bool) → firstIn p 0 e (held image .queue) ≡ firstIn p 0 (endOf k 0 (held image .queue)) (held image .queue)
-    canon p = ap (λ (n : ℕ). firstIn p 0 n (held image .queue)) d
+  module _ {e : ℕ} (at : HeadUnit image k e) where
+    -- what stands in it is no add
+    pub begins-op : {p : ℕ} → p < e → isOp ((getD (held image .queue) p noOp) .call) ≡ true
+    begins-op {p} h = op-at image l k p node-known (unit-place k (held image .queue) 0 p (rw (begins, b .place) (eqb-same k)) (omega arith) (omega (arith, at .ends)))
 
-    pub takes-realise : (p : ℕ) → p ≡ firstIn (hitsKey k) 0 e (held image .queue) → p < e →
+    canon : (p : Tagged → Bool) → firstIn p 0 e (held image .queue) ≡ firstIn p 0 (endOf k 0 (held image .queue)) (held image .queue)
+    canon p = ap (λ (n : ℕ). firstIn p 0 n (held image .queue)) (at .ends)
+
+    pub takes-realise : {p : ℕ} → p ≡ firstIn (hitsKey k) 0 e (held image .queue) → p < e →
         flatDrainStep (held image) ≡ done (taken (realise k) (actAt k p (getD (held image .queue) p noOp) (getD (held image .nodes) (k - 1) noNode) (held image)))
-    takes-realise p s h =
+    takes-realise s h =
         let is = s ∙ canon (hitsKey k) in
         subst (λ (n : ℕ). flatDrainStep (held image) ≡ done (taken (realise k) (actAt k n (getD (held image .queue) n noOp) (getD (held image .nodes) (k - 1) noNode) (held image)))) (sym is)
-        (drain-realises (held image) k x (drop 1 (held image .queue)) begins (b .place) (b .station) node-known (omega (arith, is, d, h)))
+        (drain-realises (held image) k x (drop 1 (held image .queue)) begins (b .place) (b .station) node-known (omega (arith, is, at .ends, h)))
 
-    pub takes-finish : (p r : ℕ) → p ≡ firstIn (hitsKey k) 0 e (held image .queue) → e ≤ p → r ≡ firstIn (finishesAt k) 0 e (held image .queue) → r < e →
+    pub takes-finish : {p r : ℕ} → p ≡ firstIn (hitsKey k) 0 e (held image .queue) → e ≤ p → r ≡ firstIn (finishesAt k) 0 e (held image .queue) → r < e →
         flatDrainStep (held image) ≡ done (taken (finish k) (finishPlace r e (getD (held image .queue) r noOp) (held image)))
-    takes-finish p r s h t j =
+    takes-finish s h t j =
         let is = t ∙ canon (finishesAt k) in
         let hit = s ∙ canon (hitsKey k) in
-        drain-finishes (held image) k x (drop 1 (held image .queue)) begins (b .place) (b .station) node-known (omega (arith, hit, d, h)) (omega (arith, is, d, j))
-        ∙ (λ i. done (taken (finish k) (finishPlace (sym is i) (sym d i) (getD (held image .queue) (sym is i) noOp) (held image))))
+        drain-finishes (held image) k x (drop 1 (held image .queue)) begins (b .place) (b .station) node-known (omega (arith, hit, at .ends, h)) (omega (arith, is, at .ends, j))
+        ∙ (λ i. done (taken (finish k) (finishPlace (sym is i) (sym (at .ends) i) (getD (held image .queue) (sym is i) noOp) (held image))))
 
-    pub takes-move : (p r : ℕ) → p ≡ firstIn (hitsKey k) 0 e (held image .queue) → e ≤ p → r ≡ firstIn (finishesAt k) 0 e (held image .queue) → e ≤ r →
+    pub takes-move : {p r : ℕ} → p ≡ firstIn (hitsKey k) 0 e (held image .queue) → e ≤ p → r ≡ firstIn (finishesAt k) 0 e (held image .queue) → e ≤ r →
         flatDrainStep (held image) ≡ done (taken (move k) (withQueue (held image) (mapFrom (moveTo (k - 1)) 0 e (held image .queue))))
-    takes-move p r s h t j =
+    takes-move s h t j =
         let is = t ∙ canon (finishesAt k) in
         let hit = s ∙ canon (hitsKey k) in
-        drain-moves (held image) k x (drop 1 (held image .queue)) begins (b .place) (b .station) node-known (omega (arith, d, w)) (omega arith) (omega (arith, hit, d, h)) (omega (arith, is, d, j))
-        ∙ (λ i. done (taken (move k) (withQueue (held image) (mapFrom (moveTo (k - 1)) 0 (sym d i) (held image .queue)))))
+        drain-moves (held image) k x (drop 1 (held image .queue)) begins (b .place) (b .station) node-known (omega (arith, at .ends, at .fits)) (omega arith) (omega (arith, hit, at .ends, h)) (omega (arith, is, at .ends, j))
+        ∙ (λ i. done (taken (move k) (withQueue (held image) (mapFrom (moveTo (k - 1)) 0 (sym (at .ends) i) (held image .queue)))))
 
 -- the first waiting call begins the queue
 pub takes-admit : (image : List ℕ) → 0 < length (held image .queue) → (getD (held image .queue) 0 noOp) .place ≡ 65 → flatDrainStep (held image) ≡ done (taken admit (admitCall 0 ((getD (held image .queue) 0 noOp) .call) (held image)))

@@ -14,6 +14,7 @@ use Rattle.graph.specs.Valid.{Each, ValidNode, ValidOp, ValidUnit, ValidStation
 use Rattle.graph.proofs.Limits.{each-append, each-left, each-right}
 use Rattle.queue.specs.Flat.{Tagged, Flat, tagUnit, tagUnits, queueOf, nodesOf, waiting, flat, calls, ordered, Full, Keyed}
 use Rattle.queue.proofs.Places.{length-nodes}
+use Rattle.queue.proofs.Elements.{each-queued}
 use Rattle.queue.proofs.Nesting.{KeysUp, Formed, formed-flat, line-order, keyed-stations}
 use Rattle.valid.proofs.Counting.{each-count, count-each, Fresh, liveFlat, live-count, live-length, adds-same}
 
@@ -33,25 +34,9 @@ pub record FlatValid (f : Flat) : Type 0 where
   pub labels : f .last ≤ 65535
 
 -- FROM NESTED TO FLAT
-unit-calls : (k : ℕ) (b : Bool) (os : List Op) → Each ValidOp os → Each ValidTagged (tagUnit k b os)
-unit-calls k b [] h = tt
-unit-calls k b (o ∷ os) h = (h .0, unit-calls k false os (h .1))
-
-units-calls : (k : ℕ) (us : List (List Op)) → Each ValidUnit us → Each ValidTagged (tagUnits k us)
-units-calls k [] h = tt
-units-calls k (u ∷ us) h = each-append ValidTagged (tagUnit k true u) (tagUnits k us) (unit-calls k true u (h .0 .ops)) (units-calls k us (h .1))
-
-stations-calls : (ss : List Station) → Each ValidStation ss → Each ValidTagged (queueOf ss)
-stations-calls [] h = tt
-stations-calls (s ∷ ss) h = each-append ValidTagged (queueOf ss) (tagUnits (s .node .key) (s .units)) (stations-calls ss (h .1)) (units-calls (s .node .key) (s .units) (h .0 .units))
-
 stations-nodes : (ss : List Station) → Each ValidStation ss → Each ValidNode (nodesOf ss)
 stations-nodes [] h = tt
 stations-nodes (s ∷ ss) h = each-append ValidNode (nodesOf ss) (s .node ∷ []) (stations-nodes ss (h .1)) (h .0 .node, tt)
-
-waiting-calls : (cs : List Labelled) → Each ValidCall cs → Each ValidTagged (waiting cs)
-waiting-calls [] h = tt
-waiting-calls (c ∷ cs) h = (h .0, waiting-calls cs (h .1))
 
 pub flat-valid : (s : Session) → Valid s → FlatValid (flat s)
 flat-valid s v =
@@ -63,7 +48,7 @@ flat-valid s v =
       keys = F .keys;
       nodes = stations-nodes (s .stations) (v .stations);
       order = line-order (length (nodesOf (s .stations))) 0 (omega arith) (omega arith) (omega arith) (omega arith) (λ e. absurd (true≢false (sym e))) (F .line);
-      queue = each-append ValidTagged (queueOf (s .stations)) (waiting (s .topStream)) (stations-calls (s .stations) (v .stations)) (waiting-calls (s .topStream) (v .topStream));
+      queue = each-queued ValidTagged (λ c w. w) s v (λ k b o l h w. w);
       results = v .results;
       room = omega (arith, v .room, adds-same s);
       rise = v .order;

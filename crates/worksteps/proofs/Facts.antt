@@ -8,43 +8,26 @@ use mathlib.Core.List.{List, [], _∷_}
 use lib.Dec.{eqb, ltb, leb·suc-suc, leb·suc-zero}
 use lib.ListN.{length, getD, drop}
 use borrow.Author.Tests.{lt-ltb}
-use Rattle.graph.specs.Nodes.{Op}
-use Rattle.graph.specs.OneAtATime.{Labelled}
-use Rattle.graph.specs.Sessions.{Station, Session, labelsOfResults, pending, live}
-use Rattle.graph.specs.Valid.{Each, ValidOp, ValidUnit, ValidStation, ValidCall, Valid}
+use Rattle.graph.specs.Sessions.{Session, labelsOfResults, pending, live}
+use Rattle.graph.specs.Valid.{ValidCall, Valid}
 use Rattle.graph.proofs.Labels.{total, one, total-append, total-one, length-labels}
-use Rattle.graph.proofs.Limits.{each-append, each-at}
-use Rattle.queue.specs.Flat.{Tagged, tagUnit, tagUnits, queueOf, waiting, flat, isOp, find, here}
+use Rattle.graph.proofs.Limits.{each-at}
+use Rattle.queue.specs.Flat.{Tagged, flat, isOp, find, here}
+use Rattle.queue.proofs.Elements.{each-queued}
 use Rattle.worksteps.specs.FlatSteps.{noOp}
 use Rattle.worksteps.specs.FlatEvents.{labelsIn, queued}
 use Rattle.worksteps.proofs.Events.{pending-total}
 
--- a fact of each element holds at each index
 -- EACH OPERATION OF THE QUEUE
 -- in the top stream a valid call, elsewhere a valid operation
 pub record Sits (x : Tagged) : Type 0 where
   pub call : ValidCall (x .call)
   pub placed : eqb (x .place) 65 ≡ false → isOp (x .call) ≡ true
 
-sits-unit : (k : ℕ) (b : Bool) (u : List Op) → Each ValidOp u → Each Sits (tagUnit k b u)
-sits-unit k b [] g = tt
-sits-unit k b (o ∷ os) g = (record { call = g .0; placed = λ e. refl }, sits-unit k false os (g .1))
-
-sits-units : (k : ℕ) (us : List (List Op)) → Each ValidUnit us → Each Sits (tagUnits k us)
-sits-units k [] g = tt
-sits-units k (u ∷ us) g = each-append Sits (tagUnit k true u) (tagUnits k us) (sits-unit k true u (g .0 .ops)) (sits-units k us (g .1))
-
-sits-queue : (ss : List Station) → Each ValidStation ss → Each Sits (queueOf ss)
-sits-queue [] g = tt
-sits-queue (s ∷ ss) g = each-append Sits (queueOf ss) (tagUnits (s .node .key) (s .units)) (sits-queue ss (g .1)) (sits-units (s .node .key) (s .units) (g .0 .units))
-
-sits-waiting : (cs : List Labelled) → Each ValidCall cs → Each Sits (waiting cs)
-sits-waiting [] g = tt
-sits-waiting (c ∷ cs) g = (record { call = g .0; placed = λ e. absurd (true≢false e) }, sits-waiting cs (g .1))
-
 pub sits-at : (s : Session) → Valid s → (i : ℕ) → i < length (flat s .queue) → Sits (getD (flat s .queue) i noOp)
 sits-at s g i h =
-    each-at Sits (flat s .queue) noOp (each-append Sits (queueOf (s .stations)) (waiting (s .topStream)) (sits-queue (s .stations) (g .stations)) (sits-waiting (s .topStream) (g .topStream))) i h
+    each-at Sits (flat s .queue) noOp
+    (each-queued Sits (λ c v. record { call = v; placed = λ e. absurd (true≢false e) }) s g (λ k b o l m v. record { call = v; placed = λ e. refl })) i h
 
 -- LABELS: those of one operation, among all that wait
 queued-at : (v : ℕ → ℕ) (q : List Tagged) (i : ℕ) → i < length q → total v (labelsIn (getD q i noOp .call)) ≤ total v (queued q)

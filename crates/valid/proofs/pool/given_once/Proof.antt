@@ -7,6 +7,7 @@ use mathlib.Core.Bool.{true}
 use mathlib.Core.List.{List}
 use lib.ListN.{length, getD, take, drop}
 use lib.Seq.{getD-take, length-take-le}
+use Rattle.graph.specs.KeyLists.{contains}
 use Rattle.valid.specs.Tests.{givenOnce, Padded}
 use Rattle.valid.proofs.Turns.{among-padded, given-zero, given-late, given-twice, given-next, given-end, given-none, Seen, none-seen, searched, one-seen}
 use borrow.Author.Needs.{needs}
@@ -34,29 +35,51 @@ mul-x c = search needs
 shared-slice-read-x : tie.Need-shared-slice-read-x Inv-loop μ-loop
 shared-slice-read-x c = search needs
 
+-- the label at k, which this turn has read
+module _ (t : tie.After-shared-slice-known2 Inv-loop μ-loop) where
+  abbrev start : tie.Start Inv-loop μ-loop
+  start = t .before .before .before .before
+
+  abbrev pool : List ℕ
+  pool = start .args .s .now
+
+  abbrev last : ℕ
+  last = start .args .last
+
+  abbrev live : List ℕ
+  live = take (start .args .n) pool
+
+  abbrev k : ℕ
+  k = t .before .before .loop .i - 1
+
+  padded : Padded (start .args .n) pool
+  padded = start .pre
+
+  back : k + 1 ≡ t .before .before .loop .i
+  back = omega (arith, t .before .loop-test .taken)
+
+  inside : k < length live
+  inside = omega (arith, length-take-le (start .args .n) pool (omega (arith, padded .size)), t .before .loop-test .taken, t .before .before .loop .inv .0)
+
+  read : getD live k 0 ≡ getD pool k 0
+  read = getD-take (start .args .n) pool k 0 (omega (arith, t .before .loop-test .taken, t .before .before .loop .inv .0))
+
+  marked : Seen live (k + 1) (t .before .before .loop .seen)
+  marked = subst (λ (m : ℕ). Seen live m (t .before .before .loop .seen)) (sym back) (t .before .before .loop .inv .2)
+
+-- whether it stands among those after it
+module _ (g : tie.After-is-again Inv-loop μ-loop) where
+  abbrev turn : tie.After-shared-slice-known2 Inv-loop μ-loop
+  turn = g .before .before .before
+
+  again : g .is-again .result ≡ contains (getD (pool turn) (k turn) 0) (drop (k turn + 1) (live turn))
+  again = g .is-again .ensures ∙ searched (live turn) (k turn) _ (marked turn) _ _ (among-padded _ (pool turn) (padded turn) (k turn + 1) (omega (arith, back turn, turn .before .before .loop .inv .0)) _ (g .before .before .if1 .left))
+
 returns : tie.Need-returns Inv-loop μ-loop
-returns c =
-    let l = c .before .before .before .loop in
-    let a = c .before .before .before .before .before .args in
-    let p : Padded (a .n) (a .s .now) = c .before .before .before .before .before .pre in
-    let live : List ℕ = take (a .n) (a .s .now) in
-    let size : length live ≡ a .n = length-take-le (a .n) (a .s .now) (omega (arith, p .size)) in
-    let k : ℕ = l .i - 1 in
-    let h : k < length live = omega (arith, c .before .before .loop-test .taken, l .inv .0) in
-    let e : getD live k 0 ≡ getD (a .s .now) k 0 = getD-take (a .n) (a .s .now) k 0 (omega arith) in
-    given-none (a .last) k live (given-zero (a .last) live k _ h e (c .if1 .taken))
+returns c = let t = c .before in given-none (last t) (k t) (live t) (given-zero (last t) (live t) (k t) _ (inside t) (read t) (c .if1 .taken))
 
 returns-2 : tie.Need-returns-2 Inv-loop μ-loop
-returns-2 c =
-    let l = c .before .before .before .before .loop in
-    let a = c .before .before .before .before .before .before .args in
-    let p : Padded (a .n) (a .s .now) = c .before .before .before .before .before .before .pre in
-    let live : List ℕ = take (a .n) (a .s .now) in
-    let size : length live ≡ a .n = length-take-le (a .n) (a .s .now) (omega (arith, p .size)) in
-    let k : ℕ = l .i - 1 in
-    let h : k < length live = omega (arith, c .before .before .before .loop-test .taken, l .inv .0) in
-    let e : getD live k 0 ≡ getD (a .s .now) k 0 = getD-take (a .n) (a .s .now) k 0 (omega arith) in
-    given-none (a .last) k live (given-late (a .last) live k _ h e (c .before .if1 .left) (c .if2 .taken))
+returns-2 c = let t = c .before .before in given-none (last t) (k t) (live t) (given-late (last t) (live t) (k t) _ (inside t) (read t) (c .before .if1 .left) (c .if2 .taken))
 
 cast-low : tie.Need-cast-low Inv-loop μ-loop
 cast-low c = search needs
@@ -72,18 +95,8 @@ is-again-requires c κs = omega (arith, c .before .before .before .loop-test .ta
 
 returns-3 : tie.Need-returns-3 Inv-loop μ-loop
 returns-3 c =
-    let l = c .before .before .before .before .before .before .loop in
-    let a = c .before .before .before .before .before .before .before .before .args in
-    let p : Padded (a .n) (a .s .now) = c .before .before .before .before .before .before .before .before .pre in
-    let live : List ℕ = take (a .n) (a .s .now) in
-    let size : length live ≡ a .n = length-take-le (a .n) (a .s .now) (omega (arith, p .size)) in
-    let k : ℕ = l .i - 1 in
-    let h : k < length live = omega (arith, c .before .before .before .before .before .loop-test .taken, l .inv .0) in
-    let e : getD live k 0 ≡ getD (a .s .now) k 0 = getD-take (a .n) (a .s .now) k 0 (omega arith) in
-    let back : k + 1 ≡ l .i = omega (arith, c .before .before .before .before .before .loop-test .taken) in
-    let seen : Seen live (k + 1) (l .seen) = subst (λ (m : ℕ). Seen live m (l .seen)) (sym back) (l .inv .2) in
-    let found = c .before .is-again .ensures ∙ searched live k (l .seen) seen (getD (a .s .now) k 0) _ (among-padded (a .n) (a .s .now) p (k + 1) (omega arith) _ (c .before .before .before .if1 .left)) in
-    given-none (a .last) k live (given-twice (a .last) live k _ h e (c .before .before .before .if1 .left) (c .before .before .if2 .left) (sym found ∙ c .if3 .taken))
+    let t = turn (c .before) in
+    given-none (last t) (k t) (live t) (given-twice (last t) (live t) (k t) _ (inside t) (read t) (c .before .before .before .if1 .left) (c .before .before .if2 .left) (sym (again (c .before)) ∙ c .if3 .taken))
 
 array-write-seen : tie.Need-array-write-seen Inv-loop μ-loop
 array-write-seen c = search needs
@@ -93,20 +106,10 @@ loop-less c = search needs
 
 loop-again : tie.Need-loop-again Inv-loop μ-loop
 loop-again c =
-    let l = c .before .before .before .before .before .before .loop in
-    let a = c .before .before .before .before .before .before .before .before .args in
-    let p : Padded (a .n) (a .s .now) = c .before .before .before .before .before .before .before .before .pre in
-    let live : List ℕ = take (a .n) (a .s .now) in
-    let size : length live ≡ a .n = length-take-le (a .n) (a .s .now) (omega (arith, p .size)) in
-    let k : ℕ = l .i - 1 in
-    let h : k < length live = omega (arith, c .before .before .before .before .before .loop-test .taken, l .inv .0) in
-    let e : getD live k 0 ≡ getD (a .s .now) k 0 = getD-take (a .n) (a .s .now) k 0 (omega arith) in
-    let back : k + 1 ≡ l .i = omega (arith, c .before .before .before .before .before .loop-test .taken) in
-    let seen : Seen live (k + 1) (l .seen) = subst (λ (m : ℕ). Seen live m (l .seen)) (sym back) (l .inv .2) in
-    let found = c .before .is-again .ensures ∙ searched live k (l .seen) seen (getD (a .s .now) k 0) _ (among-padded (a .n) (a .s .now) p (k + 1) (omega arith) _ (c .before .before .before .if1 .left)) in (
+    let t = turn (c .before) in (
       omega arith,
-      sym (given-next (a .last) live k _ h e (c .before .before .before .if1 .left) (c .before .before .if2 .left) (sym found ∙ c .if3 .left)) ∙ ap (λ (m : ℕ). givenOnce (a .last) (drop m live)) back ∙ l .inv .1,
-      one-seen live k (l .seen) seen _ h e,
+      sym (given-next (last t) (live t) (k t) _ (inside t) (read t) (c .before .before .before .if1 .left) (c .before .before .if2 .left) (sym (again (c .before)) ∙ c .if3 .left)) ∙ ap (λ (m : ℕ). givenOnce (last t) (drop m (live t))) (back t) ∙ t .before .before .loop .inv .1,
+      one-seen (live t) (k t) _ (marked t) _ (inside t) (read t),
     )
 
 returns-4 : tie.Need-returns-4 Inv-loop μ-loop

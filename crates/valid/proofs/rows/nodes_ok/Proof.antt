@@ -1,15 +1,13 @@
 -- `rows::nodes_ok` meets its contract.
 -- Assumes nothing.
-use mathlib.Core.Path.{_≡_, refl, sym, ap, _∙_}
+use mathlib.Core.Path.{_≡_, refl, sym, _∙_}
 use Prim.Native.Nat.{_+_, _*_, _-_, _≤_, _<_}
 use native.Mathlib.Omega.{arith}
-use mathlib.Core.Bool.{true, false}
-use lib.ListN.{length, getD, drop}
-use borrow.Author.Tests.{not-true, not-false}
+use lib.ListN.{length, drop}
 use Rattle.image.specs.Layout.{view, blank, nodeRegion}
 use Rattle.valid.specs.Tests.{walk, nodeOk, nodesOk}
-use Rattle.valid.proofs.Turns.{walk-next, walk-not, walk-end}
-use Rattle.valid.proofs.InPlace.{record-there}
+use Rattle.valid.proofs.Turns.{walk-end}
+use Rattle.valid.proofs.InPlace.{row-not, row-next}
 use borrow.Author.Needs.{needs}
 use Rattle.valid.proofs.rows.nodes_ok.Statement.{statement}
 use Rattle.valid.proofs.rows.nodes_ok.Tie as tie
@@ -51,10 +49,8 @@ returns : tie.Need-returns Inv-loop μ-loop
 returns c =
     let l = c .before .before .before .before .loop in
     let s = c .before .before .before .before .before .before .before .args .image .now in
-    let xs = view s .nodes in
-    let h : l .i < length xs = omega (arith, c .before .before .before .loop-test .taken, c .before .before .before .before .before .node-count .ensures) in
-    let e : nodeOk (l .i) (getD xs (l .i) (blank nodeRegion)) ≡ false = sym (c .before .node-ok .ensures ∙ ap (nodeOk (l .i)) (record-there nodeRegion s (l .i) (16 + 16 * l .i) refl h)) ∙ not-true _ (c .if1 .taken) in
-    sym (walk-not nodeOk (λ k r. k + 1) xs (blank nodeRegion) (l .i) (l .i) h e) ∙ l .inv .1
+    let h : l .i < length (view s .nodes) = omega (arith, c .before .before .before .loop-test .taken, c .before .before .before .before .before .node-count .ensures) in
+    sym (row-not nodeRegion nodeOk (λ k r. k + 1) s (l .i) (16 + 16 * l .i) (l .i) refl h (c .before .node-ok .ensures) (c .if1 .taken)) ∙ l .inv .1
 
 add-i : tie.Need-add-i Inv-loop μ-loop
 add-i c = search needs
@@ -66,10 +62,8 @@ loop-again : tie.Need-loop-again Inv-loop μ-loop
 loop-again c =
     let l = c .before .before .before .before .loop in
     let s = c .before .before .before .before .before .before .before .args .image .now in
-    let xs = view s .nodes in
-    let h : l .i < length xs = omega (arith, c .before .before .before .loop-test .taken, c .before .before .before .before .before .node-count .ensures) in
-    let e : nodeOk (l .i) (getD xs (l .i) (blank nodeRegion)) ≡ true = sym (c .before .node-ok .ensures ∙ ap (nodeOk (l .i)) (record-there nodeRegion s (l .i) (16 + 16 * l .i) refl h)) ∙ not-false _ (c .if1 .left) in
-    (omega arith, walk-next nodeOk (λ k r. k + 1) xs (blank nodeRegion) (l .i) (l .i) h e ∙ l .inv .1)
+    let h : l .i < length (view s .nodes) = omega (arith, c .before .before .before .loop-test .taken, c .before .before .before .before .before .node-count .ensures) in
+    (omega arith, row-next nodeRegion nodeOk (λ k r. k + 1) s (l .i) (16 + 16 * l .i) (l .i) refl h (c .before .node-ok .ensures) (c .if1 .left) ∙ l .inv .1)
 
 returns-2 : tie.Need-returns-2 Inv-loop μ-loop
 returns-2 c =

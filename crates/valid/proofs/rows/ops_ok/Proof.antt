@@ -7,12 +7,12 @@ use mathlib.Core.Path.{_≡_, refl, sym, ap, _∙_}
 use Prim.Native.Nat.{ℕ, _+_, _*_, _-_, _≤_, _<_}
 use native.Mathlib.Omega.{arith}
 use mathlib.Core.Bool.{Bool, true, false, cond, _&&_}
-use lib.ListN.{length, getD, drop}
-use borrow.Author.Tests.{not-true, not-false, eq-eqb, ne-eqb}
+use lib.ListN.{length, drop}
+use borrow.Author.Tests.{eq-eqb, ne-eqb}
 use Rattle.image.specs.Layout.{view, blank, opRegion}
 use Rattle.valid.specs.Tests.{walk, opOk, opsOk, addsAmong}
-use Rattle.valid.proofs.Turns.{walk-next, walk-not, walk-end, adds-next, adds-end, yes-test}
-use Rattle.valid.proofs.InPlace.{record-there}
+use Rattle.valid.proofs.Turns.{walk-end, adds-next, adds-end, yes-test}
+use Rattle.valid.proofs.InPlace.{row-not, row-next}
 use borrow.Author.Needs.{needs}
 use Rattle.valid.proofs.rows.ops_ok.Statement.{statement}
 use Rattle.valid.proofs.rows.ops_ok.Tie as tie
@@ -61,10 +61,8 @@ returns c =
     let xs = view s .ops in
     let n = c .before .before .before .before .before .before .node-count in
     let h : l .i < length xs = omega (arith, c .before .before .before .loop-test .taken, c .before .before .before .before .before .op-count .ensures) in
-    let e : opOk (n .result) (l .prev) (getD xs (l .i) (blank opRegion)) ≡ false =
-    sym (c .before .op-ok .ensures ∙ ap (opOk (n .result) (l .prev)) (record-there opRegion s (l .i) (1040 + 32 * l .i) refl h)) ∙ not-true _ (c .if1 .taken) in
     let none : opsOk (length (view s .nodes)) xs ≡ false =
-    ap (λ (k : ℕ). opsOk k xs) (sym (n .ensures)) ∙ sym (l .inv .2) ∙ walk-not (opOk (n .result)) (λ p o. o .station) xs (blank opRegion) (l .i) (l .prev) h e in
+    ap (λ (k : ℕ). opsOk k xs) (sym (n .ensures)) ∙ sym (l .inv .2) ∙ row-not opRegion (opOk (n .result)) (λ p o. o .station) s (l .i) (1040 + 32 * l .i) (l .prev) refl h (c .before .op-ok .ensures) (c .if1 .taken) in
     sym (ap (λ (b : Bool). b && leb (length (view s .nodes) + addsAmong xs) 64) none)
 
 station-at-requires : tie.Need-station-at-requires Inv-loop μ-loop
@@ -89,11 +87,9 @@ loop-again c =
     let xs = view s .ops in
     let n = c .before .before .before .before .before .before .before .before .before .node-count in
     let h : l .i < length xs = omega (arith, c .before .before .before .before .before .before .loop-test .taken, c .before .before .before .before .before .before .before .before .op-count .ensures) in
-    let e : opOk (n .result) (l .prev) (getD xs (l .i) (blank opRegion)) ≡ true =
-    sym (c .before .before .before .before .op-ok .ensures ∙ ap (opOk (n .result) (l .prev)) (record-there opRegion s (l .i) (1040 + 32 * l .i) refl h)) ∙ not-false _ (c .before .before .before .if1 .left) in
     let k = c .before .kind-at in
     let walked = ap (λ (p : ℕ). walk (opOk (n .result)) (λ p o. o .station) p (drop (l .i + 1) xs)) (c .before .before .station-at .ensures)
-    ∙ walk-next (opOk (n .result)) (λ p o. o .station) xs (blank opRegion) (l .i) (l .prev) h e ∙ l .inv .2 in
+    ∙ row-next opRegion (opOk (n .result)) (λ p o. o .station) s (l .i) (1040 + 32 * l .i) (l .prev) refl h (c .before .before .before .before .op-ok .ensures) (c .before .before .before .if1 .left) ∙ l .inv .2 in
     let next : (b : Bool) → eqb (k .result) 0 ≡ b → addsAmong (drop (l .i) xs) ≡ cond b 1 0 + addsAmong (drop (l .i + 1) xs) = λ b q. adds-next xs (blank opRegion) (l .i) b h (ap (λ (n : ℕ). eqb n 0) (sym (k .ensures)) ∙ q) in
     ⊎-elim
     (λ w. (omega arith, omega (arith, w .1, l .inv .1), walked, omega (arith, w .1, l .inv .3, next true (eq-eqb (k .result) 0 (w .0 .taken)))))

@@ -3,13 +3,11 @@
 use mathlib.Core.Path.{_≡_, refl, sym, ap, _∙_}
 use Prim.Native.Nat.{ℕ, _+_, _*_, _-_, _≤_, _<_}
 use native.Mathlib.Omega.{arith}
-use mathlib.Core.Bool.{true, false}
-use lib.ListN.{length, getD, drop}
-use borrow.Author.Tests.{not-true, not-false}
+use lib.ListN.{length, drop}
 use Rattle.image.specs.Layout.{view, blank, resultRegion}
 use Rattle.valid.specs.Tests.{walk, resultOk, resultsOk}
-use Rattle.valid.proofs.Turns.{walk-next, walk-not, walk-end}
-use Rattle.valid.proofs.InPlace.{record-there}
+use Rattle.valid.proofs.Turns.{walk-end}
+use Rattle.valid.proofs.InPlace.{row-not, row-next}
 use borrow.Author.Needs.{needs}
 use Rattle.valid.proofs.rows.results_ok.Statement.{statement}
 use Rattle.valid.proofs.rows.results_ok.Tie as tie
@@ -51,10 +49,8 @@ returns : tie.Need-returns Inv-loop μ-loop
 returns c =
     let l = c .before .before .before .before .loop in
     let s = c .before .before .before .before .before .before .before .args .image .now in
-    let xs = view s .results in
-    let h : l .i < length xs = omega (arith, c .before .before .before .loop-test .taken, c .before .before .before .before .before .result-count .ensures) in
-    let e : resultOk (l .prev) (getD xs (l .i) (blank resultRegion)) ≡ false = sym (c .before .result-ok .ensures ∙ ap (resultOk (l .prev)) (record-there resultRegion s (l .i) (3088 + 16 * l .i) refl h)) ∙ not-true _ (c .if1 .taken) in
-    sym (walk-not resultOk (λ p r. r .label) xs (blank resultRegion) (l .i) (l .prev) h e) ∙ l .inv .1
+    let h : l .i < length (view s .results) = omega (arith, c .before .before .before .loop-test .taken, c .before .before .before .before .before .result-count .ensures) in
+    sym (row-not resultRegion resultOk (λ p r. r .label) s (l .i) (3088 + 16 * l .i) (l .prev) refl h (c .before .result-ok .ensures) (c .if1 .taken)) ∙ l .inv .1
 
 label-at-requires : tie.Need-label-at-requires Inv-loop μ-loop
 label-at-requires c κs = search needs
@@ -69,11 +65,10 @@ loop-again : tie.Need-loop-again Inv-loop μ-loop
 loop-again c =
     let l = c .before .before .before .before .before .loop in
     let s = c .before .before .before .before .before .before .before .before .args .image .now in
-    let xs = view s .results in
-    let h : l .i < length xs = omega (arith, c .before .before .before .before .loop-test .taken, c .before .before .before .before .before .before .result-count .ensures) in
-    let e : resultOk (l .prev) (getD xs (l .i) (blank resultRegion)) ≡ true = sym (c .before .before .result-ok .ensures ∙ ap (resultOk (l .prev)) (record-there resultRegion s (l .i) (3088 + 16 * l .i) refl h)) ∙ not-false _ (c .before .if1 .left) in (
+    let h : l .i < length (view s .results) = omega (arith, c .before .before .before .before .loop-test .taken, c .before .before .before .before .before .before .result-count .ensures) in (
       omega arith,
-      ap (λ (p : ℕ). walk resultOk (λ p r. r .label) p (drop (l .i + 1) xs)) (c .label-at .ensures) ∙ walk-next resultOk (λ p r. r .label) xs (blank resultRegion) (l .i) (l .prev) h e ∙ l .inv .1,
+      ap (λ (p : ℕ). walk resultOk (λ p r. r .label) p (drop (l .i + 1) (view s .results))) (c .label-at .ensures)
+          ∙ row-next resultRegion resultOk (λ p r. r .label) s (l .i) (3088 + 16 * l .i) (l .prev) refl h (c .before .before .result-ok .ensures) (c .before .if1 .left) ∙ l .inv .1,
     )
 
 returns-2 : tie.Need-returns-2 Inv-loop μ-loop

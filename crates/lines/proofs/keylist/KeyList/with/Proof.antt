@@ -1,9 +1,13 @@
 -- `lines::keylist::KeyList::with` meets its contract: one number more, with a count that rests at 9 or not.
 -- Assumes nothing.
 use mathlib.Core.Bool.{Bool, _&&_}
-use mathlib.Core.Path.{refl, ap, _∙_}
+use mathlib.Core.List.{List, [], _∷_, _++_}
+use mathlib.Core.Path.{_≡_, refl, ap, _∙_}
+use Prim.Native.Nat.{ℕ, _+_, min}
 use native.Mathlib.Omega.{arith}
 use borrow.Author.Needs.{needs}
+use Rattle.lines.specs.Reads.{KeysOf}
+use Rattle.lines.specs.declared.keylist.KeyList.{KeyList}
 use Rattle.lines.proofs.KeyLists.{keys-more}
 use Rattle.lines.proofs.keylist.KeyList.with.Statement.{statement}
 use Rattle.lines.proofs.keylist.KeyList.with.Tie as tie
@@ -23,29 +27,26 @@ and-requires-2 c κs = search needs
 add-more : tie.Need-add-more
 add-more c = search needs
 
+abbrev start : tie.After-and2 → tie.Start
+start w = w .before .before .before .before .before
+
+-- the list that is returned, with count n
+abbrev listWith : tie.After-and2 → ℕ → KeyList
+listWith w n = record { ok = start w .args .self .ok; count = n; key = w .before .before .before .store .result; last = start w .args .v; keys = w .before .and .result; rising = w .and2 .result }
+
+one-more : (w : tie.After-and2) (n : ℕ) (ts : List ℕ) → KeysOf ts (start w .args .self) → n ≡ min (start w .args .self .count + 1) 9 → KeysOf (ts ++ start w .args .v ∷ []) (listWith w n)
+one-more w n ts p e =
+    let a = start w .args in
+    keys-more ts (a .v) (a .self) _ p e refl
+    (w .before .and .ensures ∙ ap (λ (b : Bool). a .self .keys && b) (w .before .before .is-key .ensures))
+    (w .and2 .ensures)
+    (w .before .before .before .store .ensures)
+
 returns : tie.Need-returns
-returns c =
-    let w = c .before in
-    let a = w .before .before .before .before .before .args in (
-      refl,
-      λ ts p.
-          keys-more ts (a .v) (a .self) _ p (omega (arith, p .count)) refl
-          (w .before .and .ensures ∙ ap (λ (b : Bool). a .self .keys && b) (w .before .before .is-key .ensures))
-          (w .and2 .ensures)
-          (w .before .before .before .store .ensures),
-    )
+returns c = (refl, λ ts p. one-more (c .before) _ ts p (omega (arith, p .count)))
 
 returns-2 : tie.Need-returns-2
-returns-2 c =
-    let w = c .before in
-    let a = w .before .before .before .before .before .args in (
-      refl,
-      λ ts p.
-          keys-more ts (a .v) (a .self) _ p (omega (arith, p .count)) refl
-          (w .before .and .ensures ∙ ap (λ (b : Bool). a .self .keys && b) (w .before .before .is-key .ensures))
-          (w .and2 .ensures)
-          (w .before .before .before .store .ensures),
-    )
+returns-2 c = (refl, λ ts p. one-more (c .before) _ ts p (omega (arith, p .count)))
 
 pub with-spec : {M : Type 1} → statement M
 with-spec =
