@@ -1,6 +1,6 @@
 -- The loop's invariant: from h up to i the rule holds for none.
 -- Assumes nothing.
-use mathlib.Core.Path.{refl, _∙_}
+use mathlib.Core.Path.{_≡_, refl, _∙_}
 use Prim.Native.Nat.{_-_, _≤_}
 use lib.ListN.{getD}
 use Rattle.worksteps.specs.FlatSteps.{noOp, ruleHolds}
@@ -26,15 +26,16 @@ task-at-requires c κs = (c .before .before .before .pre .0, omega (arith, c .be
 same-requires : tie.Need-same-requires Inv-loop μ-loop
 same-requires c κs = search needs
 
+-- whether the rule holds for the operation at i is what `same` said
+told : (r : tie.After-same Inv-loop μ-loop)
+    → ruleHolds (r .before .before .before .before .before .args .task) (r .before .before .before .before .before .args .k) (getD (held (r .before .before .before .before .before .args .image .now) .queue) (r .before .before .before .loop .i) noOp) ≡ r .same .result
+told r = rule-told _ _ _ _ _ (r .before .task-at .ensures) (r .same .ensures)
+
 returns : tie.Need-returns Inv-loop μ-loop
 returns c =
     let l = c .before .before .before .before in
     let a = l .before .before in
-    let q = held (a .args .image .now) .queue in
-    let t = c .before .before .task-at in
-    let s = c .before .same in
-    let told = rule-told (a .args .task) (a .args .k) (getD q (l .loop .i) noOp) (t .result) (s .result) (t .ensures) (s .ensures) in
-    found (ruleHolds (a .args .task) (a .args .k)) q (a .args .h) (a .args .e) (a .pre .2) (l .loop .i) (l .loop .inv .1) (omega arith) (told ∙ c .if1 .taken)
+    found (ruleHolds (a .args .task) (a .args .k)) (held (a .args .image .now) .queue) (a .args .h) (a .args .e) (a .pre .2) (l .loop .i) (l .loop .inv .1) (omega arith) (told (c .before) ∙ c .if1 .taken)
 
 add-i : tie.Need-add-i Inv-loop μ-loop
 add-i c = search needs
@@ -46,11 +47,7 @@ loop-again : tie.Need-loop-again Inv-loop μ-loop
 loop-again c =
     let l = c .before .before .before .before in
     let a = l .before .before in
-    let q = held (a .args .image .now) .queue in
-    let t = c .before .before .task-at in
-    let s = c .before .same in
-    let told = rule-told (a .args .task) (a .args .k) (getD q (l .loop .i) noOp) (t .result) (s .result) (t .ensures) (s .ensures) in
-    (omega arith, passed (ruleHolds (a .args .task) (a .args .k)) q (a .args .h) (a .args .e) (a .pre .2) (l .loop .i) (l .loop .inv .1) (omega arith) (told ∙ c .if1 .left))
+    (omega arith, passed (ruleHolds (a .args .task) (a .args .k)) (held (a .args .image .now) .queue) (a .args .h) (a .args .e) (a .pre .2) (l .loop .i) (l .loop .inv .1) (omega arith) (told (c .before) ∙ c .if1 .left))
 
 returns-2 : tie.Need-returns-2 Inv-loop μ-loop
 returns-2 c =
