@@ -1,12 +1,10 @@
 -- How a function answers for an image.
 -- Assumes nothing.
-use mathlib.Core.Path.{_≡_, refl, sym, subst}
+use mathlib.Core.Path.{_≡_, subst}
 use Prim.Native.Nat.{ℕ}
 use mathlib.Core.List.{List}
-use Rattle.graph.specs.Refusals.{Answer, refused, done}
 use Rattle.queue.specs.Flat.{Flat}
 use Rattle.state.specs.State.{Shows}
-use Rattle.live.specs.Live.{Works}
 
 pub shown-by : {f g : Flat} {image : List ℕ} → f ≡ g → Shows f image → Shows g image
 shown-by {f} {g} {image} e h = subst (λ (x : Flat). Shows x image) e h

@@ -1,10 +1,10 @@
 -- From where a claim finds its result to the session without it.
 -- Assumes nothing.
-use mathlib.Core.Path.{_≡_, refl, sym, _∙_, ap, subst}
+use mathlib.Core.Path.{_≡_, sym, _∙_, ap, subst}
 use Prim.Native.Nat.{ℕ}
 use mathlib.Core.List.{List}
 use lib.ListN.{getD}
-use Rattle.graph.specs.Refusals.{Answer, refused, done, numberOf}
+use Rattle.graph.specs.Refusals.{Answer, numberOf}
 use Rattle.graph.specs.Sessions.{Session}
 use Rattle.graph.specs.Acceptance.{Claimed, claim, keeping}
 use Rattle.graph.proofs.Answers.{Holds, holds-at}

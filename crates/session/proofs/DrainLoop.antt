@@ -10,7 +10,7 @@ use lib.ListN.{length}
 use Rattle.graph.specs.Refusals.{Answer, refused, done}
 use Rattle.graph.specs.Sessions.{Session}
 use Rattle.graph.specs.Steps.{Step, admit, realise, move, finish, join, split, swap, fuse}
-use Rattle.graph.specs.Drain.{Drained, drain, weightOf}
+use Rattle.graph.specs.Drain.{drain, weightOf}
 use Rattle.graph.specs.Valid.{Valid}
 use Rattle.graph.specs.Runs.{tallyPlace, ofKind, workSteps}
 use Rattle.graph.proofs.Drains.{drain-drains, weight-bound}
@@ -18,12 +18,12 @@ use Rattle.worksteps.specs.FlatEvents.{FlatTaken, flatDrainStep}
 use Rattle.queue.specs.Flat.{flat, nest}
 use Rattle.records.proofs.Codecs.{Bytes}
 use Rattle.valid.specs.Values.{encode, sessionOf}
-use Rattle.state.specs.State.{held, Shows}
+use Rattle.state.specs.State.{held}
 use Rattle.live.specs.Live.{Live}
 use Rattle.live.proofs.Serving.{session-held, shows-encode}
 use Rattle.session.specs.declared.drain.Counts.{Counts}
 use Rattle.session.specs.DrainStep.{placeTaken, LeavesTaken, DrainsOne, more, raisedCounts}
-use Rattle.session.specs.Drained.{Counted, Drains}
+use Rattle.session.specs.Drained.{Drains}
 use Rattle.session.proofs.DrainTurns.{Turn, drain-turn, Rests, drain-stops}
 
 abbrev pub stepsOf : List ℕ → List Step

@@ -1,15 +1,13 @@
 -- A turn of drain's loop: one step on a live image takes the first of the steps that drain takes.
 -- Assumes nothing.
 use mathlib.Core.Path.{_≡_, refl, sym, _∙_, ap, subst}
-use Prim.Native.Nat.{ℕ, suc, _+_, _*_, _≤_, _<_}
+use Prim.Native.Nat.{ℕ, _<_}
 use native.Mathlib.Omega.{arith}
 use mathlib.Core.List.{List, [], _∷_}
-use lib.ListN.{length}
 use Rattle.graph.specs.Refusals.{Answer, refused, done, mapDone}
 use Rattle.graph.specs.Sessions.{Session}
 use Rattle.graph.specs.Steps.{Step}
 use Rattle.graph.specs.Drain.{Taken, drainStep, Drained, drain, weightOf}
-use Rattle.graph.specs.Valid.{Valid}
 use Rattle.graph.proofs.Answers.{Holds, holds-at}
 use Rattle.graph.proofs.Drains.{Took, drain-took, Next, next, drain-next, drain-rests}
 use Rattle.queue.specs.Flat.{Flat, flat, nest}

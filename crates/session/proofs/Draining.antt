@@ -1,21 +1,21 @@
 -- The step that drain takes on a flat session, by what stands at the queue's head.
 -- Assumes nothing.
-use mathlib.Core.Path.{_≡_, refl, sym, _∙_, ap}
-use Prim.Native.Nat.{ℕ, zero, suc, _-_, _≤_, _<_}
+use mathlib.Core.Path.{_≡_, _∙_, ap}
+use Prim.Native.Nat.{ℕ, _-_, _≤_, _<_}
 use native.Mathlib.Omega.{arith}
-use mathlib.Core.Bool.{Bool, true, false, cond, not, _&&_, _||_, true≢false, or-true}
+use mathlib.Core.Bool.{true, false, or-true}
 use mathlib.Core.List.{List, [], _∷_}
 use mathlib.Core.Option.{Option, some}
-use lib.Dec.{eqb, ltb}
+use lib.Dec.{eqb}
 use lib.ListN.{length, getD}
-use lib.Seq.{slice, slice-cons}
-use borrow.Author.Tests.{lt-ltb, le-ltb, eqb-true}
+use lib.Seq.{slice}
+use borrow.Author.Tests.{lt-ltb, le-ltb}
 use Rattle.graph.specs.Refusals.{Answer, refused, done, mapDone}
 use Rattle.graph.specs.KeyLists.{isNil}
 use Rattle.graph.specs.Steps.{Step, admit, realise, move, finish}
 use Rattle.graph.specs.Drain.{orElse}
-use Rattle.graph.proofs.Answers.{eqb-same, by-bool, or-left}
-use Rattle.queue.specs.Flat.{Tagged, Flat, find, here, atPlace, isAt, endOf}
+use Rattle.graph.proofs.Answers.{eqb-same, by-bool}
+use Rattle.queue.specs.Flat.{Tagged, Flat, find, atPlace, isAt, endOf}
 use Rattle.worksteps.specs.FlatSteps.{any, mapFrom, firstIn, noOp, noNode, moveTo, withQueue, opIn, hitsKey, headUnit, moveFlat, actAt, realiseFrom, realiseFlat, finishesAt, finishPlace, finishFrom, finishFlat, admitCall, known, flatStep}
 use Rattle.worksteps.specs.FlatEvents.{firstPlace, FlatTaken, flatTaking, flatDrainStepAt, flatDrainStep}
 use Rattle.worksteps.proofs.Turns.{any-first, first-stop}

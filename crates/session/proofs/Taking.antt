@@ -1,9 +1,9 @@
 -- The function of a step's kind serves the step that the enum's value names.
 -- Assumes nothing.
-use mathlib.Core.Path.{_≡_, sym, ap, subst}
+use mathlib.Core.Path.{_≡_, sym, subst}
 use Prim.Native.Nat.{ℕ}
 use mathlib.Core.List.{List}
-use Rattle.graph.specs.Steps.{Step, step}
+use Rattle.graph.specs.Steps.{step}
 use Rattle.worksteps.specs.FlatSteps.{flatStep}
 use Rattle.records.proofs.Codecs.{Bytes}
 use Rattle.valid.specs.Values.{sessionOf}

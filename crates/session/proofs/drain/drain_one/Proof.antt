@@ -1,7 +1,7 @@
 -- Nothing waits, the first waiting call, or the step at the station of the first operation.
 -- Assumes nothing.
 use mathlib.Core.Path.{_≡_, refl, sym, _∙_}
-use Prim.Native.Nat.{ℕ, _<_}
+use Prim.Native.Nat.{_<_}
 use lib.ListN.{length, getD}
 use borrow.Author.Tests.{ne-eqb}
 use Rattle.worksteps.specs.FlatSteps.{noOp}

@@ -2,7 +2,6 @@
 -- Assumes nothing.
 use borrow.Author.Tests.{ne-eqb}
 use mathlib.Core.Path.{sym}
-use native.Mathlib.Omega.{arith}
 use borrow.Author.Needs.{needs}
 use Rattle.session.proofs.drain.raised.Statement.{statement}
 use Rattle.session.proofs.drain.raised.Tie as tie
