@@ -29,7 +29,9 @@ same-requires c κs = search needs
 -- whether the rule holds for the operation at i is what `same` said
 told : (r : tie.After-same Inv-loop μ-loop)
     → ruleHolds (r .before .before .before .before .before .args .task) (r .before .before .before .before .before .args .k) (getD (held (r .before .before .before .before .before .args .image .now) .queue) (r .before .before .before .loop .i) noOp) ≡ r .same .result
-told r = rule-told _ _ _ _ _ (r .before .task-at .ensures) (r .same .ensures)
+told r =
+    let a = r .before .before .before .before .before .args in
+    rule-told (a .task) (a .k) (getD (held (a .image .now) .queue) (r .before .before .before .loop .i) noOp) (r .before .task-at .result) (r .same .result) (r .before .task-at .ensures) (r .same .ensures)
 
 returns : tie.Need-returns Inv-loop μ-loop
 returns c =

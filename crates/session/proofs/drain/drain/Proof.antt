@@ -35,19 +35,18 @@ raised-requires c κs =
     let a = l .before .before in
     counts-fit (a .args .image .now) (l .loop .image) (l .loop .c) (a .pre) (l .loop .inv)
 
-loop-less : tie.Need-loop-less Inv-loop μ-loop
-loop-less c =
-    let d = c .before .before .before .before in
+-- a turn that took a step
+turn : (e : tie.Else1 Inv-loop μ-loop) →
+    let d = e .before .before .before in
     let l = d .before .before in
-    let next = loop-next (l .before .before .args .image .now) (l .loop .image) (d .drain-one .last .0) (l .loop .c) (d .drain-one .result) (l .loop .inv) (d .drain-one .ensures) (c .before .if1 .left) (search needs) in
-    next .lighter
+    Goes (l .before .before .args .image .now) (l .loop .image) (d .drain-one .last .0) (l .loop .c) (d .drain-one .result)
+turn e = let d = e .before .before .before in loop-next _ _ _ _ _ (d .before .before .loop .inv) (d .drain-one .ensures) (e .if1 .left) (search needs)
+
+loop-less : tie.Need-loop-less Inv-loop μ-loop
+loop-less c = turn (c .before) .lighter
 
 loop-again : tie.Need-loop-again Inv-loop μ-loop
-loop-again c =
-    let d = c .before .before .before .before in
-    let l = d .before .before in
-    let next = loop-next (l .before .before .args .image .now) (l .loop .image) (d .drain-one .last .0) (l .loop .c) (d .drain-one .result) (l .loop .inv) (d .drain-one .ensures) (c .before .if1 .left) (search needs) in
-    subst (Loop (l .before .before .args .image .now) (d .drain-one .last .0)) (sym (c .raised .ensures)) (next .loop)
+loop-again c = subst (Loop _ _) (sym (c .raised .ensures)) (turn (c .before) .loop)
 
 pub drain-spec : {M : Type 1} → statement M
 drain-spec =

@@ -1,7 +1,7 @@
 -- `text::cut::past` meets its contract: each answer follows from what `same` says of the part.
 -- Assumes nothing.
 use mathlib.Core.Path.{sym, _∙_}
-use mathlib.Core.Bool.{true, false≢true}
+use mathlib.Core.Bool.{false≢true}
 use native.Mathlib.Omega.{arith}
 use Rattle.text.proofs.Splits.{too-short, stands, differs}
 use borrow.Author.Needs.{needs}

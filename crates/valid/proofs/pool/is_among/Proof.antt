@@ -7,13 +7,10 @@ use lib.Dec.{eqb}
 use lib.ListN.{length, getD, take, drop}
 use Rattle.graph.specs.KeyLists.{contains}
 use Rattle.valid.proofs.Turns.{among-more}
-use Rattle.valid.proofs.pool.same_or.Reads as same-or-reads
 use borrow.Author.Needs.{needs}
 use native.Mathlib.Omega.{arith}
 use Rattle.valid.proofs.pool.is_among.Statement.{statement}
 use Rattle.valid.proofs.pool.is_among.Tie as tie
-use Rattle.valid.proofs.pool.is_among.Reads as reads
-use Rattle.valid.proofs.pool.is_among.Lts as lts
 
 abbrev Inv-loop : tie.InvT-loop
 Inv-loop s at x found₀ j₀ found j = (j ≤ 64) × (found ≡ contains x (take j (drop at s)))

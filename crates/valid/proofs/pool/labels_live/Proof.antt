@@ -1,24 +1,17 @@
 -- `pool::labels_live` meets its contract.
 -- Assumes nothing.
 use mathlib.Core.Path.{ap, _∙_}
-use Prim.Native.Nat.{ℕ, _+_, _-_, _≤_}
+use Prim.Native.Nat.{ℕ, _+_, _≤_}
 use lib.ListN.{length, take, length-append}
 use mathlib.Core.List.{List, _++_}
 use borrow.Author.Tests.{le-leb, lt-leb}
 use Rattle.image.specs.Layout.{view}
 use Rattle.valid.specs.Tests.{opLabels, resultLabels, liveLabels, givenOnce}
 use Rattle.valid.proofs.Turns.{kept, padded}
-use Rattle.image.proofs.read.last_label.Reads as last-label-reads
-use Rattle.valid.proofs.pool.gather_ops.Reads as gather-ops-reads
-use Rattle.valid.proofs.pool.gather_results.Reads as gather-results-reads
-use Rattle.valid.proofs.pool.given_once.Reads as given-once-reads
-use Rattle.valid.proofs.pool.push_zeros.Reads as push-zeros-reads
 use native.Mathlib.Omega.{arith}
 use borrow.Author.Needs.{needs}
 use Rattle.valid.proofs.pool.labels_live.Statement.{statement}
 use Rattle.valid.proofs.pool.labels_live.Tie as tie
-use Rattle.valid.proofs.pool.labels_live.Reads as reads
-use Rattle.valid.proofs.pool.labels_live.Lts as lts
 
 slice-aggregate-gather-ops : tie.Need-slice-aggregate-gather-ops
 slice-aggregate-gather-ops c = search needs

@@ -9,8 +9,6 @@ use borrow.Author.Needs.{needs}
 use native.Mathlib.Omega.{arith}
 use Rattle.valid.proofs.pool.push_zeros.Statement.{statement}
 use Rattle.valid.proofs.pool.push_zeros.Tie as tie
-use Rattle.valid.proofs.pool.push_zeros.Reads as reads
-use Rattle.valid.proofs.pool.push_zeros.Lts as lts
 
 abbrev Inv-loop : tie.InvT-loop
 Inv-loop pool₀ at j₀ pool j = (j ≤ 64) × (length pool ≡ length pool₀) × (take (at + j) pool ≡ take at pool₀ ++ replicate j 0)

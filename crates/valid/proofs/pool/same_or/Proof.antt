@@ -4,8 +4,6 @@ use mathlib.Core.Path.{sym}
 use borrow.Author.Tests.{eq-eqb, ne-eqb}
 use Rattle.valid.proofs.pool.same_or.Statement.{statement}
 use Rattle.valid.proofs.pool.same_or.Tie as tie
-use Rattle.valid.proofs.pool.same_or.Reads as reads
-use Rattle.valid.proofs.pool.same_or.Lts as lts
 
 returns : tie.Need-returns
 returns c = rw (eq-eqb (c .before .args .x) (c .before .args .y) (sym (c .if1 .taken)))

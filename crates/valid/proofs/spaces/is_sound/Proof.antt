@@ -1,7 +1,6 @@
 -- `spaces::is_sound` meets its contract.
 -- Assumes nothing.
 use native.Mathlib.Omega.{arith}
-use Prim.Native.Nat.{_-_}
 use lib.ListN.{getD}
 use borrow.Author.Tests.{le-leb, leb-true}
 use Rattle.image.specs.Layout.{nodeRegion, opRegion, resultRegion}
