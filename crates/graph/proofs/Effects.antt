@@ -62,21 +62,21 @@ place-below (swap k i) = omega arith
 place-below (fuse k i) = omega arith
 
 -- what realise and finish take is in the unit, and the rule holds of it, but of none before it
-record Taken (p : Op → Bool) (u : List Op) (f : FirstOp) : Type 0 where
+record IsFirst (p : Op → Bool) (u : List Op) (f : FirstOp) : Type 0 where
   passed : any p (f .before) ≡ false
   hit : p (f .op) ≡ true
   was : u ≡ f .before ++ (f .op ∷ f .after)
 
-taken : (p : Op → Bool) (u : List Op) → Holds (Taken p u) (firstOp p u)
-taken p [] = refuses
-taken p (o ∷ os) =
+is-first : (p : Op → Bool) (u : List Op) → Holds (IsFirst p u) (firstOp p u)
+is-first p [] = refuses
+is-first p (o ∷ os) =
     holds-cond (p o) (λ e. holds (record { passed = refl; hit = e; was = refl }))
-    (λ e. holds-map _ (λ f h. record { passed = rw e (h .passed); hit = h .hit; was = ap (λ (x : List Op). o ∷ x) (h .was) }) (taken p os))
+    (λ e. holds-map _ (λ f h. record { passed = rw e (h .passed); hit = h .hit; was = ap (λ (x : List Op). o ∷ x) (h .was) }) (is-first p os))
 
 -- each kind at its station
 effect-realise : (n : Node) (ss : List Station) (us : List (List Op)) → Holds (Effect 1 (station n us ∷ ss)) (realiseAt n ss us)
 effect-realise n ss [] = refuses
-effect-realise n ss (u ∷ us) = holds-map _ (λ f h. rw (h .was) (realised n (f .before) (f .op) (f .after) us ss (h .passed) (h .hit))) (taken (λ o. hits o n) u)
+effect-realise n ss (u ∷ us) = holds-map _ (λ f h. rw (h .was) (realised n (f .before) (f .op) (f .after) us ss (h .passed) (h .hit))) (is-first (λ o. hits o n) u)
 
 effect-move : (n : Node) (ss : List Station) (us : List (List Op)) → Holds (Effect 1 (station n us ∷ ss)) (moveAt n ss us)
 effect-move n ss [] = refuses
@@ -85,7 +85,7 @@ effect-move n (s ∷ ss) (u ∷ us) = holds-cond _ (λ e. refuses) (λ e. holds 
 
 effect-finish : (n : Node) (ss : List Station) (us : List (List Op)) → Holds (Effect 1 (station n us ∷ ss)) (finishAt n ss us)
 effect-finish n ss [] = refuses
-effect-finish n ss (u ∷ us) = holds-map _ (λ f h. rw (h .was) (finished n (f .before) (f .op) (f .after) us ss (h .hit))) (taken (λ o. mayFinish o n (isNil ss)) u)
+effect-finish n ss (u ∷ us) = holds-map _ (λ f h. rw (h .was) (finished n (f .before) (f .op) (f .after) us ss (h .hit))) (is-first (λ o. mayFinish o n (isNil ss)) u)
 
 reshaped-unit : (i : ℕ) (f : List Op → Answer (List (List Op))) → ((u : List Op) → Holds (Reshaped (u ∷ [])) (f u)) → (us : List (List Op)) → Holds (Reshaped us) (unitAt i f us)
 reshaped-unit zero f h us = refuses

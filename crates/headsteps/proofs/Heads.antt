@@ -21,7 +21,7 @@ use Rattle.units.specs.declared.Spot.{Spot}
 use Rattle.units.specs.Numbered.{andThen, Span, locate, spotted}
 use Rattle.units.proofs.Located.{at-within, end-within, head-located, Stands, located-stands, stands, spanOf, spot-yes, then-no, then-yes}
 use Rattle.units.proofs.Standing.{op-at, unit-place}
-use Rattle.headsteps.specs.Heads.{before, firstFor, locateFirst}
+use Rattle.headsteps.specs.Heads.{foundBefore, firstFor, locateFirst}
 
 -- KEYS
 pub record InNodes (k : ℕ) (f : Flat) : Type 0 where
@@ -60,10 +60,10 @@ module _ (t : Task) (k : ℕ) (f : Flat) where
   -- p is what the search gave
   module _ (u : Spot) (e : locate k 1 f ≡ spotted u) (z : u .refusal ≡ 0) (p : ℕ) (is : p ≡ firstIn (ruleHolds t k) (u .start) (u .end) (f .queue)) where
     pub first-past : u .end ≤ p → locateFirst t k f ≡ refused 22
-    first-past h = then-yes u e _ z ∙ ap (before (u .end)) (sym is) ∙ rw (le-ltb p (u .end) h)
+    first-past h = then-yes u e _ z ∙ ap (foundBefore (u .end)) (sym is) ∙ rw (le-ltb p (u .end) h)
 
     pub first-inside : p < u .end → locateFirst t k f ≡ done (record { start = p; end = u .end })
-    first-inside h = then-yes u e _ z ∙ ap (before (u .end)) (sym is) ∙ rw (lt-ltb p (u .end) h)
+    first-inside h = then-yes u e _ z ∙ ap (foundBefore (u .end)) (sym is) ∙ rw (lt-ltb p (u .end) h)
 
   -- what is known of the one that was found
   record Found (s : Span) : Type 0 where

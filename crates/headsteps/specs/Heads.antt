@@ -18,11 +18,11 @@ abbrev pub bodyValue : Body → Node
 bodyValue b = record { key = b .key; value = b .value; links = listed (b .links) }
 
 -- in the head unit of station k, the first operation that this task rule holds for, and where the unit ends
-abbrev pub before : ℕ → ℕ → Answer Span
-before e p = cond (ltb p e) (done (record { start = p; end = e })) (refused 22)
+abbrev pub foundBefore : ℕ → ℕ → Answer Span
+foundBefore e p = cond (ltb p e) (done (record { start = p; end = e })) (refused 22)
 
 abbrev pub firstFor : Task → ℕ → List Tagged → Span → Answer Span
-firstFor t k q u = before (u .end) (firstIn (ruleHolds t k) (u .start) (u .end) q)
+firstFor t k q u = foundBefore (u .end) (firstIn (ruleHolds t k) (u .start) (u .end) q)
 
 abbrev pub locateFirst : Task → ℕ → Flat → Answer Span
 locateFirst t k f = andThen (locate k 1 f) (firstFor t k (f .queue))

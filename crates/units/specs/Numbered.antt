@@ -33,6 +33,6 @@ alone k q s = cond (isAt k (s .end) q) (cond (eqb (s .end) (suc (s .start)) && e
 abbrev pub locateTwo : ℕ → ℕ → Flat → Answer Span
 locateTwo k i f = andThen (locate k i f) (alone k (f .queue))
 
--- what the struct of src/units.rt says
+-- what the struct of src/lib.rt says
 abbrev pub spotted : Spot → Answer Span
 spotted r = cond (eqb (r .refusal) 0) (done (record { start = r .start; end = r .end })) (refused (r .refusal))

@@ -3,7 +3,7 @@
 use mathlib.Core.Path.{sym, subst}
 use Rattle.graph.specs.Drain.{weightOf}
 use Rattle.valid.specs.Values.{sessionOf}
-use Rattle.session.proofs.DrainLoop.{Loop, loop-first, loop-next, loop-done, counts-fit}
+use Rattle.session.proofs.DrainLoop.{Goes, Loop, loop-first, loop-next, loop-done, counts-fit}
 use borrow.Author.Needs.{needs}
 use Rattle.session.proofs.drain.drain.Statement.{statement}
 use Rattle.session.proofs.drain.drain.Tie as tie
