@@ -1,29 +1,24 @@
 -- Admit by what the image shows after each write.
 -- Assumes nothing.
 use mathlib.Core.Path.{_≡_, sym, ap, _∙_}
-use Prim.Native.Nat.{ℕ, suc, _<_}
+use Prim.Native.Nat.{ℕ, suc, _+_, _<_}
 use native.Mathlib.Omega.{arith}
 use mathlib.Core.Bool.{Bool, true, cond, true≢false}
 use mathlib.Core.List.{List, [], _∷_, _++_}
 use lib.ListN.{length, getD}
 use borrow.Author.Tests.{eq-eqb, ne-eqb, lt-ltb, le-ltb}
-use Rattle.graph.specs.Acts.{answer}
-use Rattle.graph.specs.Nodes.{newNode, resultsFor, stored}
+use Rattle.graph.specs.Nodes.{newNode, stored}
 use Rattle.graph.specs.OneAtATime.{Labelled, addOf, opOf}
-use Rattle.graph.specs.Packed.{listed}
 use Rattle.graph.specs.Refusals.{refused, done}
 use Rattle.graph.specs.Sessions.{insert, store}
 use Rattle.graph.specs.Steps.{admit}
 use Rattle.queue.specs.Flat.{Flat, carried, isOp, find, atPlace}
 use Rattle.queue.proofs.Places.{find-within}
-use Rattle.worksteps.specs.FlatSteps.{alter, removeAt, noOp, moveTo, withQueue, admitCall, flatStep}
+use Rattle.worksteps.specs.FlatSteps.{alter, removeAt, noOp, moveTo, withQueue, finishPlace, admitCall, flatStep}
 use Rattle.worksteps.proofs.Facts.{here-find}
-use Rattle.valid.specs.Values.{labelsOf}
-use Rattle.state.specs.declared.operation.Operation.{Operation}
-use Rattle.state.specs.Operations.{opValue}
 use Rattle.state.specs.Results.{resultWith}
 use Rattle.state.specs.State.{held, Shows, withNodes, withResults}
-use Rattle.calls.specs.Admission.{admittedAt, finishedAt}
+use Rattle.calls.specs.Admission.{admittedAt}
 
 -- THE STEP, by where the first waiting call stands
 module _ (f : Flat) where
@@ -43,8 +38,8 @@ module _ (f : Flat) where
 
   -- an operation, with no nodes and with some
   module _ (w : ℕ) (op : isOp (getD (f .queue) w noOp .call) ≡ true) where
-    pub admit-none : length (f .nodes) ≡ 0 → finishedAt w f ≡ admittedAt w f
-    admit-none z = go (getD (f .queue) w noOp .call) op
+    pub admit-none : length (f .nodes) ≡ 0 → finishPlace w (w + 1) (getD (f .queue) w noOp) f ≡ admittedAt w f
+    admit-none z = rw (le-ltb (suc w) (w + 1) (omega arith)) (go (getD (f .queue) w noOp .call) op)
       where
         go : (c : Labelled) → isOp c ≡ true → record { nodes = f .nodes; queue = removeAt w (f .queue); results = store (stored (carried c)) (f .results); last = f .last } ≡ admitCall w c f
         go (addOf l v) e = absurd (true≢false (sym e))
@@ -74,20 +69,4 @@ add-shown s t u x w l v n ks e en ek a b d =
           ∙ ap (λ (g : Flat). withResults g (insert (resultWith l n ks) (g .results))) u-held
           ∙ (λ i. withResults f (insert (resultWith l (en i) (ek i)) (held s .results)))
           ∙ sym (ap (λ (c : Labelled). admitCall w c (held s)) e);
-    }
-
--- an operation that finishes: its call, its results
-pub finish-shown : (s t u : List ℕ) (w v : ℕ) (o : Operation) → getD (held s .queue) w noOp .call ≡ opOf (opValue o) → v ≡ answer (o .act) (o .held)
-    → Shows (withQueue (held s) (removeAt w (held s .queue))) t
-    → Shows (withResults (held t) (store (resultsFor (labelsOf (o .labels)) v (listed (o .targets))) (held t .results))) u
-    → Shows (finishedAt w (held s)) u
-finish-shown s t u w v o e ev a b =
-    let q = removeAt w (held s .queue) in
-    record {
-      proper = b .proper;
-      shows =
-          b .shows
-          ∙ ap (λ (g : Flat). withResults g (store (resultsFor (labelsOf (o .labels)) v (listed (o .targets))) (g .results))) (a .shows)
-          ∙ ap (λ (m : ℕ). withResults (withQueue (held s) q) (store (resultsFor (labelsOf (o .labels)) m (listed (o .targets))) (held s .results))) ev
-          ∙ sym (ap (λ (c : Labelled). withResults (withQueue (held s) q) (store (stored (carried c)) (held s .results))) e);
     }

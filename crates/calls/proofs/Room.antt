@@ -45,7 +45,7 @@ labels-many (x ∷ xs) g =
     omega (arith, g 0 (omega arith), labels-many xs (λ i h. g (suc i) (omega arith)), length-append (labelsIn (x .call)) (queued xs))
 
 module _ (s : List ℕ) (g : Live s) where
-  pub results-room : (i : ℕ) → i < length (held s .queue) → length (held s .results) + length (labelsIn (getD (held s .queue) i noOp .call)) ≤ 64
+  results-room : (i : ℕ) → i < length (held s .queue) → length (held s .results) + length (labelsIn (getD (held s .queue) i noOp .call)) ≤ 64
   results-room i =
       subst (λ (f : Flat). i < length (f .queue) → length (f .results) + length (labelsIn (getD (f .queue) i noOp .call)) ≤ 64) (g .flat)
       (labels-room (nest (held s)) (g .valid) i)

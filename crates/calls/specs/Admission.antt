@@ -4,13 +4,11 @@ use mathlib.Core.Path.{_≡_}
 use Prim.Native.Nat.{ℕ}
 use mathlib.Core.List.{List}
 use lib.ListN.{length, getD}
-use Rattle.graph.specs.Nodes.{stored}
-use Rattle.graph.specs.Sessions.{store}
 use Rattle.queue.specs.Flat.{Tagged, Flat}
 use Rattle.records.specs.declared.labels.Labels.{Labels}
 use Rattle.valid.specs.Values.{labelsOf, packedLabels}
 use Rattle.worksteps.specs.FlatEvents.{queued, addsQueued}
-use Rattle.worksteps.specs.FlatSteps.{noOp, opIn, removeAt, admitCall}
+use Rattle.worksteps.specs.FlatSteps.{noOp, admitCall}
 use Rattle.state.specs.Operations.{Bounded}
 use Rattle.calls.specs.declared.waiting.Waiting.{Waiting}
 
@@ -27,7 +25,3 @@ pub record WaitingIn (q : List Tagged) (r : Waiting) : Type 0 where
 -- the call at w admitted
 abbrev pub admittedAt : ℕ → Flat → Flat
 admittedAt w f = admitCall w ((getD (f .queue) w noOp) .call) f
-
--- the operation at w finished as it waits
-abbrev pub finishedAt : ℕ → Flat → Flat
-finishedAt w f = record { nodes = f .nodes; queue = removeAt w (f .queue); results = store (stored (opIn (getD (f .queue) w noOp))) (f .results); last = f .last }

@@ -1,20 +1,19 @@
 // The first waiting call: an add makes its node, another call enters the first streamlet.
-use graph::act;
 use graph::keys::Keys;
+use headsteps::finish_at;
 use state::nodes;
 use state::ops;
 use state::results;
 ghost use mathlib.Core.Path.{_≡_};
 ghost use mathlib.Core.Bool.{true, false};
-ghost use Prim.Native.Nat.{_+_, _<_, _≤_};
+ghost use Prim.Native.Nat.{_+_, _<_};
 ghost use lib.ListN.{length, getD};
 ghost use Rattle.graph.specs.Steps.{admit};
 ghost use Rattle.queue.specs.Flat.{isOp};
 ghost use Rattle.worksteps.specs.FlatSteps.{noOp, flatStep};
-ghost use Rattle.worksteps.specs.FlatEvents.{labelsIn};
 ghost use Rattle.state.specs.State.{held, Proper, Shows};
 ghost use Rattle.live.specs.Live.{Live, Works};
-ghost use Rattle.calls.specs.Admission.{admittedAt, finishedAt};
+ghost use Rattle.calls.specs.Admission.{admittedAt};
 
 // The add at w makes its node, and its result is the node's key.
 fn admit_add(image: &mut [u8], w: usize)
@@ -29,28 +28,14 @@ fn admit_add(image: &mut [u8], w: usize)
     results::store_one(image, a.label, n as u32 + 1, left);
 }
 
-// The operation at w leaves the queue, and its results are stored.
-fn finish_at(image: &mut [u8], w: usize)
-    requires { ⌜ (Proper (now image)) × (w < length (held (now image) .queue)) × (isOp ((getD (held (now image) .queue) w noOp) .call) ≡ true) × (length (held (now image) .results) + length (labelsIn ((getD (held (now image) .queue) w noOp) .call)) ≤ 64) ⌝ }
-    ensures { λ _. ⌜ Shows (finishedAt w (held (now (image .entry)))) (now (image .exit)) ⌝ }
-{
-    let o = ops::operation_at(image, w);
-    let labels = o.labels;
-    let left = o.targets;
-    let what = o.act;
-    let value = act::answer(what, o.held);
-    ops::remove(image, w);
-    results::store_all(image, labels, value, left);
-}
-
 // With no nodes the operation at w finishes at once.
 fn admit_operation(image: &mut [u8], w: usize)
-    requires { ⌜ (Proper (now image)) × (w < length (held (now image) .queue)) × (isOp ((getD (held (now image) .queue) w noOp) .call) ≡ true) × (length (held (now image) .results) + length (labelsIn ((getD (held (now image) .queue) w noOp) .call)) ≤ 64) ⌝ }
+    requires { ⌜ (Live (now image)) × (w < length (held (now image) .queue)) × (isOp ((getD (held (now image) .queue) w noOp) .call) ≡ true) ⌝ }
     ensures { λ _. ⌜ Shows (admittedAt w (held (now (image .entry)))) (now (image .exit)) ⌝ }
 {
     let n = nodes::total(image);
     if n == 0 {
-        finish_at(image, w);
+        finish_at(image, w, w + 1);
         return;
     }
     ops::set_place(image, w, n as u8);

@@ -17,13 +17,12 @@ use Rattle.graph.specs.Sessions.{Station, station, Session, insert, stor
 use Rattle.graph.specs.Steps.{Step, step, enter}
 use Rattle.graph.specs.Valid.{Each, count, Given}
 use Rattle.graph.proofs.Answers.{Holds, refuses, holds, holds-at, or-left, or-right, and-left, and-right, and-both, eqb-same}
-use Rattle.graph.proofs.Outcome.{flat, flowOps, Seen, sum, sumOps, through, admitting, outcome, sum-store}
+use Rattle.graph.proofs.Outcome.{flat, flowOps, Seen, sumOf, sum-append, sum, sumOps, through, admitting, outcome, sum-store}
 use Rattle.graph.proofs.OutcomeKept.{Same, step-same}
 
 -- the sum of a number for each label
 abbrev pub total : (ℕ → ℕ) → List ℕ → ℕ
-total v [] = 0
-total v (l ∷ ls) = v l + total v ls
+total v ls = sumOf v ls
 
 abbrev pub byLabel : (ℕ → ℕ) → Result → ℕ
 byLabel v r = v (r .label)
@@ -39,8 +38,7 @@ abbrev pub stray : ℕ → ℕ → ℕ
 stray last l = cond (leb 1 l && leb l last) 0 1
 
 pub total-append : (v : ℕ → ℕ) (xs ys : List ℕ) → total v (xs ++ ys) ≡ total v xs + total v ys
-total-append v [] ys = omega arith
-total-append v (x ∷ xs) ys = omega (arith, total-append v xs ys)
+total-append v = sum-append v
 
 pub total-is : (l : ℕ) (xs : List ℕ) → total (is l) xs ≡ count l xs
 total-is l [] = refl

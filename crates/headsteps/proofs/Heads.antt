@@ -13,7 +13,7 @@ use Rattle.graph.specs.Refusals.{Answer, refused, done}
 use Rattle.graph.specs.Steps.{move}
 use Rattle.graph.proofs.Answers.{and-left, and-right, Holds, refuses, holds, holds-cond, holds-at}
 use Rattle.queue.specs.Flat.{Flat, isOp, isAt}
-use Rattle.worksteps.specs.FlatSteps.{firstIn, mapFrom, noOp, moveTo, withQueue, hitsKey, ruleHolds, headUnit, onFirst, moveFlat, known, atKey, flatStep}
+use Rattle.worksteps.specs.FlatSteps.{firstIn, mapFrom, noOp, moveTo, withQueue, hitsKey, ruleHolds, headUnit, onFirstOp, moveFlat, known, atKey, flatStep}
 use Rattle.worksteps.proofs.Turns.{any-first}
 use Rattle.state.specs.State.{held}
 use Rattle.live.specs.Live.{Live}
@@ -37,24 +37,24 @@ in-nodes k f e =
 
 -- A STEP ON THE FIRST that a task rule holds for
 module _ (t : Task) (k : ℕ) (f : Flat) where
-  first-located : (g : ℕ → ℕ → Flat → Flat) → atKey k (headUnit k (onFirst (ruleHolds t k) g)) f ≡ andThen (locateFirst t k f) (λ s. done (g (s .start) (s .end) f))
-  first-located g = head-located k f (onFirst (ruleHolds t k) g) ∙ go (locate k 1 f)
+  first-located : (g : ℕ → ℕ → Flat → Flat) → atKey k (headUnit k (onFirstOp (ruleHolds t k) g)) f ≡ andThen (locateFirst t k f) (λ s. done (g (s .start) (s .end) f))
+  first-located g = head-located k f (onFirstOp (ruleHolds t k) g) ∙ go (locate k 1 f)
     where
       at : (e p : ℕ) (b : Bool) → cond b (done (g p e f)) (refused 22) ≡ andThen (cond b (done (record { start = p; end = e })) (refused 22)) (λ (s : Span). done (g (s .start) (s .end) f))
       at e p true = refl
       at e p false = refl
 
-      go : (x : Answer Span) → andThen x (λ (s : Span). onFirst (ruleHolds t k) g (s .start) (s .end) f) ≡ andThen (andThen x (firstFor t k (f .queue))) (λ (s : Span). done (g (s .start) (s .end) f))
+      go : (x : Answer Span) → andThen x (λ (s : Span). onFirstOp (ruleHolds t k) g (s .start) (s .end) f) ≡ andThen (andThen x (firstFor t k (f .queue))) (λ (s : Span). done (g (s .start) (s .end) f))
       go (refused r) = refl
       go (done s) =
           let p = firstIn (ruleHolds t k) (s .start) (s .end) (f .queue) in
           at (s .end) p (ltb p (s .end))
 
   module _ (u : Spot) (e : locateFirst t k f ≡ spotted u) (g : ℕ → ℕ → Flat → Flat) where
-    pub first-no : (u .refusal ≡ 0 → ⊥) → atKey k (headUnit k (onFirst (ruleHolds t k) g)) f ≡ refused (u .refusal)
+    pub first-no : (u .refusal ≡ 0 → ⊥) → atKey k (headUnit k (onFirstOp (ruleHolds t k) g)) f ≡ refused (u .refusal)
     first-no n = first-located g ∙ then-no u e _ n
 
-    pub first-yes : u .refusal ≡ 0 → atKey k (headUnit k (onFirst (ruleHolds t k) g)) f ≡ done (g (u .start) (u .end) f)
+    pub first-yes : u .refusal ≡ 0 → atKey k (headUnit k (onFirstOp (ruleHolds t k) g)) f ≡ done (g (u .start) (u .end) f)
     first-yes z = first-located g ∙ then-yes u e _ z
 
   -- p is what the search gave
@@ -72,8 +72,8 @@ module _ (t : Task) (k : ℕ) (f : Flat) where
     inside : s .start < s .end
     fits : s .end ≤ length (f .queue)
 
-  first-found : Holds Found (locateFirst t k f)
-  first-found = go (locate k 1 f) (located-stands k 1 f)
+  found-there : Holds Found (locateFirst t k f)
+  found-there = go (locate k 1 f) (located-stands k 1 f)
     where
       go : (x : Answer Span) → Holds (Stands k f) x → Holds Found (andThen x (firstFor t k (f .queue)))
       go (refused r) h = refuses
@@ -99,7 +99,7 @@ pub record FoundOp (image : List ℕ) (k : ℕ) (u : Spot) : Type 0 where
 
 pub found-op : (image : List ℕ) → Live image → (t : Task) (k : ℕ) (u : Spot) → locateFirst t k (held image) ≡ spotted u → u .refusal ≡ 0 → FoundOp image k u
 found-op image live t k u e z =
-    let w : Found t k (held image) (spanOf u) = holds-at (rw (spot-yes u e z) at (first-found t k (held image))) in
+    let w : Found t k (held image) (spanOf u) = holds-at (rw (spot-yes u e z) at (found-there t k (held image))) in
     record { node = w .node; inside = w .inside; fits = w .fits; op = op-at image live k (u .start) (w .node) (w .at) }
 
 -- MOVE

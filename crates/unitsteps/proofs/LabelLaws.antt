@@ -1,24 +1,15 @@
 -- The struct of two lists of labels, the second put after the first one by one.
 -- Assumes nothing.
 use mathlib.Core.Path.{_≡_, sym, _∙_, ap}
-use Prim.Native.Nat.{ℕ, suc, _+_, _-_, _<_}
+use Prim.Native.Nat.{ℕ, _+_, _-_, _<_}
 use native.Mathlib.Numerals.{add-one}
 use native.Mathlib.Omega.{arith}
 use mathlib.Core.List.{List, [], _∷_, _++_, append-nil, append-assoc}
 use lib.ListN.{length, getD, set, take, replicate, length-append}
-use lib.Seq.{take-suc, length-take-le, append-snoc, set-append-seam, take-append-seam}
+use lib.Seq.{take-suc, length-take-le, take-append-seam}
+use Rattle.graph.proofs.KeyLaws.{padded-more}
 use Rattle.records.specs.declared.labels.Labels.{Labels}
 use Rattle.valid.specs.Values.{labelsOf, packedLabels}
-
--- a list with room, and one label more
-packed-more : (l : List ℕ) (v : ℕ) → length l < 4 → set (packedLabels l .label) (length l) v ≡ packedLabels (l ++ (v ∷ [])) .label
-unfolding packedLabels
-packed-more l v h =
-    let e : length (l ++ (v ∷ [])) ≡ length l + 1 = length-append l (v ∷ []) in
-    let room : 4 - length l ≡ suc (4 - (length l + 1)) = omega arith in
-    let put : set (l ++ replicate (4 - length l) 0) (length l) v ≡ l ++ v ∷ replicate (4 - (length l + 1)) 0 =
-    rw room (set-append-seam l 0 (replicate (4 - (length l + 1)) 0) v) in
-    put ∙ sym (append-snoc l v (replicate (4 - (length l + 1)) 0)) ∙ ap (λ (n : ℕ). l ++ (v ∷ []) ++ replicate (4 - n) 0) (sym e)
 
 -- the labels after i turns: those of a, and i of b's
 module _ (a b : Labels) where
@@ -31,7 +22,7 @@ module _ (a b : Labels) where
       let l = labelsOf a ++ take i (b .label) in
       let n : length l ≡ length (labelsOf a) + i = length-append (labelsOf a) (take i (b .label)) ∙ ap (λ (m : ℕ). length (labelsOf a) + m) (length-take-le i (b .label) (omega arith)) in
       ap (λ (m : ℕ). set (packedLabels l .label) m (getD (b .label) i 0)) (sym n)
-      ∙ packed-more l (getD (b .label) i 0) (omega arith)
+      ∙ padded-more 4 l (getD (b .label) i 0) (omega arith)
       ∙ ap (λ (x : List ℕ). packedLabels x .label) (append-assoc (labelsOf a) (take i (b .label)) (getD (b .label) i 0 ∷ []) ∙ ap (λ (x : List ℕ). labelsOf a ++ x) (sym (take-suc (b .label) i 0 h) ∙ ap (λ (m : ℕ). take m (b .label)) (sym (add-one i))))
 
 pub packed-made : (l : List ℕ) (n : ℕ) (ls : List ℕ) → n ≡ length l → ls ≡ packedLabels l .label → record { count = n; label = ls } ≡ packedLabels l

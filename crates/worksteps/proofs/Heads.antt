@@ -17,7 +17,7 @@ use Rattle.graph.specs.Steps.{Change, only, any, anyHits, FirstOp, firstOp, mov
 use Rattle.queue.specs.Flat.{Tagged, Flat, standing, tagUnit, tagUnits, queueOf, nodesOf, flat, find, atPlace, Full, Keyed}
 use Rattle.queue.proofs.Places.{No, find-none, find-at, drop-past, drop-mid, slice-mid, no-queue, beyond-below, length-nodes}
 use Rattle.queue.proofs.Nesting.{flatSession}
-use Rattle.worksteps.specs.FlatSteps.{alter, removeAt, mapFrom, firstIn, noOp, noNode, moveTo, openAs, withOp, opIn, hitsKey, unitFrom, headUnit, onPlace, onFirst, moveFlat, actAt, actFlat, realiseFlat, finishesAt, takeOut, finishPlace, leaveFlat, finishFlat, flatStep}
+use Rattle.worksteps.specs.FlatSteps.{alter, removeAt, mapFrom, firstIn, noOp, noNode, moveTo, openAs, withOp, opIn, hitsKey, unitFrom, headUnit, onPlace, onFirstOp, moveFlat, actAt, actFlat, realiseFlat, finishesAt, takeOut, finishPlace, leaveFlat, finishFlat, flatStep}
 use Rattle.worksteps.proofs.Focus.{put, back, Agrees, step-focus}
 use Rattle.worksteps.proofs.UnitPlaces.{unit-none, unit-here, start}
 
@@ -161,7 +161,7 @@ module _ (k : ℕ) (rs : List Result) (l : ℕ) (N : List Node) (A : List Tagged
       ≡ back N A rs l (G (record { before = a; op = o; after = b }))
 
   first-agrees : FoundAgrees → {u : List Op} → First P u
-      → onFirst Q g (length (queueOf ss)) (length (queueOf ss ++ tagUnit k true u)) (flatSession ((nodesOf ss ++ (n ∷ [])) ++ N) (queueOf ss ++ (tagUnit k true u ++ (tagUnits k us ++ A))) rs l)
+      → onFirstOp Q g (length (queueOf ss)) (length (queueOf ss ++ tagUnit k true u)) (flatSession ((nodesOf ss ++ (n ∷ [])) ++ N) (queueOf ss ++ (tagUnit k true u ++ (tagUnits k us ++ A))) rs l)
       ≡ mapDone (back N A rs l) (mapDone G (firstOp P u))
   first-agrees f (none u h) =
       let B : List Tagged = queueOf ss in
@@ -178,7 +178,7 @@ module _ (k : ℕ) (rs : List Result) (l : ℕ) (N : List Node) (A : List Tagged
       let R : List Tagged = tagUnits k us ++ A in
       let ns : List Node = (nodesOf ss ++ (n ∷ [])) ++ N in
       rw (first-found P a o b h e)
-      (ap (λ (U : List Tagged). onFirst Q g (length B) (length (B ++ U)) (flatSession ns (B ++ (U ++ R)) rs l)) (ops-split k true a o b)
+      (ap (λ (U : List Tagged). onFirstOp Q g (length B) (length (B ++ U)) (flatSession ns (B ++ (U ++ R)) rs l)) (ops-split k true a o b)
       ∙ ap (λ (p : ℕ). onPlace g (length (B ++ (X ++ (y ∷ Y)))) p (flatSession ns (B ++ ((X ++ (y ∷ Y)) ++ R)) rs l))
       (first-at Q B X y Y R (no-tagged P Q k true same a h) (sym (same (isNil a) o) ∙ e))
       ∙ ap (λ (q : List Tagged). onPlace g (length (B ++ (X ++ (y ∷ Y)))) (length (B ++ X)) (flatSession ns q rs l)) (regroup-at B X y Y R)

@@ -99,8 +99,8 @@ headUnit k g f = unitFrom k (λ h e q. g h e f) 1 (find (atPlace k) (f .queue)) 
 abbrev pub onPlace : (ℕ → ℕ → Flat → Flat) → ℕ → ℕ → Flat → Answer Flat
 onPlace g e i f = cond (ltb i e) (done (g i e f)) (refused 22)
 
-abbrev pub onFirst : (Tagged → Bool) → (ℕ → ℕ → Flat → Flat) → ℕ → ℕ → Flat → Answer Flat
-onFirst p g h e f = onPlace g e (firstIn p h e (f .queue)) f
+abbrev pub onFirstOp : (Tagged → Bool) → (ℕ → ℕ → Flat → Flat) → ℕ → ℕ → Flat → Answer Flat
+onFirstOp p g h e f = onPlace g e (firstIn p h e (f .queue)) f
 
 -- MOVE
 abbrev pub moveFlat : ℕ → ℕ → ℕ → Flat → Answer Flat
@@ -114,7 +114,7 @@ abbrev pub actFlat : ℕ → ℕ → ℕ → Flat → Flat
 actFlat k p e f = actAt k p (getD (f .queue) p noOp) (getD (f .nodes) (k - 1) noNode) f
 
 abbrev pub realiseFlat : ℕ → ℕ → ℕ → Flat → Answer Flat
-realiseFlat k = onFirst (hitsKey k) (actFlat k)
+realiseFlat k = onFirstOp (hitsKey k) (actFlat k)
 
 -- FINISH
 -- x, which stands at p in a unit that ends at e, hands its mark on to the next of its unit
@@ -131,7 +131,7 @@ abbrev pub leaveFlat : ℕ → ℕ → Flat → Flat
 leaveFlat p e f = finishPlace p e (getD (f .queue) p noOp) f
 
 abbrev pub finishFlat : ℕ → ℕ → ℕ → Flat → Answer Flat
-finishFlat k = onFirst (finishesAt k) leaveFlat
+finishFlat k = onFirstOp (finishesAt k) leaveFlat
 
 -- JOIN, SPLIT, SWAP, FUSE
 -- a unit and the next: g gets where the one starts, where the next does, and where that ends

@@ -11,7 +11,7 @@ use Rattle.worksteps.specs.FlatSteps.{flatStep}
 use Rattle.state.specs.State.{held}
 use Rattle.calls.specs.Admission.{admittedAt}
 use Rattle.calls.proofs.Admitting.{admit-refused, admit-done, first-in}
-use Rattle.calls.proofs.Room.{results-room, node-room, result-room}
+use Rattle.calls.proofs.Room.{node-room, result-room}
 use Rattle.live.proofs.Working.{works-refused, works-done}
 use borrow.Author.Needs.{needs}
 use Rattle.calls.proofs.admit.admit.Statement.{statement}
@@ -66,7 +66,7 @@ admit-operation-requires : tie.Need-admit-operation-requires
 admit-operation-requires c κs =
     let e = c .before .before .before .before in
     let s = start e in
-    (s .pre .proper, waits e, not-false _ (sym (c .before .before .is-add-at .ensures) ∙ c .before .if2 .left), results-room (s .args .image .now) (s .pre) (w e) (waits e))
+    (s .pre, waits e, not-false _ (sym (c .before .before .is-add-at .ensures) ∙ c .before .if2 .left))
 
 same-length-3 : tie.Need-same-length-3
 same-length-3 c = search needs
