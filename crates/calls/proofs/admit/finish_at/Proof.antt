@@ -4,8 +4,7 @@ use mathlib.Core.Path.{ap}
 use native.Mathlib.Omega.{arith}
 use lib.ListN.{length}
 use Rattle.graph.specs.OneAtATime.{Labelled}
-use Rattle.queue.specs.Flat.{Flat}
-use Rattle.worksteps.specs.FlatEvents.{labelsIn}
+use Rattle.queue.specs.Flat.{Flat, labelsIn}
 use Rattle.calls.proofs.Admitting.{finish-shown}
 use borrow.Author.Needs.{needs}
 use Rattle.calls.proofs.admit.finish_at.Statement.{statement}
