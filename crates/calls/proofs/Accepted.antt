@@ -13,9 +13,9 @@ use Rattle.graph.specs.KeyLists.{areKeys, rising}
 use Rattle.graph.specs.OneAtATime.{Labelled, labelled}
 use Rattle.graph.specs.Refusals.{Answer, refused, done, Test, on, firstOf, unless}
 use Rattle.graph.proofs.Validity.{Sort, adds, operates, sort}
-use Rattle.queue.specs.Flat.{Flat, isOp}
+use Rattle.queue.specs.Flat.{Flat, isOp, addsQueued}
 use Rattle.worksteps.specs.FlatSteps.{withQueue}
-use Rattle.worksteps.specs.FlatEvents.{addsQueued, flatLive, flatAccept, acceptedAs}
+use Rattle.worksteps.specs.FlatEvents.{flatLive, flatAccept, acceptedAs}
 use Rattle.state.specs.State.{held, Shows, withLast}
 use Rattle.live.specs.Live.{Live, Works}
 use Rattle.calls.specs.Accepting.{flatLiveTests, flatAcceptRest}

@@ -10,9 +10,9 @@ use borrow.Author.Tests.{le-leb, lt-leb}
 use Rattle.graph.specs.Acceptance.{takeResult}
 use Rattle.graph.specs.KeyLists.{contains}
 use Rattle.graph.specs.Refusals.{refused, done}
-use Rattle.queue.specs.Flat.{Flat, find}
+use Rattle.queue.specs.Flat.{Flat, find, queued}
 use Rattle.queue.proofs.Places.{find-within}
-use Rattle.worksteps.specs.FlatEvents.{queued, flatClaim}
+use Rattle.worksteps.specs.FlatEvents.{flatClaim}
 use Rattle.state.specs.Results.{hasLabel, takenAt}
 use Rattle.state.proofs.ResultLaws.{take-none, take-some}
 use Rattle.calls.specs.Claiming.{Finds}

@@ -9,9 +9,8 @@ use lib.ListN.{length, getD, drop, length-append, drop-of-length-le}
 use lib.Seq.{drop-cons}
 use Rattle.graph.specs.KeyLists.{contains}
 use Rattle.graph.specs.OneAtATime.{Labelled, addOf, opOf}
-use Rattle.queue.specs.Flat.{Tagged, isOp}
+use Rattle.queue.specs.Flat.{Tagged, isOp, labelsIn, queued, addIn, addsQueued}
 use Rattle.worksteps.specs.FlatSteps.{noOp}
-use Rattle.worksteps.specs.FlatEvents.{labelsIn, queued, addIn, addsQueued}
 use Rattle.valid.proofs.Turns.{contains-append}
 
 -- is the call an add?

@@ -15,10 +15,10 @@ use Rattle.graph.specs.Steps.{admit}
 use Rattle.graph.specs.Valid.{ValidCall}
 use Rattle.graph.proofs.Answers.{Holds, holds-map, holds-at}
 use Rattle.graph.proofs.Validity.{step-valid}
-use Rattle.queue.specs.Flat.{Tagged, Flat, flat, nest, isOp}
+use Rattle.queue.specs.Flat.{Tagged, Flat, flat, nest, isOp, labelsIn, queued}
 use Rattle.queue.proofs.Places.{length-nodes}
 use Rattle.worksteps.specs.FlatSteps.{noOp, admitCall, flatStep}
-use Rattle.worksteps.specs.FlatEvents.{labelsIn, queued, flatLive}
+use Rattle.worksteps.specs.FlatEvents.{flatLive}
 use Rattle.worksteps.proofs.Events.{valid-room, step-valid-flat}
 use Rattle.worksteps.proofs.Facts.{sits-at, labels-room}
 use Rattle.state.specs.State.{held}

@@ -7,8 +7,8 @@ use lib.ListN.{length}
 use Rattle.graph.specs.OneAtATime.{Labelled}
 use Rattle.graph.specs.Refusals.{Answer, Test, unless}
 use Rattle.graph.specs.Acceptance.{liveTests, roomTests}
-use Rattle.queue.specs.Flat.{Flat, isOp}
-use Rattle.worksteps.specs.FlatEvents.{addsQueued, flatLive, acceptedAs}
+use Rattle.queue.specs.Flat.{Flat, isOp, addsQueued}
+use Rattle.worksteps.specs.FlatEvents.{flatLive, acceptedAs}
 
 -- the tests of any call: 14, 15
 abbrev pub flatLiveTests : Flat → List Test

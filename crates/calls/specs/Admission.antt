@@ -4,10 +4,9 @@ use mathlib.Core.Path.{_≡_}
 use Prim.Native.Nat.{ℕ}
 use mathlib.Core.List.{List}
 use lib.ListN.{length, getD}
-use Rattle.queue.specs.Flat.{Tagged, Flat}
+use Rattle.queue.specs.Flat.{Tagged, Flat, queued, addsQueued}
 use Rattle.records.specs.declared.labels.Labels.{Labels}
 use Rattle.valid.specs.Values.{labelsOf, packedLabels}
-use Rattle.worksteps.specs.FlatEvents.{queued, addsQueued}
 use Rattle.worksteps.specs.FlatSteps.{noOp, admitCall}
 use Rattle.state.specs.Operations.{Bounded}
 use Rattle.calls.specs.declared.waiting.Waiting.{Waiting}

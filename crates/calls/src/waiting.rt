@@ -8,7 +8,7 @@ ghost use Prim.Native.Nat.{_≤_, _<_};
 ghost use lib.ListN.{length, getD};
 ghost use Rattle.graph.specs.KeyLists.{contains};
 ghost use Rattle.worksteps.specs.FlatSteps.{noOp};
-ghost use Rattle.worksteps.specs.FlatEvents.{labelsIn, queued, addIn, addsQueued};
+ghost use Rattle.queue.specs.Flat.{labelsIn, queued, addIn, addsQueued};
 ghost use Rattle.valid.specs.Values.{labelsOf, packedLabels};
 ghost use Rattle.state.specs.Operations.{Bounded};
 ghost use Rattle.state.specs.State.{held, Proper};

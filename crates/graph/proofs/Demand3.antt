@@ -11,7 +11,7 @@ use mathlib.Core.Option.{Option, none, some}
 use lib.Dec.{eqb}
 use lib.ListN.{length, length-append}
 use borrow.Author.Tests.{eqb-true, eqb-false, ne-eqb, eq-eqb}
-use Rattle.graph.specs.Refusals.{Answer, refused, done}
+use Rattle.graph.specs.Refusals.{Answer, refused, done, andThen}
 use Rattle.graph.specs.KeyLists.{contains, sameKeys}
 use Rattle.graph.specs.Calls.{Call, targetsOf}
 use Rattle.graph.specs.Nodes.{Node, Op, Result, visitOp, stored}
@@ -21,7 +21,7 @@ use Rattle.graph.specs.Steps.{Step, step}
 use Rattle.graph.specs.Acceptance.{accepted, accept, Claimed, claim}
 use Rattle.graph.specs.Drain.{weightOfCall, weightOfCalls, weightOf, backmost, drain}
 use Rattle.graph.specs.Valid.{Valid, count}
-use Rattle.graph.specs.Runs.{Event, calls, steps, drains, claims, Run, onCall, onStep, onDrain, onClaim, events, start, run, stepEvents, workSteps, andThen, stepAll, find, SameResult, Demand3, SameOutcome}
+use Rattle.graph.specs.Runs.{Event, calls, steps, drains, claims, Run, onCall, onStep, onDrain, onClaim, events, start, run, stepEvents, workSteps, stepAll, find, SameResult, Demand3, SameOutcome}
 use Rattle.graph.proofs.Answers.{Holds, holds, holds-at, and-left, and-right, eqb-same}
 use Rattle.graph.proofs.Striking.{same-eq, same-refl}
 use Rattle.graph.proofs.Effects.{costs}

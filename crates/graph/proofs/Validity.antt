@@ -345,7 +345,7 @@ adds-one c l n h f = go (sort c l)
     go (adds x i e) = rw e (omega (arith, f i))
     go (operates a x i e) = rw e (omega arith)
 
-pub adds-append : (cs ds : List Labelled) → addsIn (cs ++ ds) ≡ addsIn cs + addsIn ds
+adds-append : (cs ds : List Labelled) → addsIn (cs ++ ds) ≡ addsIn cs + addsIn ds
 adds-append [] ds = omega arith
 adds-append (addOf k v ∷ cs) ds = omega (arith, adds-append cs ds)
 adds-append (opOf o ∷ cs) ds = adds-append cs ds

@@ -9,7 +9,7 @@ use lib.Dec.{leb, ltb}
 use lib.ListN.{length, getD}
 use borrow.Author.Tests.{lt-ltb, le-ltb, eq-eqb, ne-eqb, leb-true, ltb-true}
 use Rattle.graph.specs.declared.task.Task.{Task}
-use Rattle.graph.specs.Refusals.{Answer, refused, done}
+use Rattle.graph.specs.Refusals.{Answer, refused, done, andThen}
 use Rattle.graph.specs.Steps.{move}
 use Rattle.graph.proofs.Answers.{and-left, and-right, Holds, refuses, holds, holds-cond, holds-at}
 use Rattle.queue.specs.Flat.{Flat, isOp, isAt}
@@ -18,7 +18,7 @@ use Rattle.worksteps.proofs.Turns.{any-first}
 use Rattle.state.specs.State.{held}
 use Rattle.live.specs.Live.{Live}
 use Rattle.units.specs.declared.Spot.{Spot}
-use Rattle.units.specs.Numbered.{andThen, Span, locate, spotted}
+use Rattle.units.specs.Numbered.{Span, locate, spotted}
 use Rattle.units.proofs.Located.{at-within, end-within, head-located, Stands, located-stands, stands, spanOf, spot-yes, then-no, then-yes}
 use Rattle.units.proofs.Standing.{op-at, unit-place}
 use Rattle.headsteps.specs.Heads.{foundBefore, firstFor, locateFirst}

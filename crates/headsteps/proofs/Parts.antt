@@ -23,9 +23,8 @@ use Rattle.graph.specs.Sessions.{Session, store}
 use Rattle.graph.proofs.AffineLaws.{map-of}
 use Rattle.graph.proofs.KeyLaws.{listed-packed}
 use Rattle.graph.proofs.Tasks.{acts-exactly, finishes-exactly, passes-exactly}
-use Rattle.queue.specs.Flat.{Tagged, Flat, flat, nest, carried}
+use Rattle.queue.specs.Flat.{Tagged, Flat, flat, nest, carried, labelsIn}
 use Rattle.worksteps.specs.FlatSteps.{alter, removeAt, mapFrom, firstIn, noOp, noNode, openAs, withOp, withQueue, opIn, taskAt, ruleHolds, actAt, takeOut, finishPlace, handOn}
-use Rattle.worksteps.specs.FlatEvents.{labelsIn}
 use Rattle.worksteps.proofs.Turns.{first-stop, first-next, first-end, alter-length, mapFrom-none, mapFrom-next}
 use Rattle.worksteps.proofs.Facts.{labels-room}
 use Rattle.valid.specs.Values.{labelsOf}

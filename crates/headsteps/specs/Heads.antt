@@ -5,13 +5,13 @@ use mathlib.Core.Bool.{cond}
 use mathlib.Core.List.{List}
 use lib.Dec.{ltb}
 use Rattle.graph.specs.declared.task.Task.{Task}
-use Rattle.graph.specs.Refusals.{Answer, refused, done}
+use Rattle.graph.specs.Refusals.{Answer, refused, done, andThen}
 use Rattle.graph.specs.Nodes.{Node}
 use Rattle.graph.specs.Packed.{listed}
 use Rattle.queue.specs.Flat.{Tagged, Flat}
 use Rattle.worksteps.specs.FlatSteps.{firstIn, ruleHolds}
 use Rattle.state.specs.declared.nodes.Body.{Body}
-use Rattle.units.specs.Numbered.{andThen, Span, locate}
+use Rattle.units.specs.Numbered.{Span, locate}
 
 -- the node of a struct
 abbrev pub bodyValue : Body → Node

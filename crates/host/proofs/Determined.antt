@@ -4,11 +4,10 @@ use mathlib.Core.Path.{_≡_, refl, sym, ap, subst, _∙_}
 use Prim.Native.Nat.{ℕ}
 use mathlib.Core.List.{List, [], _∷_}
 use lib.ListN.{length}
-use Rattle.graph.specs.Refusals.{Answer, refused, done, unless}
+use Rattle.graph.specs.Refusals.{Answer, refused, done, andThen, unless}
 use Rattle.graph.specs.Calls.{Call}
 use Rattle.graph.specs.Sessions.{Session}
 use Rattle.graph.specs.Steps.{Step, step}
-use Rattle.graph.specs.Runs.{andThen}
 use Rattle.lines.specs.Forms.{StepForm, work, drain as drains}
 use Rattle.lines.specs.Answers.{IsCall, IsStep, IsClaim, stepFormTests}
 use Rattle.lines.proofs.Calls.{call-unique}

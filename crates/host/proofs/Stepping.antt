@@ -10,11 +10,11 @@ use lib.IntN.{ℤ}
 use lib.ListN.{length}
 use borrow.Author.Tests.{leb-true}
 use Rattle.graph.specs.KeyLists.{isNil, isKey, areKeys}
-use Rattle.graph.specs.Refusals.{Answer, refused, done, numberOf as codeOf, firstOf, unless}
+use Rattle.graph.specs.Refusals.{Answer, refused, done, andThen, numberOf as codeOf, firstOf, unless}
 use Rattle.graph.specs.Sessions.{Session}
 use Rattle.graph.specs.Steps.{Step, admit, realise, move, finish, join, split, swap, fuse, step}
 use Rattle.graph.specs.Drain.{drain, weightOf}
-use Rattle.graph.specs.Runs.{tallyPlace, andThen}
+use Rattle.graph.specs.Runs.{tallyPlace}
 use Rattle.graph.proofs.Answers.{isDone, and-left, and-right}
 use Rattle.graph.specs.Allowed.{fromKey, unitsOf, fromUnit, allowed, tests, stepTests}
 use Rattle.graph.proofs.Verdicts.{step-number, step-done}

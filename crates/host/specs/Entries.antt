@@ -8,12 +8,11 @@ use mathlib.Core.List.{List, [], _∷_}
 use lib.Dec.{eqb, leb}
 use lib.IntN.{ℤ}
 use lib.ListN.{length}
-use Rattle.graph.specs.Refusals.{Answer, refused, done, unless}
+use Rattle.graph.specs.Refusals.{Answer, refused, done, andThen, unless}
 use Rattle.graph.specs.Sessions.{Session, fresh}
 use Rattle.graph.specs.Steps.{Step, step}
 use Rattle.graph.specs.Acceptance.{accept, Claimed, claim, keeping}
 use Rattle.graph.specs.Drain.{drain}
-use Rattle.graph.specs.Runs.{andThen}
 use Rattle.graph.specs.Valid.{Valid}
 use Rattle.text.specs.Text.{pasted}
 use Rattle.lines.specs.Forms.{StepForm, work, drain as drains}

@@ -9,10 +9,9 @@ use lib.Seq.{getD-append-add}
 use Rattle.graph.specs.Nodes.{Node}
 use Rattle.graph.specs.Sessions.{Station, Session, graphOf, pending}
 use Rattle.graph.proofs.Labels.{one, total-one}
-use Rattle.queue.specs.Flat.{Flat, flat, nest, nodesOf}
-use Rattle.worksteps.specs.FlatEvents.{queued}
+use Rattle.queue.specs.Flat.{Flat, flat, nest, nodesOf, queued}
+use Rattle.queue.proofs.Labels.{pending-same}
 use Rattle.worksteps.specs.FlatSteps.{noNode}
-use Rattle.worksteps.proofs.Events.{pending-total}
 use Rattle.print.specs.Printed.{headText, nodeText, resultText, texts, nodeOf, resultOf}
 use Rattle.valid.specs.Values.{sessionOf}
 use Rattle.state.specs.State.{held}
@@ -71,7 +70,7 @@ nodes-counted : (ss : List Station) → length (nodesOf ss) ≡ length (graphOf 
 nodes-counted ss = sym (length-reverse (nodesOf ss)) ∙ ap length (graph-reversed ss)
 
 pending-counted : (s : Session) → length (queued (flat s .queue)) ≡ length (pending s)
-pending-counted s = sym (total-one (queued (flat s .queue))) ∙ pending-total one s ∙ total-one (pending s)
+pending-counted s = sym (total-one (queued (flat s .queue))) ∙ pending-same one s ∙ total-one (pending s)
 
 listing-flat : (s : Session) → flatListing (flat s) ≡ listingOf s
 listing-flat s =

@@ -6,8 +6,7 @@ use mathlib.Core.Bool.{cond}
 use mathlib.Core.List.{List, _++_, map, reverse}
 use lib.ListN.{length}
 use Rattle.graph.specs.Sessions.{Session, graphOf, pending}
-use Rattle.queue.specs.Flat.{Flat}
-use Rattle.worksteps.specs.FlatEvents.{queued}
+use Rattle.queue.specs.Flat.{Flat, queued}
 use Rattle.print.specs.Printed.{headText, nodeText, resultText, nodeOf, resultOf, texts, listingText}
 use Rattle.listing.specs.declared.rows.Row.{Row}
 

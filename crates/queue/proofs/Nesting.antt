@@ -99,7 +99,7 @@ gather-flat (s ∷ ss) N acc A K h =
     (λ j lo hi. no-append (atPlace j) (tagUnits k (s .units)) A (no-units k j (s .units) (ne-eqb k j (λ e. omega (arith, K .0)))) (h j lo (omega arith)))
     ∙ (λ i. gather N (station (s .node) ((ap group (up-units k (s .units) A a) ∙ group-units k (s .units) (K .1 .0)) i) ∷ (ss ++ acc)) (from-units k (s .units) A a i))
 
-pub calls-waits : (cs : List Labelled) → calls (waiting cs) ≡ cs
+calls-waits : (cs : List Labelled) → calls (waiting cs) ≡ cs
 calls-waits [] = refl
 calls-waits (c ∷ cs) = ap (λ (x : List Labelled). c ∷ x) (calls-waits cs)
 

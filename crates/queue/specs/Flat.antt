@@ -11,7 +11,7 @@ use Rattle.graph.specs.declared.act.Act.the-variants.{Sum}
 use Rattle.graph.specs.KeyLists.{isNil}
 use Rattle.graph.specs.Nodes.{Node, Op, Result}
 use Rattle.graph.specs.OneAtATime.{Labelled, addOf, opOf}
-use Rattle.graph.specs.Sessions.{Station, station, Session}
+use Rattle.graph.specs.Sessions.{Station, station, Session, labelsOfResults}
 
 -- an operation of the queue: its station's key (65 in the top stream), whether it opens a unit, and what it is
 pub record Tagged : Type 0 where
@@ -154,3 +154,24 @@ Full (u ∷ us) = (isNil u ≡ false) × Full us
 abbrev pub Keyed : List Station → Type 0
 Keyed [] = Unit {0}
 Keyed (s ∷ ss) = (s .node .key ≡ suc (length ss)) × (Full (s .units) × Keyed ss)
+
+-- LABELS AND ADDS that wait in a queue
+abbrev pub labelsIn : Labelled → List ℕ
+labelsIn (addOf l v) = l ∷ []
+labelsIn (opOf o) = o .labels
+
+abbrev pub queued : List Tagged → List ℕ
+queued [] = []
+queued (x ∷ xs) = labelsIn (x .call) ++ queued xs
+
+abbrev pub addIn : Labelled → ℕ
+addIn (addOf l v) = 1
+addIn (opOf o) = 0
+
+abbrev pub addsQueued : List Tagged → ℕ
+addsQueued [] = 0
+addsQueued (x ∷ xs) = addIn (x .call) + addsQueued xs
+
+-- the live labels
+abbrev pub liveIn : Flat → List ℕ
+liveIn f = queued (f .queue) ++ labelsOfResults (f .results)

@@ -8,7 +8,7 @@ use mathlib.Core.List.{List, [], _∷_, _++_, append-nil}
 use lib.Dec.{leb}
 use lib.IntN.{pos}
 use lib.ListN.{length}
-use Rattle.graph.specs.Refusals.{Answer, refused, done}
+use Rattle.graph.specs.Refusals.{Answer, refused, done, andThen}
 use Rattle.graph.specs.KeyLists.{areKeys}
 use Rattle.graph.specs.Calls.{Call}
 use Rattle.graph.specs.Nodes.{Result}
@@ -18,7 +18,7 @@ use Rattle.graph.specs.Steps as graph
 use Rattle.graph.specs.Acceptance.{accept, callTests, accepted, Claimed, keeping}
 use Rattle.graph.specs.Acceptance as acceptance
 use Rattle.graph.specs.Drain.{drain}
-use Rattle.graph.specs.Runs.{Event, calls, steps, drains, claims, Run, onCall, onStep, onClaim, event, events, andThen}
+use Rattle.graph.specs.Runs.{Event, calls, steps, drains, claims, Run, onCall, onStep, onClaim, event, events}
 use Rattle.graph.specs.Valid.{Valid}
 use Rattle.graph.proofs.Answers.{Holds, holds-at}
 use Rattle.graph.proofs.Validity.{ValidClaim, step-valid, accept-valid, claim-valid, Fine, claim-fine}

@@ -11,14 +11,14 @@ use lib.Dec.{eqb, leb}
 use lib.IntN.{pos}
 use lib.ListN.{length, length-append}
 use borrow.Author.Tests.{lt-ltb, le-leb, eqb-true, eq-eqb, ne-eqb}
-use Rattle.graph.specs.Refusals.{Answer, refused, done, mapDone, unless}
+use Rattle.graph.specs.Refusals.{Answer, refused, done, mapDone, andThen, unless}
 use Rattle.graph.specs.KeyLists.{areKeys, contains}
 use Rattle.graph.specs.Calls.{areWords}
 use Rattle.graph.specs.Nodes.{Result}
 use Rattle.graph.specs.Sessions.{Station, Session, pending}
 use Rattle.graph.specs.Steps.{Step, admit, realise, move, finish, join, split, swap, fuse, Change, behind, at, step}
 use Rattle.graph.specs.Acceptance.{Claimed, takeResult, claim}
-use Rattle.graph.specs.Runs.{workSteps, andThen, stepAll, find}
+use Rattle.graph.specs.Runs.{workSteps, stepAll, find}
 use Rattle.graph.specs.Valid.{KeysFall, Valid}
 use Rattle.graph.proofs.Answers.{isDone, isDone-map, and-both}
 use Rattle.graph.proofs.Effects.{costs}

@@ -6,11 +6,10 @@ use mathlib.Core.Bool.{Bool, true, false, cond, true≢false}
 use mathlib.Core.List.{List, [], _∷_}
 use lib.Dec.{leb}
 use lib.ListN.{length}
-use Rattle.graph.specs.Refusals.{Answer, refused, done, unless}
+use Rattle.graph.specs.Refusals.{Answer, refused, done, andThen, unless}
 use Rattle.graph.specs.Sessions.{Session}
 use Rattle.graph.specs.Steps.{Step, step}
 use Rattle.graph.specs.Acceptance.{accept, Claimed, claim}
-use Rattle.graph.specs.Runs.{andThen}
 use Rattle.lines.specs.Forms.{StepForm, work, drain as drains}
 use Rattle.lines.specs.Answers.{stepFormTests}
 use Rattle.panel.specs.declared.tally.Tally.{Tally}

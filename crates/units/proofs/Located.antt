@@ -8,14 +8,14 @@ use mathlib.Core.List.{List}
 use lib.Dec.{eqb, ltb}
 use lib.ListN.{length, getD, drop, length-drop}
 use borrow.Author.Tests.{ltb-true, ltb-false, eq-eqb, ne-eqb}
-use Rattle.graph.specs.Refusals.{Answer, refused, done, mapDone}
+use Rattle.graph.specs.Refusals.{Answer, refused, done, mapDone, andThen}
 use Rattle.graph.proofs.Answers.{Holds, refuses, holds, holds-cond, holds-at, by-bool}
 use Rattle.queue.specs.Flat.{Tagged, Flat, find, breaks, atPlace, isAt, endOf}
 use Rattle.queue.proofs.Places.{find-within}
 use Rattle.worksteps.specs.FlatSteps.{noOp, unitStart, unitFrom, headUnit, withNext, neighbours, onQueue, atKey, withQueue, known}
 use Rattle.worksteps.proofs.Facts.{here-past}
 use Rattle.units.specs.declared.Spot.{Spot}
-use Rattle.units.specs.Numbered.{andThen, Span, locate, alone, locateTwo, spotted}
+use Rattle.units.specs.Numbered.{Span, locate, alone, locateTwo, spotted}
 
 -- WHERE A UNIT STARTS: one turn of the loop
 module _ (k : ℕ) (q : List Tagged) where

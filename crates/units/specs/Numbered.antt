@@ -4,15 +4,10 @@ use Prim.Native.Nat.{ℕ, suc}
 use mathlib.Core.Bool.{cond, _&&_}
 use mathlib.Core.List.{List}
 use lib.Dec.{eqb}
-use Rattle.graph.specs.Refusals.{Answer, refused, done}
+use Rattle.graph.specs.Refusals.{Answer, refused, done, andThen}
 use Rattle.queue.specs.Flat.{Tagged, Flat, find, atPlace, isAt, endOf}
 use Rattle.worksteps.specs.FlatSteps.{unitStart, known}
 use Rattle.units.specs.declared.Spot.{Spot}
-
-module _ {A B : Type 0} where
-  abbrev pub andThen : Answer A → (A → Answer B) → Answer B
-  andThen (refused r) f = refused r
-  andThen (done a) f = f a
 
 -- where a unit starts, and where it ends: where the next one starts, if there is one
 pub record Span : Type 0 where

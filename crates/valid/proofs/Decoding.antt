@@ -17,7 +17,7 @@ use Rattle.graph.specs.OneAtATime.{Labelled, addOf, opOf}
 use Rattle.graph.specs.Valid.{Each, Key, ValidTargets, ValidNode, ValidAct, ValidHeld, mostLabels, ValidOp, ValidCall, ValidResult}
 use Rattle.graph.proofs.Answers.{and-left, and-right, by-bool}
 use Rattle.graph.proofs.KeyLaws.{listed-packed}
-use Rattle.queue.specs.Flat.{placed, follows}
+use Rattle.queue.specs.Flat.{placed, follows, labelsIn}
 use Rattle.records.specs.declared.node.NodeRecord.{NodeRecord}
 use Rattle.records.specs.declared.op.OpRecord.{OpRecord}
 use Rattle.records.specs.declared.result.ResultRecord.{ResultRecord}
@@ -184,10 +184,6 @@ one-label (x ∷ xs) n e h = ap (λ (k : ℕ). take k (x ∷ xs)) (sym e)
 no-keys : (ks : List ℕ) (n : ℕ) → n ≡ 0 → [] ≡ take n ks
 no-keys ks n e = ap (λ (k : ℕ). take k ks) (sym e)
 
-abbrev pub labelsOfCall : Labelled → List ℕ
-labelsOfCall (addOf l v) = l ∷ []
-labelsOfCall (opOf o) = o .labels
-
 module _ (n prev : ℕ) (o : OpRecord) (fit : FitOp o) (e : opOk n prev o ≡ true) where
   facts : OpFacts n prev o
   facts = op-facts n prev o e
@@ -253,7 +249,7 @@ module _ (n prev : ℕ) (o : OpRecord) (fit : FitOp o) (e : opOk n prev o ≡ tr
       (λ q. rw q (made _ (listed (o .targets)) (labelsOf (o .labels)) (agood (eqb-false (o .kind) 0 q) .same)
       (keys-packed true (o .targets) (fit .targets) (facts .targets)) (labels-packed (mostOf (o .kind)) (most-four (o .kind)) (o .labels) (fit .labels) (facts .labels))))
 
-  pub op-labels-same : labelsOfCall (callOf o) ≡ labelsOf (o .labels)
+  pub op-labels-same : labelsIn (callOf o) ≡ labelsOf (o .labels)
   op-labels-same = by-bool (eqb (o .kind) 0) (λ q. rw q (one-label (o .labels .label) (o .labels .count) (one-count q) (omega (arith, fit .labels .places)))) (λ q. rw q)
 
 -- and back: the fields of an act
@@ -303,7 +299,7 @@ labels-fit ls h s =
 pub record RecordGood (p : ℕ) (b : Bool) (c : Labelled) : Type 0 where
   pub back : taggedOf (callRecord p b c) ≡ record { place = p; opens = b; call = c }
   pub facts : (n prev : ℕ) → placed n (taggedOf (callRecord p b c)) ≡ true → follows prev (taggedOf (callRecord p b c)) ≡ true → OpFacts n prev (callRecord p b c)
-  pub fit : Small (labelsOfCall c) → FitOp (callRecord p b c)
+  pub fit : Small (labelsIn c) → FitOp (callRecord p b c)
 
 flag-back : (b : Bool) → eqb (cond b 1 0) 1 ≡ b
 flag-back true = refl

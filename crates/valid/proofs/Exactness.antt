@@ -12,12 +12,12 @@ use borrow.Author.Tests.{leb-true, le-leb, lt-ltb, ltb-true}
 use Rattle.graph.specs.KeyLists.{above, rising}
 use Rattle.graph.specs.Nodes.{Node, Result}
 use Rattle.graph.specs.OneAtATime.{Labelled, addOf, opOf}
-use Rattle.graph.specs.Sessions.{Session, addsIn, labelsOfCalls, labelsOfResults}
+use Rattle.graph.specs.Sessions.{Session, labelsOfResults}
 use Rattle.graph.specs.Valid.{Each, ValidNode, ValidCall, ValidResult, Given, Valid}
 use Rattle.graph.proofs.Answers.{and-left, and-right, by-bool}
 use Rattle.graph.proofs.Labels.{length-labels}
 use Rattle.graph.proofs.Limits.{each-left, each-right, rising-above, each-at}
-use Rattle.queue.specs.Flat.{Tagged, Flat, flat, nest, calls, ordered, placed, follows}
+use Rattle.queue.specs.Flat.{Tagged, Flat, flat, nest, ordered, placed, follows, labelsIn, queued, addsQueued, liveIn}
 use Rattle.queue.proofs.Nesting.{KeysUp, Formed, flat-nest, nest-flat, keyed-nest, order-line, keyed-stations}
 use Rattle.records.specs.Bytes.{chunk, tab}
 use Rattle.records.specs.declared.node.NodeRecord.{NodeRecord}
@@ -28,11 +28,11 @@ use Rattle.image.specs.Layout.{Region, place, recordAt, listedIn, blank, Sound,
 use Rattle.image.proofs.Parts.{next-place}
 use Rattle.image.proofs.Regions.{count-of}
 use Rattle.image.proofs.Whole.{chunk-bytes, image-is, Fit, view-is, image-sound, image-canonical}
-use Rattle.valid.specs.Values.{nodeOf, nodeRecord, resultOf, resultRecord, callOf, taggedOf, taggedRecord, flatOf, viewOf, encode, sessionOf}
+use Rattle.valid.specs.Values.{nodeOf, nodeRecord, resultOf, resultRecord, taggedOf, taggedRecord, flatOf, viewOf, encode, sessionOf}
 use Rattle.valid.specs.Exact.{Exact}
 use Rattle.valid.specs.Tests.{walk, nodeOk, opOk, resultOk, nodesOk, opsOk, resultsOk, addsAmong, opLabels, resultLabels, liveLabels, givenOnce}
-use Rattle.valid.proofs.Decoding.{node-key, node-valid, node-there, node-ok, node-back, node-fit, result-over, result-valid, result-there, result-ok, result-back, result-fit, op-facts, op-passes, call-valid, op-there, op-labels-same, RecordGood, record-good, labelsOfCall, Small}
-use Rattle.valid.proofs.Counting.{Fresh, fresh-of, fresh-ok, labels-cons, liveFlat}
+use Rattle.valid.proofs.Decoding.{node-key, node-valid, node-there, node-ok, node-back, node-fit, result-over, result-valid, result-there, result-ok, result-back, result-fit, op-facts, op-passes, call-valid, op-there, op-labels-same, RecordGood, record-good, Small}
+use Rattle.valid.proofs.Counting.{Fresh, fresh-of, fresh-ok}
 use Rattle.valid.proofs.Facts.{ValidTagged, FlatValid, flat-valid, valid-flat}
 
 -- the tests of what an image shows, one by one
@@ -128,17 +128,16 @@ ops-pass n prev (x ∷ xs) e v =
     (ops-pass n (x .place) xs (and-right (placed n x && follows prev x) _ e) (v .1)))
 
 -- adds and labels, of records and of what they stand for
-adds-of : (os : List OpRecord) → addsAmong os ≡ addsIn (calls (map taggedOf os))
+adds-of : (os : List OpRecord) → addsAmong os ≡ addsQueued (map taggedOf os)
 unfolding addsAmong
 adds-of [] = refl
 adds-of (o ∷ os) = by-bool (eqb (o .kind) 0) (λ q. rw q (ap (λ (k : ℕ). 1 + k) (adds-of os) ∙ omega arith)) (λ q. rw q (omega (arith, adds-of os)))
 
-labels-of : (n prev : ℕ) (os : List OpRecord) → Each FitOp os → walk (opOk n) (λ p o. o .station) prev os ≡ true → opLabels os ≡ labelsOfCalls (calls (map taggedOf os))
+labels-of : (n prev : ℕ) (os : List OpRecord) → Each FitOp os → walk (opOk n) (λ p o. o .station) prev os ≡ true → opLabels os ≡ queued (map taggedOf os)
 unfolding walk opLabels
 labels-of n prev [] a e = refl
 labels-of n prev (o ∷ os) a e =
     ap₂ _++_ (sym (op-labels-same n prev o (a .0) (and-left _ _ e))) (labels-of n (o .station) os (a .1) (and-right (opOk n prev o) _ e))
-    ∙ sym (labels-cons (callOf o) (calls (map taggedOf os)))
 
 result-labels-of : (rs : List ResultRecord) → resultLabels rs ≡ labelsOfResults (map resultOf rs)
 unfolding resultLabels
@@ -170,7 +169,7 @@ module _ (s : List ℕ) (y : Bytes s) (p : Passes s) where
   same-count : length (map nodeOf (view s .nodes)) ≡ length (view s .nodes)
   same-count = length-map (view s .nodes) nodeOf
 
-  live-of : liveLabels (view s) ≡ liveFlat (flatOf (view s))
+  live-of : liveLabels (view s) ≡ liveIn (flatOf (view s))
   live-of = ap₂ _++_ (labels-of (length (view s .nodes)) 0 (view s .ops) ops-fit (p .shown .ops)) (result-labels-of (view s .results))
 
   pub shown-valid : FlatValid (flatOf (view s))
@@ -218,11 +217,10 @@ small-each last h [] g = tt
 small-each last h (l ∷ ls) g = (omega (arith, g .0 .1), small-each last h ls (g .1))
 
 -- the labels of each call of a queue fit
-queue-small : (q : List Tagged) → Small (labelsOfCalls (calls q)) → Each (λ x. Small (labelsOfCall (x .call))) q
+queue-small : (q : List Tagged) → Small (queued q) → Each (λ x. Small (labelsIn (x .call))) q
 queue-small [] s = tt
 queue-small (x ∷ xs) s =
-    let t : Small (labelsOfCall (x .call) ++ labelsOfCalls (calls xs)) = subst Small (labels-cons (x .call) (calls xs)) s in
-    (each-left (λ l. l < 2 ^ 16) (labelsOfCall (x .call)) (labelsOfCalls (calls xs)) t, queue-small xs (each-right (λ l. l < 2 ^ 16) (labelsOfCall (x .call)) (labelsOfCalls (calls xs)) t))
+    (each-left (λ l. l < 2 ^ 16) (labelsIn (x .call)) (queued xs) s, queue-small xs (each-right (λ l. l < 2 ^ 16) (labelsIn (x .call)) (queued xs) s))
 
 both : {A : Type 0} (P Q : A → Type 0) (xs : List A) → Each P xs → Each Q xs → Each (λ x. P x × Q x) xs
 both P Q [] p q = tt
@@ -233,27 +231,27 @@ results-small [] s = tt
 results-small (r ∷ rs) s = (s .0, results-small rs (s .1))
 
 -- each call has a label
-named : (c : Labelled) → ValidCall c → 1 ≤ length (labelsOfCall c)
+named : (c : Labelled) → ValidCall c → 1 ≤ length (labelsIn c)
 named (addOf l v) h = omega arith
 named (opOf o) h = h .named
 
-queue-few : (q : List Tagged) → Each ValidTagged q → length q ≤ length (labelsOfCalls (calls q))
+queue-few : (q : List Tagged) → Each ValidTagged q → length q ≤ length (queued q)
 queue-few [] v = omega arith
 queue-few (x ∷ xs) v =
-    omega (arith, ap length (labels-cons (x .call) (calls xs)), length-append (labelsOfCall (x .call)) (labelsOfCalls (calls xs)), named (x .call) (v .0), queue-few xs (v .1))
+    omega (arith, length-append (labelsIn (x .call)) (queued xs), named (x .call) (v .0), queue-few xs (v .1))
 
 module _ (f : Flat) (v : FlatValid f) where
-  small : Small (liveFlat f)
-  small = small-each (f .last) (v .labels) (liveFlat f) (v .fresh .given)
+  small : Small (liveIn f)
+  small = small-each (f .last) (v .labels) (liveIn f) (v .fresh .given)
 
-  calls-small : Each (λ x. ValidTagged x × Small (labelsOfCall (x .call))) (f .queue)
-  calls-small = both ValidTagged (λ x. Small (labelsOfCall (x .call))) (f .queue) (v .queue) (queue-small (f .queue) (each-left (λ l. l < 2 ^ 16) (labelsOfCalls (calls (f .queue))) (labelsOfResults (f .results)) small))
+  calls-small : Each (λ x. ValidTagged x × Small (labelsIn (x .call))) (f .queue)
+  calls-small = both ValidTagged (λ x. Small (labelsIn (x .call))) (f .queue) (v .queue) (queue-small (f .queue) (each-left (λ l. l < 2 ^ 16) (queued (f .queue)) (labelsOfResults (f .results)) small))
 
   results-valid : Each (λ r. ValidResult r × (r .label < 2 ^ 16)) (f .results)
-  results-valid = both ValidResult (λ r. r .label < 2 ^ 16) (f .results) (v .results) (results-small (f .results) (each-right (λ l. l < 2 ^ 16) (labelsOfCalls (calls (f .queue))) (labelsOfResults (f .results)) small))
+  results-valid = both ValidResult (λ r. r .label < 2 ^ 16) (f .results) (v .results) (results-small (f .results) (each-right (λ l. l < 2 ^ 16) (queued (f .queue)) (labelsOfResults (f .results)) small))
 
-  both-lists : length (liveFlat f) ≡ length (labelsOfCalls (calls (f .queue))) + length (labelsOfResults (f .results))
-  both-lists = length-append (labelsOfCalls (calls (f .queue))) (labelsOfResults (f .results))
+  both-lists : length (liveIn f) ≡ length (queued (f .queue)) + length (labelsOfResults (f .results))
+  both-lists = length-append (queued (f .queue)) (labelsOfResults (f .results))
 
   pub back : flatOf (viewOf f) ≡ f
   back =
@@ -274,7 +272,7 @@ module _ (f : Flat) (v : FlatValid f) where
         few-results = omega (arith, length-map (f .results) resultRecord, length-labels (f .results), both-lists, v .places);
         nodes = each-at FitNode (map nodeRecord (f .nodes)) (blank nodeRegion) (map-each nodeRecord ValidNode FitNode (λ n h. node-fit n h) (f .nodes) (v .nodes));
         ops = each-at FitOp (map taggedRecord (f .queue)) (blank opRegion)
-            (map-each taggedRecord (λ x. ValidTagged x × Small (labelsOfCall (x .call))) FitOp (λ x h. record-good (x .place) (x .opens) (x .call) (h .0) .fit (h .1)) (f .queue) calls-small);
+            (map-each taggedRecord (λ x. ValidTagged x × Small (labelsIn (x .call))) FitOp (λ x h. record-good (x .place) (x .opens) (x .call) (h .0) .fit (h .1)) (f .queue) calls-small);
         results = each-at FitResult (map resultRecord (f .results)) (blank resultRegion)
             (map-each resultRecord (λ r. ValidResult r × (r .label < 2 ^ 16)) FitResult (λ r h. result-fit r (h .0) (h .1)) (f .results) results-valid);
       }
@@ -286,21 +284,21 @@ module _ (f : Flat) (v : FlatValid f) where
   ops-ok = subst (λ (k : ℕ). opsOk k (map taggedRecord (f .queue)) ≡ true) (sym nodes-length) (ops-pass (length (f .nodes)) 0 (f .queue) (v .order) (v .queue))
 
   ops-each : Each FitOp (map taggedRecord (f .queue))
-  ops-each = map-each taggedRecord (λ x. ValidTagged x × Small (labelsOfCall (x .call))) FitOp (λ x h. record-good (x .place) (x .opens) (x .call) (h .0) .fit (h .1)) (f .queue) calls-small
+  ops-each = map-each taggedRecord (λ x. ValidTagged x × Small (labelsIn (x .call))) FitOp (λ x h. record-good (x .place) (x .opens) (x .call) (h .0) .fit (h .1)) (f .queue) calls-small
 
-  live-back : liveLabels (viewOf f) ≡ liveFlat f
+  live-back : liveLabels (viewOf f) ≡ liveIn f
   live-back =
       ap₂ _++_ (labels-of (length (map nodeRecord (f .nodes))) 0 (map taggedRecord (f .queue)) ops-each ops-ok) (result-labels-of (map resultRecord (f .results)))
-      ∙ ap liveFlat back
+      ∙ ap liveIn back
 
   pub view-passes : Tested (viewOf f)
   view-passes =
       record {
         nodes = nodes-pass 0 (f .nodes) (v .keys) (v .nodes);
         ops = ops-ok;
-        results = results-pass 0 (f .results) (above-of (f .last) (labelsOfResults (f .results)) (each-right (Given (f .last)) (labelsOfCalls (calls (f .queue))) (labelsOfResults (f .results)) (v .fresh .given)) (v .rise)) (v .results);
-        room = omega (arith, v .room, nodes-length, adds-of (map taggedRecord (f .queue)), ap (λ (g : Flat). addsIn (calls (g .queue))) back);
-        live = rw (live-back, le-leb (length (liveFlat f)) 64 (v .places)) (fresh-ok (f .last) (liveFlat f) (v .fresh));
+        results = results-pass 0 (f .results) (above-of (f .last) (labelsOfResults (f .results)) (each-right (Given (f .last)) (queued (f .queue)) (labelsOfResults (f .results)) (v .fresh .given)) (v .rise)) (v .results);
+        room = omega (arith, v .room, nodes-length, adds-of (map taggedRecord (f .queue)), ap (λ (g : Flat). addsQueued (g .queue)) back);
+        live = rw (live-back, le-leb (length (liveIn f)) 64 (v .places)) (fresh-ok (f .last) (liveIn f) (v .fresh));
       }
 
 module _ (x : Session) (h : Valid x) where

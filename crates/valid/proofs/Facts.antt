@@ -1,6 +1,6 @@
 -- A session is valid exactly where its flat view is.
 -- Assumes nothing.
-use mathlib.Core.Path.{_≡_, sym}
+use mathlib.Core.Path.{_≡_, sym, _∙_}
 use Prim.Native.Nat.{ℕ, _+_, _≤_}
 use native.Mathlib.Omega.{arith}
 use mathlib.Core.Bool.{Bool, true, false, true≢false}
@@ -9,14 +9,16 @@ use lib.ListN.{length}
 use Rattle.graph.specs.KeyLists.{isNil, rising}
 use Rattle.graph.specs.Nodes.{Op}
 use Rattle.graph.specs.OneAtATime.{Labelled}
-use Rattle.graph.specs.Sessions.{Station, Session, live, addsIn, labelsOfResults}
-use Rattle.graph.specs.Valid.{Each, ValidNode, ValidOp, ValidUnit, ValidStation, ValidCall, ValidResult, KeysFall, Given, Valid}
+use Rattle.graph.specs.Sessions.{Station, Session, live, labelsOfResults}
+use Rattle.graph.specs.Valid.{Each, ValidNode, ValidOp, ValidUnit, ValidStation, ValidCall, ValidResult, KeysFall, Valid}
+use Rattle.graph.proofs.Labels.{stray, given-stray, stray-given}
 use Rattle.graph.proofs.Limits.{each-append, each-left, each-right}
-use Rattle.queue.specs.Flat.{Tagged, Flat, tagUnit, tagUnits, queueOf, nodesOf, waiting, flat, calls, ordered, Full, Keyed}
+use Rattle.queue.specs.Flat.{Tagged, Flat, tagUnit, tagUnits, queueOf, nodesOf, waiting, flat, ordered, Full, Keyed, addsQueued, liveIn}
 use Rattle.queue.proofs.Places.{length-nodes}
 use Rattle.queue.proofs.Elements.{each-queued}
+use Rattle.queue.proofs.Labels.{live-same, live-count, live-length, adds-same}
 use Rattle.queue.proofs.Nesting.{KeysUp, Formed, formed-flat, line-order, keyed-stations}
-use Rattle.valid.proofs.Counting.{each-count, count-each, Fresh, liveFlat, live-count, live-length, adds-same}
+use Rattle.valid.proofs.Counting.{Fresh}
 
 abbrev pub ValidTagged : Tagged → Type 0
 ValidTagged x = ValidCall (x .call)
@@ -27,10 +29,10 @@ pub record FlatValid (f : Flat) : Type 0 where
   pub order : ordered (length (f .nodes)) 0 (f .queue) ≡ true
   pub queue : Each ValidTagged (f .queue)
   pub results : Each ValidResult (f .results)
-  pub room : length (f .nodes) + addsIn (calls (f .queue)) ≤ 64
+  pub room : length (f .nodes) + addsQueued (f .queue) ≤ 64
   pub rise : rising (labelsOfResults (f .results)) ≡ true
-  pub fresh : Fresh (f .last) (liveFlat f)
-  pub places : length (liveFlat f) ≤ 64
+  pub fresh : Fresh (f .last) (liveIn f)
+  pub places : length (liveIn f) ≤ 64
   pub labels : f .last ≤ 65535
 
 -- FROM NESTED TO FLAT
@@ -53,7 +55,7 @@ flat-valid s v =
       room = omega (arith, v .room, adds-same s);
       rise = v .order;
       fresh = record {
-        given = count-each (Given (s .last)) (liveFlat (flat s)) (λ l h. each-count (Given (s .last)) (live s) (v .given) l (omega (arith, live-count l s)));
+        given = stray-given (s .last) (liveIn (flat s)) (live-same (stray (s .last)) s ∙ given-stray (s .last) (live s) (v .given));
         once = λ l. omega (arith, live-count l s, v .once l);
       };
       places = omega (arith, live-length s, v .places);
@@ -104,7 +106,7 @@ valid-flat s K f =
       results = f .results;
       room = omega (arith, f .room, adds-same s, length-nodes (s .stations));
       order = f .rise;
-      given = count-each (Given (s .last)) (live s) (λ l h. each-count (Given (s .last)) (liveFlat (flat s)) (f .fresh .given) l (omega (arith, live-count l s)));
+      given = stray-given (s .last) (live s) (sym (live-same (stray (s .last)) s) ∙ given-stray (s .last) (liveIn (flat s)) (f .fresh .given));
       once = λ l. omega (arith, live-count l s, f .fresh .once l);
       places = omega (arith, live-length s, f .places);
       labels = f .labels;

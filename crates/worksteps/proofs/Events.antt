@@ -1,6 +1,6 @@
 -- Acceptance, claims and drain, flat and nested.
 -- Assumes nothing.
-use mathlib.Core.Path.{_≡_, refl, sym, _∙_, ap, ap₂}
+use mathlib.Core.Path.{_≡_, refl, sym, _∙_, ap}
 use Prim.Native.Nat.{ℕ, suc, _+_, _≤_}
 use native.Mathlib.Omega.{arith}
 use mathlib.Core.Bool.{Bool, true, false, cond, _&&_, _||_, true≢false}
@@ -12,20 +12,20 @@ use borrow.Author.Tests.{ne-eqb, lt-ltb}
 use Rattle.graph.specs.Refusals.{Answer, refused, done, mapDone, Test, unless}
 use Rattle.graph.specs.KeyLists.{contains}
 use Rattle.graph.specs.Calls.{Call, isAdd, formTests}
-use Rattle.graph.specs.Nodes.{Op, Result}
-use Rattle.graph.specs.OneAtATime.{Labelled, addOf, opOf, labelled}
-use Rattle.graph.specs.Sessions.{Station, Session, labelsOfUnit, labelsOfUnits, labelsOfStations, labelsOfCalls, labelsOfResults, pending, live, addsIn}
+use Rattle.graph.specs.Nodes.{Op}
+use Rattle.graph.specs.OneAtATime.{Labelled, labelled}
+use Rattle.graph.specs.Sessions.{Station, Session, labelsOfResults, pending, live, addsIn}
 use Rattle.graph.specs.Steps.{Step, admit, realise, move, finish, step}
 use Rattle.graph.specs.Acceptance.{roomTests, callTests, accepted, accept, takeResult, claim}
 use Rattle.graph.specs.Drain.{orHere, backmost, Taken, taking, orElse, drainStepAt, drainStep}
 use Rattle.graph.specs.Valid.{count, Valid}
-use Rattle.graph.proofs.Outcome.{sum}
-use Rattle.graph.proofs.Labels.{total, byLabel, is, one, total-append, total-is, total-one, total-results}
-use Rattle.queue.specs.Flat.{Tagged, tagUnit, tagUnits, queueOf, nodesOf, waiting, flat, Full, Keyed}
+use Rattle.graph.proofs.Labels.{is, total-is, length-labels}
+use Rattle.queue.specs.Flat.{Tagged, tagUnits, queueOf, nodesOf, waiting, flat, Full, Keyed, queued, addsQueued}
 use Rattle.queue.proofs.Places.{length-nodes}
 use Rattle.queue.proofs.Nesting.{keyed-stations, flatSession}
+use Rattle.queue.proofs.Labels.{pending-same, live-length, adds-same}
 use Rattle.worksteps.specs.FlatSteps.{flatStep}
-use Rattle.worksteps.specs.FlatEvents.{labelsIn, queued, addsQueued, flatLive, flatTests, flatAccepted, flatAccept, flatClaim, firstPlace, FlatTaken, flatTaking, flatDrainStepAt, flatDrainStep}
+use Rattle.worksteps.specs.FlatEvents.{flatLive, flatTests, flatAccepted, flatAccept, flatClaim, firstPlace, FlatTaken, flatTaking, flatDrainStepAt, flatDrainStep}
 use Rattle.worksteps.proofs.Units.{step-bridge}
 
 -- a valid session has a flat view
@@ -38,37 +38,7 @@ valid-room s g = omega (arith, g .room)
 pub step-valid-flat : (t : Step) (s : Session) → Valid s → flatStep t (flat s) ≡ mapDone flat (step t s)
 step-valid-flat t s g = step-bridge t s (valid-keyed s g) (valid-room s g)
 
--- LABELS
-queued-append : (a b : List Tagged) → queued (a ++ b) ≡ queued a ++ queued b
-queued-append [] b = refl
-queued-append (x ∷ xs) b = ap (λ (z : List ℕ). labelsIn (x .call) ++ z) (queued-append xs b) ∙ sym (append-assoc (labelsIn (x .call)) (queued xs) (queued b))
-
-queued-unit : (k : ℕ) (b : Bool) (os : List Op) → queued (tagUnit k b os) ≡ labelsOfUnit os
-queued-unit k b [] = refl
-queued-unit k b (o ∷ os) = ap (λ (z : List ℕ). o .labels ++ z) (queued-unit k false os)
-
-queued-units : (k : ℕ) (us : List (List Op)) → queued (tagUnits k us) ≡ labelsOfUnits us
-queued-units k [] = refl
-queued-units k (u ∷ us) = queued-append (tagUnit k true u) (tagUnits k us) ∙ ap₂ (λ (y z : List ℕ). y ++ z) (queued-unit k true u) (queued-units k us)
-
-queued-waiting : (cs : List Labelled) → queued (waiting cs) ≡ labelsOfCalls cs
-queued-waiting [] = refl
-queued-waiting (addOf l v ∷ cs) = ap (λ (z : List ℕ). l ∷ z) (queued-waiting cs)
-queued-waiting (opOf o ∷ cs) = ap (λ (z : List ℕ). o .labels ++ z) (queued-waiting cs)
-
--- a sum over the labels: the queue has the stations in another order than `pending`
-queued-total : (v : ℕ → ℕ) (ss : List Station) (A : List Tagged) → total v (queued (queueOf ss ++ A)) ≡ total v (labelsOfStations ss) + total v (queued A)
-queued-total v [] A = omega arith
-queued-total v (s ∷ ss) A =
-    let k : ℕ = s .node .key in
-    ap (λ (z : List Tagged). total v (queued z)) (append-assoc (queueOf ss) (tagUnits k (s .units)) A)
-    ∙ queued-total v ss (tagUnits k (s .units) ++ A)
-    ∙ omega (arith, ap (total v) (queued-append (tagUnits k (s .units)) A), total-append v (queued (tagUnits k (s .units))) (queued A), ap (total v) (queued-units k (s .units)), total-append v (labelsOfUnits (s .units)) (labelsOfStations ss))
-
-pub pending-total : (v : ℕ → ℕ) (s : Session) → total v (queued (flat s .queue)) ≡ total v (pending s)
-pending-total v s =
-    omega (arith, queued-total v (s .stations) (waiting (s .topStream)), ap (total v) (queued-waiting (s .topStream)), total-append v (labelsOfStations (s .stations)) (labelsOfCalls (s .topStream)))
-
+-- LABELS AND ADDS
 contains-count : (l : ℕ) (xs : List ℕ) → contains l xs ≡ ltb 0 (count l xs)
 contains-count l [] = refl
 contains-count l (x ∷ xs) = go (eqb l x) (contains-count l xs)
@@ -77,51 +47,15 @@ contains-count l (x ∷ xs) = go (eqb l x) (contains-count l xs)
     go true e = sym (lt-ltb 0 (1 + count l xs) (omega arith))
     go false e = let z : count l xs ≡ 0 + count l xs = omega arith in e ∙ ap (ltb 0) z
 
-pub pending-same : (l : ℕ) (s : Session) → contains l (queued (flat s .queue)) ≡ contains l (pending s)
-pending-same l s =
-    contains-count l (queued (flat s .queue)) ∙ ap (ltb 0) (sym (total-is l (queued (flat s .queue))) ∙ pending-total (is l) s ∙ total-is l (pending s)) ∙ sym (contains-count l (pending s))
+pending-named : (l : ℕ) (s : Session) → contains l (queued (flat s .queue)) ≡ contains l (pending s)
+pending-named l s =
+    contains-count l (queued (flat s .queue)) ∙ ap (ltb 0) (sym (total-is l (queued (flat s .queue))) ∙ pending-same (is l) s ∙ total-is l (pending s)) ∙ sym (contains-count l (pending s))
 
-pub live-same : (s : Session) → flatLive (flat s) ≡ length (live s)
-live-same s =
-    omega (
-      arith,
-      pending-total one s,
-      total-one (queued (flat s .queue)),
-      total-one (pending s),
-      length-append (pending s) (labelsOfResults (s .results)),
-      total-one (labelsOfResults (s .results)),
-      total-results one (s .results),
-      sum-one (s .results),
-    )
-  where
-    sum-one : (rs : List Result) → sum (byLabel one) rs ≡ length rs
-    sum-one [] = refl
-    sum-one (r ∷ rs) = omega (arith, sum-one rs)
+live-many : (s : Session) → flatLive (flat s) ≡ length (live s)
+live-many s = omega (arith, live-length s, length-append (queued (flat s .queue)) (labelsOfResults (s .results)), length-labels (s .results))
 
--- ADDS
-adds-append : (a b : List Tagged) → addsQueued (a ++ b) ≡ addsQueued a + addsQueued b
-adds-append [] b = omega arith
-adds-append (x ∷ xs) b = omega (arith, adds-append xs b)
-
-adds-unit : (k : ℕ) (b : Bool) (os : List Op) → addsQueued (tagUnit k b os) ≡ 0
-adds-unit k b [] = refl
-adds-unit k b (o ∷ os) = omega (arith, adds-unit k false os)
-
-adds-units : (k : ℕ) (us : List (List Op)) → addsQueued (tagUnits k us) ≡ 0
-adds-units k [] = refl
-adds-units k (u ∷ us) = omega (arith, adds-append (tagUnit k true u) (tagUnits k us), adds-unit k true u, adds-units k us)
-
-adds-queue : (ss : List Station) → addsQueued (queueOf ss) ≡ 0
-adds-queue [] = refl
-adds-queue (s ∷ ss) = omega (arith, adds-append (queueOf ss) (tagUnits (s .node .key) (s .units)), adds-queue ss, adds-units (s .node .key) (s .units))
-
-adds-waiting : (cs : List Labelled) → addsQueued (waiting cs) ≡ addsIn cs
-adds-waiting [] = refl
-adds-waiting (addOf l v ∷ cs) = omega (arith, adds-waiting cs)
-adds-waiting (opOf o ∷ cs) = omega (arith, adds-waiting cs)
-
-adds-same : (s : Session) → length (flat s .nodes) + addsQueued (flat s .queue) ≡ length (s .stations) + addsIn (s .topStream)
-adds-same s = omega (arith, length-nodes (s .stations), adds-append (queueOf (s .stations)) (waiting (s .topStream)), adds-queue (s .stations), adds-waiting (s .topStream))
+keys-given : (s : Session) → length (flat s .nodes) + addsQueued (flat s .queue) ≡ length (s .stations) + addsIn (s .topStream)
+keys-given s = omega (arith, length-nodes (s .stations), adds-same s)
 
 -- CALLS
 waiting-append : (cs ds : List Labelled) → waiting (cs ++ ds) ≡ waiting cs ++ waiting ds
@@ -133,7 +67,7 @@ accepted-same c s i =
     flatSession (nodesOf (s .stations)) ((append-assoc (queueOf (s .stations)) (waiting (s .topStream)) (waiting (labelled c (suc (s .last)) ∷ [])) ∙ ap (λ (z : List Tagged). queueOf (s .stations) ++ z) (sym (waiting-append (s .topStream) (labelled c (suc (s .last)) ∷ [])))) i) (s .results) (suc (s .last))
 
 tests-same : (c : Call) (s : Session) → flatTests c (flat s) ≡ callTests c s
-tests-same c s i = formTests c ++ roomTests (isAdd c) (adds-same s i) (live-same s i) (s .last)
+tests-same c s i = formTests c ++ roomTests (isAdd c) (keys-given s i) (live-many s i) (s .last)
 
 unless-map : {A B : Type 0} (g : A → B) (ts : List Test) (a : A) → unless ts (g a) ≡ mapDone g (unless ts a)
 unless-map g [] a = refl
@@ -148,7 +82,7 @@ accept-bridge c s = (λ i. unless (tests-same c s i) (accepted-same c s i)) ∙ 
 
 -- CLAIMS
 pub claim-bridge : (l : ℕ) (s : Session) → flatClaim l (flat s) ≡ claim l s
-claim-bridge l s i = cond (leb 1 l && leb l (s .last)) (cond (pending-same l s i) (refused 31) (takeResult l (s .results))) (refused 30)
+claim-bridge l s i = cond (leb 1 l && leb l (s .last)) (cond (pending-named l s i) (refused 31) (takeResult l (s .results))) (refused 30)
 
 -- DRAIN
 abbrev or : Option ℕ → Option ℕ → Option ℕ

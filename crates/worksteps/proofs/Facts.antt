@@ -12,11 +12,10 @@ use Rattle.graph.specs.Sessions.{Session, labelsOfResults, pending, live}
 use Rattle.graph.specs.Valid.{ValidCall, Valid}
 use Rattle.graph.proofs.Labels.{total, one, total-append, total-one, length-labels}
 use Rattle.graph.proofs.Limits.{each-at}
-use Rattle.queue.specs.Flat.{Tagged, flat, isOp, find, here}
+use Rattle.queue.specs.Flat.{Tagged, flat, isOp, find, here, labelsIn, queued}
 use Rattle.queue.proofs.Elements.{each-queued}
+use Rattle.queue.proofs.Labels.{pending-same}
 use Rattle.worksteps.specs.FlatSteps.{noOp}
-use Rattle.worksteps.specs.FlatEvents.{labelsIn, queued}
-use Rattle.worksteps.proofs.Events.{pending-total}
 
 -- EACH OPERATION OF THE QUEUE
 -- in the top stream a valid call, elsewhere a valid operation
@@ -37,7 +36,7 @@ queued-at v (x ∷ xs) (suc i) h = omega (arith, total-append v (labelsIn (x .ca
 
 module _ (s : Session) (g : Valid s) (i : ℕ) (h : i < length (flat s .queue)) where
   labels-live : (v : ℕ → ℕ) → total v (labelsIn (getD (flat s .queue) i noOp .call)) + total v (labelsOfResults (s .results)) ≤ total v (live s)
-  labels-live v = omega (arith, queued-at v (flat s .queue) i h, pending-total v s, total-append v (pending s) (labelsOfResults (s .results)))
+  labels-live v = omega (arith, queued-at v (flat s .queue) i h, pending-same v s, total-append v (pending s) (labelsOfResults (s .results)))
 
   -- there is room for its results
   pub labels-room : length (s .results) + length (labelsIn (getD (flat s .queue) i noOp .call)) ≤ 64

@@ -9,29 +9,12 @@ use lib.ListN.{length}
 use Rattle.graph.specs.Refusals.{Answer, refused, mapDone, Test, unless}
 use Rattle.graph.specs.KeyLists.{contains}
 use Rattle.graph.specs.Calls.{Call, isAdd, formTests}
-use Rattle.graph.specs.OneAtATime.{Labelled, addOf, opOf, labelled}
+use Rattle.graph.specs.OneAtATime.{Labelled, labelled}
 use Rattle.graph.specs.Steps.{Step, admit, realise, move, finish}
 use Rattle.graph.specs.Acceptance.{roomTests, Claimed, takeResult}
 use Rattle.graph.specs.Drain.{orElse}
-use Rattle.queue.specs.Flat.{Tagged, Flat}
+use Rattle.queue.specs.Flat.{Tagged, Flat, queued, addsQueued}
 use Rattle.worksteps.specs.FlatSteps.{flatStep}
-
--- the labels that wait in the queue
-abbrev pub labelsIn : Labelled → List ℕ
-labelsIn (addOf l v) = l ∷ []
-labelsIn (opOf o) = o .labels
-
-abbrev pub queued : List Tagged → List ℕ
-queued [] = []
-queued (x ∷ xs) = labelsIn (x .call) ++ queued xs
-
-abbrev pub addIn : Labelled → ℕ
-addIn (addOf l v) = 1
-addIn (opOf o) = 0
-
-abbrev pub addsQueued : List Tagged → ℕ
-addsQueued [] = 0
-addsQueued (x ∷ xs) = addIn (x .call) + addsQueued xs
 
 abbrev pub flatLive : Flat → ℕ
 flatLive f = length (queued (f .queue)) + length (f .results)

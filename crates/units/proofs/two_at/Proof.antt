@@ -3,10 +3,10 @@
 use mathlib.Core.Path.{_≡_, refl, sym, ap, _∙_}
 use mathlib.Core.Bool.{true, false}
 use borrow.Author.Tests.{not-true, not-false}
-use Rattle.graph.specs.Refusals.{Answer, done}
+use Rattle.graph.specs.Refusals.{Answer, done, andThen}
 use Rattle.queue.specs.Flat.{isAt}
 use Rattle.state.specs.State.{held}
-use Rattle.units.specs.Numbered.{Span, andThen, alone, locate, spotted}
+use Rattle.units.specs.Numbered.{Span, alone, locate, spotted}
 use Rattle.units.proofs.Located.{at-within, stands, spanOf, spot-no, spot-yes, alone-past, alone-first, alone-second, alone-both}
 use native.Mathlib.Omega.{arith}
 use borrow.Author.Needs.{needs}

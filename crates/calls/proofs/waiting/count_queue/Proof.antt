@@ -4,7 +4,7 @@ use mathlib.Core.Path.{_≡_}
 use Prim.Native.Nat.{_+_, _*_, _≤_, _<_, _-_}
 use native.Mathlib.Omega.{arith}
 use lib.ListN.{length, drop}
-use Rattle.worksteps.specs.FlatEvents.{queued, addsQueued}
+use Rattle.queue.specs.Flat.{queued, addsQueued}
 use Rattle.state.specs.State.{held}
 use Rattle.calls.proofs.Loops.{labels-next, labels-end, adds-next, adds-end}
 use borrow.Author.Needs.{needs}

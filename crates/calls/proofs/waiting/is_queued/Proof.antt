@@ -5,7 +5,7 @@ use Prim.Native.Nat.{_≤_, _<_, _-_}
 use native.Mathlib.Omega.{arith}
 use lib.ListN.{length, drop}
 use Rattle.graph.specs.KeyLists.{contains}
-use Rattle.worksteps.specs.FlatEvents.{queued}
+use Rattle.queue.specs.Flat.{queued}
 use Rattle.state.specs.State.{held}
 use Rattle.calls.proofs.Loops.{names-hit, names-miss, names-end}
 use borrow.Author.Needs.{needs}
