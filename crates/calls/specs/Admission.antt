@@ -4,13 +4,14 @@ use mathlib.Core.Path.{_≡_}
 use Prim.Native.Nat.{ℕ}
 use mathlib.Core.List.{List}
 use lib.ListN.{length, getD}
+use Rattle.graph.specs.Lists.{removeAt}
 use Rattle.graph.specs.Nodes.{stored}
 use Rattle.graph.specs.Sessions.{store}
 use Rattle.queue.specs.Flat.{Tagged, Flat}
 use Rattle.records.specs.declared.labels.Labels.{Labels}
 use Rattle.valid.specs.Values.{labelsOf, packedLabels}
 use Rattle.worksteps.specs.FlatEvents.{queued, addsQueued}
-use Rattle.worksteps.specs.FlatSteps.{noOp, opIn, removeAt, admitCall}
+use Rattle.worksteps.specs.FlatSteps.{noOp, opIn, admitCall}
 use Rattle.state.specs.Operations.{Bounded}
 use Rattle.calls.specs.declared.waiting.Waiting.{Waiting}
 
