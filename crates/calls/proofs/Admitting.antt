@@ -7,6 +7,7 @@ use mathlib.Core.Bool.{Bool, true, cond, true≢false}
 use mathlib.Core.List.{List, [], _∷_, _++_}
 use lib.ListN.{length, getD}
 use borrow.Author.Tests.{eq-eqb, ne-eqb, lt-ltb, le-ltb}
+use Rattle.graph.specs.Lists.{removeAt}
 use Rattle.graph.specs.Nodes.{newNode, stored}
 use Rattle.graph.specs.OneAtATime.{Labelled, addOf, opOf}
 use Rattle.graph.specs.Refusals.{refused, done}
@@ -14,7 +15,7 @@ use Rattle.graph.specs.Sessions.{insert, store}
 use Rattle.graph.specs.Steps.{admit}
 use Rattle.queue.specs.Flat.{Flat, carried, isOp, find, atPlace}
 use Rattle.queue.proofs.Places.{find-within}
-use Rattle.worksteps.specs.FlatSteps.{alter, removeAt, noOp, moveTo, withQueue, finishPlace, admitCall, flatStep}
+use Rattle.worksteps.specs.FlatSteps.{alter, noOp, moveTo, withQueue, finishPlace, admitCall, flatStep}
 use Rattle.worksteps.proofs.Facts.{here-find}
 use Rattle.state.specs.Results.{resultWith}
 use Rattle.state.specs.State.{held, Shows, withNodes, withResults}

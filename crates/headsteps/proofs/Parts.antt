@@ -14,6 +14,7 @@ use Rattle.graph.specs.declared.act.Act.{Act}
 use Rattle.graph.specs.declared.keys.Keys.{Keys}
 use Rattle.graph.specs.declared.task.Task.{Task}
 use Rattle.graph.specs.declared.task.Task.the-variants.{Acts, Finishes, Passes}
+use Rattle.graph.specs.Lists.{removeAt}
 use Rattle.graph.specs.Acts.{isMap, newValue, newLinks, newHeld, answer}
 use Rattle.graph.specs.Nodes.{Node, Op, Result, actOn, actBy, resultsFor, stored}
 use Rattle.graph.specs.Tasks.{sameTask}
@@ -24,7 +25,7 @@ use Rattle.graph.proofs.AffineLaws.{map-of}
 use Rattle.graph.proofs.KeyLaws.{listed-packed}
 use Rattle.graph.proofs.Tasks.{acts-exactly, finishes-exactly, passes-exactly}
 use Rattle.queue.specs.Flat.{Tagged, Flat, flat, nest, carried, labelsIn}
-use Rattle.worksteps.specs.FlatSteps.{alter, removeAt, mapFrom, firstIn, noOp, noNode, openAs, withOp, withQueue, opIn, taskAt, ruleHolds, actAt, takeOut, finishPlace, handOn}
+use Rattle.worksteps.specs.FlatSteps.{alter, mapFrom, firstIn, noOp, noNode, openAs, withOp, withQueue, opIn, taskAt, ruleHolds, actAt, takeOut, finishPlace, handOn}
 use Rattle.worksteps.proofs.Turns.{first-stop, first-next, first-end, alter-length, mapFrom-none, mapFrom-next}
 use Rattle.worksteps.proofs.Facts.{labels-room}
 use Rattle.valid.specs.Values.{labelsOf}

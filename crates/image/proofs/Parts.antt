@@ -7,8 +7,9 @@ use native.Mathlib.Omega.{arith}
 use mathlib.Core.List.{List, _∷_, _++_}
 use lib.ListN.{length, getD, take, drop, length-append, length-take, length-drop, List·getD-append}
 use lib.Seq.{getD-take, getD-drop, getD-append-add, getD-append-seam, ext-getD, take-all, length-take-le}
-use Rattle.records.specs.Bytes.{chunk, splice}
-use Rattle.image.specs.Layout.{removeAt, insertAt}
+use Rattle.graph.specs.Lists.{removeAt}
+use Rattle.records.specs.Bytes.{chunk}
+use Rattle.image.specs.Layout.{insertAt}
 
 -- i records of a size, and one more, are at most n records
 pub next-place : (size i n : ℕ) → i < n → size * i + size ≤ size * n
@@ -36,39 +37,6 @@ chunk-is t bs b h e =
     chunk-same t bs b 0 (length bs) h (omega arith) (λ k l. e k l ∙ ap (λ (j : ℕ). getD bs j 0) (omega arith))
     ∙ take-all (length bs) bs (omega arith)
 
--- what stands in a list after bs was written over it
-module _ (s : List ℕ) (at : ℕ) (bs : List ℕ) (fits : at + length bs ≤ length s) where
-  front : length (take at s) ≡ at
-  front = length-take-le at s (omega arith)
-
-  pub length-splice : length (splice s at bs) ≡ length s
-  unfolding splice
-  length-splice = simp (length-append, length-take, length-drop) (omega arith)
-
-  pub splice-below : (i : ℕ) → i < at → getD (splice s at bs) i 0 ≡ getD s i 0
-  unfolding splice
-  splice-below i h =
-      let a : i < length (take at s) = omega (arith, front) in
-      let b : i < length (take at s ++ bs) = omega (arith, length-append (take at s) bs) in
-      List·getD-append (take at s ++ bs) (drop (at + length bs) s) 0 i b ∙ List·getD-append (take at s) bs 0 i a ∙ getD-take at s i 0 h
-
-  pub splice-in : (k : ℕ) → k < length bs → getD (splice s at bs) (at + k) 0 ≡ getD bs k 0
-  unfolding splice
-  splice-in k h =
-      let b : at + k < length (take at s ++ bs) = omega (arith, front, length-append (take at s) bs) in
-      List·getD-append (take at s ++ bs) (drop (at + length bs) s) 0 (at + k) b
-      ∙ ap (λ (n : ℕ). getD (take at s ++ bs) (n + k) 0) (sym front)
-      ∙ getD-append-add (take at s) bs k 0
-
-  pub splice-above : (i : ℕ) → at + length bs ≤ i → getD (splice s at bs) i 0 ≡ getD s i 0
-  unfolding splice
-  splice-above i h =
-      let e : i ≡ length (take at s ++ bs) + (i - (at + length bs)) = omega (arith, front, length-append (take at s) bs) in
-      ap (λ (n : ℕ). getD (take at s ++ bs ++ drop (at + length bs) s) n 0) e
-      ∙ getD-append-add (take at s ++ bs) (drop (at + length bs) s) (i - (at + length bs)) 0
-      ∙ getD-drop (at + length bs) s (i - (at + length bs)) 0
-      ∙ ap (λ (n : ℕ). getD s n 0) (omega arith)
-
 -- the elements of a list with one removed, and with one more
 module _ {A : Type 0} (xs : List A) (p : ℕ) (d : A) where
   remove-length : p < length xs → length (removeAt p xs) + 1 ≡ length xs
@@ -80,15 +48,15 @@ module _ {A : Type 0} (xs : List A) (p : ℕ) (d : A) where
   pub remove-below : p < length xs → (j : ℕ) → j < p → getD (removeAt p xs) j d ≡ getD xs j d
   remove-below h j l =
       let a : j < length (take p xs) = simp length-take (omega arith) in
-      List·getD-append (take p xs) (drop (p + 1) xs) d j a ∙ getD-take p xs j d l
+      List·getD-append (take p xs) (drop (suc p) xs) d j a ∙ getD-take p xs j d l
 
   pub remove-above : p < length xs → (j : ℕ) → p ≤ j → getD (removeAt p xs) j d ≡ getD xs (j + 1) d
   remove-above h j l =
       let f : length (take p xs) ≡ p = length-take-le p xs (omega arith) in
       let e : j ≡ length (take p xs) + (j - p) = omega arith in
-      ap (λ (n : ℕ). getD (take p xs ++ drop (p + 1) xs) n d) e
-      ∙ getD-append-add (take p xs) (drop (p + 1) xs) (j - p) d
-      ∙ getD-drop (p + 1) xs (j - p) d
+      ap (λ (n : ℕ). getD (take p xs ++ drop (suc p) xs) n d) e
+      ∙ getD-append-add (take p xs) (drop (suc p) xs) (j - p) d
+      ∙ getD-drop (suc p) xs (j - p) d
       ∙ ap (λ (n : ℕ). getD xs n d) (omega arith)
 
   module _ (x : A) (h : p ≤ length xs) where

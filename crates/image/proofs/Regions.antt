@@ -7,10 +7,12 @@ use native.Mathlib.Decide.{decLt, ℕ-discrete}
 use mathlib.Core.List.{List}
 use lib.ListN.{length, getD, set, length-set}
 use lib.Seq.{getD-set-same, getD-set-other}
-use Rattle.records.specs.Bytes.{chunk, splice, tab}
+use Rattle.text.specs.Text.{pasted}
+use Rattle.text.proofs.Pasting.{length-pasted, pasted-below, pasted-in, pasted-above}
+use Rattle.records.specs.Bytes.{chunk, tab}
 use Rattle.records.proofs.Tables.{length-tab, getD-tab, tab-is}
 use Rattle.image.specs.Layout.{Region, place, recordAt, listedIn, blank, Zeros}
-use Rattle.image.proofs.Parts.{next-place, chunk-same, chunk-is, length-splice, splice-below, splice-in, splice-above}
+use Rattle.image.proofs.Parts.{next-place, chunk-same, chunk-is}
 
 -- t has the bytes of s from a up to, not including, b
 abbrev pub Same : List ℕ → List ℕ → ℕ → ℕ → Type 0
@@ -67,33 +69,33 @@ module _ {A : Type 0} (R : Region A) where
     room = omega (arith, next-place (R .size) i 64 less)
 
     abbrev t : List ℕ
-    t = splice s (place R i) bs
+    t = pasted s (place R i) bs
 
     pub put-same : recordAt R t i ≡ x
     unfolding recordAt
     put-same =
         ap (λ (n : ℕ). R .decode (chunk t (place R i) n)) (sym size)
-        ∙ ap (R .decode) (chunk-is t bs (place R i) (rw (length-splice s (place R i) bs room) room) (splice-in s (place R i) bs room))
+        ∙ ap (R .decode) (chunk-is t bs (place R i) (rw (length-pasted s (place R i) bs room) room) (pasted-in s (place R i) bs room))
         ∙ back
 
     pub put-other : (j : ℕ) → j < 64 → (j ≡ i → ⊥) → recordAt R t j ≡ recordAt R s j
     put-other j h n = go (decLt j i)
       where
         keep : Same s t (place R j) (place R j + R .size) → recordAt R t j ≡ recordAt R s j
-        keep = record-kept s t (length-splice s (place R i) bs room) fits j h
+        keep = record-kept s t (length-pasted s (place R i) bs room) fits j h
 
         go : Dec (j < i) → recordAt R t j ≡ recordAt R s j
-        go (yes l) = keep (λ m a b. splice-below s (place R i) bs room m (omega (arith, next-place (R .size) j i l)))
-        go (no l) = keep (λ m a b. splice-above s (place R i) bs room m (omega (arith, next-place (R .size) i j (omega arith))))
+        go (yes l) = keep (λ m a b. pasted-below s (place R i) bs room m (omega (arith, next-place (R .size) j i l)))
+        go (no l) = keep (λ m a b. pasted-above s (place R i) bs room m (omega (arith, next-place (R .size) i j (omega arith))))
 
     pub put-after : R .slot < R .base → i < length (listedIn R s) → length (listedIn R s) ≤ 64 → After s t (set (listedIn R s) i x)
     put-after slot h full =
         let len : length (set (listedIn R s) i x) ≡ length (listedIn R s) = length-set (listedIn R s) i x in
-        after s t (set (listedIn R s) i x) (splice-below s (place R i) bs room (R .slot) (omega arith) ∙ sym (count-of s) ∙ sym len) (rw len full)
+        after s t (set (listedIn R s) i x) (pasted-below s (place R i) bs room (R .slot) (omega arith) ∙ sym (count-of s) ∙ sym len) (rw len full)
         (λ j l. go j (subst (λ (n : ℕ). j < n) len l) (ℕ-discrete j i))
         (λ z m a b.
         let lo : place R (length (listedIn R s)) ≤ m = subst (λ (n : ℕ). place R n ≤ m) len a in
-        splice-above s (place R i) bs room m (omega (arith, next-place (R .size) i (length (listedIn R s)) h)) ∙ z m lo b)
+        pasted-above s (place R i) bs room m (omega (arith, next-place (R .size) i (length (listedIn R s)) h)) ∙ z m lo b)
       where
         go : (j : ℕ) → j < length (listedIn R s) → Dec (j ≡ i) → recordAt R t j ≡ getD (set (listedIn R s) i x) j (blank R)
         go j l (yes e) = ap (recordAt R t) e ∙ put-same ∙ sym (getD-set-same (listedIn R s) i x (blank R) h) ∙ ap (λ (n : ℕ). getD (set (listedIn R s) i x) n (blank R)) (sym e)

@@ -13,7 +13,7 @@ use Rattle.records.specs.Records.{encodeHead, encodeNode, encodeOp, encodeResul
 use Rattle.records.specs.declared.head.Head.{Head}
 use Rattle.records.proofs.Tables.{tab-snoc, tab-is}
 use Rattle.records.proofs.Codecs.{Bytes, FitNode, FitOp, FitResult, node-back, op-back, result-back, node-there, op-there, result-there, node-size, op-size, result-size, back16, there16}
-use Rattle.image.specs.Layout.{Region, place, recordAt, listedIn, blank, Zeros, Sound, Canonical, View, view, nodeRegion, opRegion, resultRegion, joined, upTo, headOf, imageOf}
+use Rattle.image.specs.Layout.{Region, place, recordAt, listedIn, blank, Zeros, Sound, Canonical, View, view, nodeRegion, opRegion, resultRegion, joined, zeroPadded, headOf, imageOf}
 use Rattle.image.proofs.Parts.{next-place, chunk-same, chunk-is, chunk-byte}
 use Rattle.image.proofs.Regions.{count-of}
 
@@ -66,7 +66,7 @@ module _ {A : Type 0} (R : Region A) (encode : A → List ℕ) (size : (x : A) �
         ∙ chunk-add s (R .base) (R .size * n) (R .size)
         ∙ ap (chunk s (R .base)) (sym (mul-suc (R .size) n))
 
-    pub region-there : length (listedIn R s) ≤ 64 → Zeros s (place R (length (listedIn R s))) (place R 64) → upTo (R .size * 64) (joined encode (listedIn R s)) ≡ chunk s (R .base) (R .size * 64)
+    pub region-there : length (listedIn R s) ≤ 64 → Zeros s (place R (length (listedIn R s))) (place R 64) → zeroPadded (R .size * 64) (joined encode (listedIn R s)) ≡ chunk s (R .base) (R .size * 64)
     unfolding listedIn
     region-there few z =
         let n = getD s (R .slot) 0 in
@@ -90,7 +90,7 @@ module _ {A : Type 0} (R : Region A) (encode : A → List ℕ) (size : (x : A) �
   -- from records to bytes and back
   module _ (xs : List A) (few : length xs ≤ 64) where
     abbrev pub part : List ℕ
-    part = upTo (R .size * 64) (joined encode xs)
+    part = zeroPadded (R .size * 64) (joined encode xs)
 
     full : R .size * length xs ≤ R .size * 64
     full = mul-le-mul-left {m = length xs} {n = 64} (R .size) few
@@ -207,13 +207,13 @@ module _ (v : View) (f : Fit v) where
   H = encodeHead (headOf v)
 
   abbrev N : List ℕ
-  N = upTo 1024 (joined encodeNode (v .nodes))
+  N = zeroPadded 1024 (joined encodeNode (v .nodes))
 
   abbrev O : List ℕ
-  O = upTo 2048 (joined encodeOp (v .ops))
+  O = zeroPadded 2048 (joined encodeOp (v .ops))
 
   abbrev S : List ℕ
-  S = upTo 1024 (joined encodeResult (v .results))
+  S = zeroPadded 1024 (joined encodeResult (v .results))
 
   head-length : length H ≡ 16
   unfolding encodeHead

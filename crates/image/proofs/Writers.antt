@@ -9,12 +9,15 @@ use native.Mathlib.Decide.{decLt, ℕ-discrete}
 use mathlib.Core.List.{List, [], _∷_, _++_}
 use lib.ListN.{length, getD, set, length-set, length-append, List·getD-append}
 use lib.Seq.{getD-set-same, getD-set-other, getD-append-seam}
-use Rattle.records.specs.Bytes.{le16, splice}
+use Rattle.graph.specs.Lists.{removeAt}
+use Rattle.text.specs.Text.{pasted}
+use Rattle.text.proofs.Pasting.{length-pasted, pasted-below, pasted-above}
+use Rattle.records.specs.Bytes.{le16}
 use Rattle.records.specs.declared.node.NodeRecord.{NodeRecord}
 use Rattle.records.specs.declared.op.OpRecord.{OpRecord}
 use Rattle.records.specs.declared.result.ResultRecord.{ResultRecord}
-use Rattle.image.specs.Layout.{Region, place, recordAt, listedIn, blank, Zeros, MovedDown, MovedUp, Cleared, removeAt, insertAt, Sound, Written, View, view, nodeRegion, opRegion, resultRegion, withNodes, withOps, withResults, withLast}
-use Rattle.image.proofs.Parts.{next-place, length-splice, splice-below, splice-above, length-remove, remove-below, remove-above, length-insert, insert-below, insert-at, insert-above}
+use Rattle.image.specs.Layout.{Region, place, recordAt, listedIn, blank, Zeros, MovedDown, MovedUp, Cleared, insertAt, Sound, Written, View, view, nodeRegion, opRegion, resultRegion, withNodes, withOps, withResults, withLast}
+use Rattle.image.proofs.Parts.{next-place, length-remove, remove-below, remove-above, length-insert, insert-below, insert-at, insert-above}
 use Rattle.image.proofs.Regions.{Same, After, after, kept, record-of, record-same, record-kept, put-same, put-other, put-after}
 
 module _ {A : Type 0} (R : Region A) where
@@ -58,7 +61,7 @@ module _ {A : Type 0} (R : Region A) where
 
   module _ (s : List ℕ) (f : Fits s) (bs : List ℕ) (x : A) (size : length bs ≡ R .size) (back : R .decode bs ≡ x) where
     -- PUT
-    pub put-change : (i : ℕ) → i < length (listedIn R s) → Change s (splice s (place R i) bs) (set (listedIn R s) i x)
+    pub put-change : (i : ℕ) → i < length (listedIn R s) → Change s (pasted s (place R i) bs) (set (listedIn R s) i x)
     put-change i h =
         let few = f .few in
         let slot = f .slot in
@@ -66,9 +69,9 @@ module _ {A : Type 0} (R : Region A) where
         let next = next-place (R .size) i 64 (omega arith) in
         let fits : place R i + length bs ≤ length s = omega arith in
         record {
-          size = length-splice s (place R i) bs fits;
-          below = λ k n l. splice-below s (place R i) bs fits k (omega arith);
-          above = λ k l. splice-above s (place R i) bs fits k (omega arith);
+          size = length-pasted s (place R i) bs fits;
+          below = λ k n l. pasted-below s (place R i) bs fits k (omega arith);
+          above = λ k l. pasted-above s (place R i) bs fits k (omega arith);
           after = put-after R s i bs x size back end (omega arith) slot h few;
         }
 
@@ -89,23 +92,23 @@ module _ {A : Type 0} (R : Region A) where
       len : length (xs ++ (x ∷ [])) ≡ n + 1
       len = length-append xs (x ∷ [])
 
-      append-record : (j : ℕ) → Dec (j ≡ n) → j < n + 1 → recordAt R (splice s (place R n) bs) j ≡ getD (xs ++ (x ∷ [])) j (blank R)
+      append-record : (j : ℕ) → Dec (j ≡ n) → j < n + 1 → recordAt R (pasted s (place R n) bs) j ≡ getD (xs ++ (x ∷ [])) j (blank R)
       append-record j (yes q) h =
-          ap (recordAt R (splice s (place R n) bs)) q ∙ put-same R s n bs x size back (f .end) less
+          ap (recordAt R (pasted s (place R n) bs)) q ∙ put-same R s n bs x size back (f .end) less
           ∙ sym (getD-append-seam xs x [] (blank R)) ∙ ap (λ (k : ℕ). getD (xs ++ (x ∷ [])) k (blank R)) (sym q)
       append-record j (no q) h =
           let l : j < n = omega arith in
           put-other R s n bs x size back (f .end) less j (omega arith) q ∙ record-of R s j l ∙ sym (List·getD-append xs (x ∷ []) (blank R) j l)
 
-      pub append-change : (v : ℕ) → v ≡ n + 1 → Change s (set (splice s (place R n) bs) (R .slot) v) (xs ++ (x ∷ []))
+      pub append-change : (v : ℕ) → v ≡ n + 1 → Change s (set (pasted s (place R n) bs) (R .slot) v) (xs ++ (x ∷ []))
       append-change v e =
-          changed s (splice s (place R n) bs) v (xs ++ (x ∷ [])) (length-splice s (place R n) bs fits) f (e ∙ sym len) (omega (arith, len))
+          changed s (pasted s (place R n) bs) v (xs ++ (x ∷ [])) (length-pasted s (place R n) bs fits) f (e ∙ sym len) (omega (arith, len))
           (λ j h. append-record j (ℕ-discrete j n) (omega (arith, len)))
           (λ z m a b.
           let lo : place R (n + 1) ≤ m = subst (λ (k : ℕ). place R k ≤ m) len a in
-          splice-above s (place R n) bs fits m (omega (arith, more)) ∙ z m (omega (arith, more)) b)
-          (λ k l. splice-below s (place R n) bs fits k (omega arith))
-          (λ k l. splice-above s (place R n) bs fits k (omega (arith, next-place (R .size) n 64 less)))
+          pasted-above s (place R n) bs fits m (omega (arith, more)) ∙ z m (omega (arith, more)) b)
+          (λ k l. pasted-below s (place R n) bs fits k (omega arith))
+          (λ k l. pasted-above s (place R n) bs fits k (omega (arith, next-place (R .size) n 64 less)))
 
     -- INSERT: the records from p on moved up
     module _ (w : List ℕ) (p : ℕ) (h : p ≤ n) (less : n < 64) (m : MovedUp (place R p) (place R n) (R .size) s w) where
@@ -118,8 +121,8 @@ module _ {A : Type 0} (R : Region A) where
       one-more : length (insertAt p x xs) ≡ n + 1
       one-more = length-insert xs p (blank R) x h
 
-      insert-record : (j : ℕ) → Dec (j ≡ p) → Dec (j < p) → j < n + 1 → recordAt R (splice w (place R p) bs) j ≡ getD (insertAt p x xs) j (blank R)
-      insert-record j (yes q) d l = ap (recordAt R (splice w (place R p) bs)) q ∙ put-same R w p bs x size back end (omega arith) ∙ sym (insert-at xs p (blank R) x h j q)
+      insert-record : (j : ℕ) → Dec (j ≡ p) → Dec (j < p) → j < n + 1 → recordAt R (pasted w (place R p) bs) j ≡ getD (insertAt p x xs) j (blank R)
+      insert-record j (yes q) d l = ap (recordAt R (pasted w (place R p) bs)) q ∙ put-same R w p bs x size back end (omega arith) ∙ sym (insert-at xs p (blank R) x h j q)
       insert-record j (no q) (yes d) l =
           put-other R w p bs x size back end (omega arith) j (omega arith) q
           ∙ record-kept R s w (m .size) (f .end) j (omega arith) (λ i a b. m .below i (omega (arith, next-place (R .size) j p d)))
@@ -136,16 +139,16 @@ module _ {A : Type 0} (R : Region A) where
           ∙ record-of R s i (omega arith)
           ∙ sym (insert-above xs p (blank R) x h i (omega arith)) ∙ ap (λ (k : ℕ). getD (insertAt p x xs) k (blank R)) back-one
 
-      pub insert-change : (v : ℕ) → v ≡ n + 1 → Change s (set (splice w (place R p) bs) (R .slot) v) (insertAt p x xs)
+      pub insert-change : (v : ℕ) → v ≡ n + 1 → Change s (set (pasted w (place R p) bs) (R .slot) v) (insertAt p x xs)
       insert-change v e =
-          changed s (splice w (place R p) bs) v (insertAt p x xs) (length-splice w (place R p) bs room ∙ m .size) f (e ∙ sym one-more) (omega (arith, one-more))
+          changed s (pasted w (place R p) bs) v (insertAt p x xs) (length-pasted w (place R p) bs room ∙ m .size) f (e ∙ sym one-more) (omega (arith, one-more))
           (λ j l. insert-record j (ℕ-discrete j p) (decLt j p) (omega (arith, one-more)))
           (λ z i a b.
           let lo : place R (n + 1) ≤ i = subst (λ (k : ℕ). place R k ≤ i) one-more a in
           let here = next-place (R .size) p (n + 1) (omega arith) in
-          splice-above w (place R p) bs room i (omega (arith, more, here)) ∙ m .above i (omega (arith, more)) ∙ z i (omega (arith, more)) b)
-          (λ k l. splice-below w (place R p) bs room k (omega arith) ∙ m .below k (omega arith))
-          (λ k l. splice-above w (place R p) bs room k (omega (arith, next-place (R .size) p 64 (omega arith))) ∙ m .above k (omega (arith, next-place (R .size) n 64 less)))
+          pasted-above w (place R p) bs room i (omega (arith, more, here)) ∙ m .above i (omega (arith, more)) ∙ z i (omega (arith, more)) b)
+          (λ k l. pasted-below w (place R p) bs room k (omega arith) ∙ m .below k (omega arith))
+          (λ k l. pasted-above w (place R p) bs room k (omega (arith, next-place (R .size) p 64 (omega arith))) ∙ m .above k (omega (arith, next-place (R .size) n 64 less)))
 
   -- REMOVE: the records after p moved down, and the last cleared
   module _ (s w u : List ℕ) (f : Fits s) (p : ℕ) (h : p < length (listedIn R s))

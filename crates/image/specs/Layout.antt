@@ -89,11 +89,8 @@ withResults v rs = record { nodes = v .nodes; ops = v .ops; results = rs; last =
 abbrev pub withLast : View → ℕ → View
 withLast v l = record { nodes = v .nodes; ops = v .ops; results = v .results; last = l }
 
--- a list without its element at p, and with x before it
+-- a list with x before its element at p
 module _ {A : Type 0} where
-  abbrev pub removeAt : ℕ → List A → List A
-  removeAt p xs = take p xs ++ drop (p + 1) xs
-
   abbrev pub insertAt : ℕ → A → List A → List A
   insertAt p x xs = take p xs ++ (x ∷ drop p xs)
 
@@ -103,8 +100,8 @@ module _ {A : Type 0} (encode : A → List ℕ) where
   joined [] = []
   joined (x ∷ xs) = encode x ++ joined xs
 
-abbrev pub upTo : ℕ → List ℕ → List ℕ
-upTo n bs = bs ++ replicate (n - length bs) 0
+abbrev pub zeroPadded : ℕ → List ℕ → List ℕ
+zeroPadded n bs = bs ++ replicate (n - length bs) 0
 
 abbrev pub headOf : View → Head
 headOf v = record { nodes = length (v .nodes); ops = length (v .ops); results = length (v .results); last = v .last }
@@ -112,9 +109,9 @@ headOf v = record { nodes = length (v .nodes); ops = length (v .ops); results = 
 unfoldable pub imageOf : View → List ℕ
 imageOf v =
     encodeHead (headOf v)
-    ++ (upTo 1024 (joined encodeNode (v .nodes))
-    ++ (upTo 2048 (joined encodeOp (v .ops))
-    ++ upTo 1024 (joined encodeResult (v .results))))
+    ++ (zeroPadded 1024 (joined encodeNode (v .nodes))
+    ++ (zeroPadded 2048 (joined encodeOp (v .ops))
+    ++ zeroPadded 1024 (joined encodeResult (v .results))))
 
 -- bytes moved within a list, and bytes cleared: `by` places down or up, between `at` and `end`
 pub record MovedDown (at end by : ℕ) (s t : List ℕ) : Type 0 where

@@ -5,24 +5,25 @@ use crate::read::result_count;
 use crate::shift::clear;
 use crate::shift::move_down;
 use crate::shift::move_up;
-use records::bytes::store;
 use records::node::NodeRecord;
 use records::node::node_bytes;
 use records::op::OpRecord;
 use records::op::op_bytes;
 use records::result::ResultRecord;
 use records::result::result_bytes;
+use text::put::put_bytes;
 ghost use mathlib.Core.List.{[], _∷_, _++_};
 ghost use Prim.Native.Nat.{_<_, _≤_};
 ghost use lib.ListN.{length, set};
-ghost use Rattle.image.specs.Layout.{Sound, view, Written, withNodes, withOps, withResults, withLast, removeAt, insertAt};
+ghost use Rattle.graph.specs.Lists.{removeAt};
+ghost use Rattle.image.specs.Layout.{Sound, view, Written, withNodes, withOps, withResults, withLast, insertAt};
 
 pub fn put_node(image: &mut [u8], i: usize, n: NodeRecord)
     requires { ⌜ (Sound (now image)) × (i < length (view (now image) .nodes)) ⌝ }
     ensures { λ _. ⌜ Written (withNodes (view (now (image .entry))) (set (view (now (image .entry)) .nodes) i n)) (now (image .entry)) (now (image .exit)) ⌝ }
 {
     let bs = node_bytes(n);
-    store(image, 16 + 16 * i, &bs);
+    put_bytes(image, 16 + 16 * i, &bs);
 }
 
 pub fn put_op(image: &mut [u8], i: usize, o: OpRecord)
@@ -30,7 +31,7 @@ pub fn put_op(image: &mut [u8], i: usize, o: OpRecord)
     ensures { λ _. ⌜ Written (withOps (view (now (image .entry))) (set (view (now (image .entry)) .ops) i o)) (now (image .entry)) (now (image .exit)) ⌝ }
 {
     let bs = op_bytes(o);
-    store(image, 1040 + 32 * i, &bs);
+    put_bytes(image, 1040 + 32 * i, &bs);
 }
 
 // The node of a new station, in front of the others.
@@ -40,7 +41,7 @@ pub fn append_node(image: &mut [u8], n: NodeRecord)
 {
     let m = node_count(image);
     let bs = node_bytes(n);
-    store(image, 16 + 16 * m, &bs);
+    put_bytes(image, 16 + 16 * m, &bs);
     image[1] = (m + 1) as u8;
 }
 
@@ -51,7 +52,7 @@ pub fn append_op(image: &mut [u8], o: OpRecord)
 {
     let m = op_count(image);
     let bs = op_bytes(o);
-    store(image, 1040 + 32 * m, &bs);
+    put_bytes(image, 1040 + 32 * m, &bs);
     image[2] = (m + 1) as u8;
 }
 
@@ -63,7 +64,7 @@ pub fn insert_result(image: &mut [u8], p: usize, r: ResultRecord)
     let m = result_count(image);
     let bs = result_bytes(r);
     move_up(image, 3088 + 16 * p, 3088 + 16 * m, 16);
-    store(image, 3088 + 16 * p, &bs);
+    put_bytes(image, 3088 + 16 * p, &bs);
     image[3] = (m + 1) as u8;
 }
 

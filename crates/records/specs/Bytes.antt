@@ -2,9 +2,9 @@
 -- Assumes nothing.
 use Prim.Native.Nat.{ℕ, zero, suc, _+_, _*_, _/_, _%_}
 use mathlib.Core.Bool.{Bool, true, _&&_}
-use mathlib.Core.List.{List, [], _∷_, _++_}
+use mathlib.Core.List.{List, [], _∷_}
 use lib.Dec.{eqb}
-use lib.ListN.{length, getD, take, drop}
+use lib.ListN.{getD, take, drop}
 use Rattle.graph.specs.declared.keys.Keys.{Keys}
 
 -- the number in the two bytes at `at`, in the four, and in the eight
@@ -49,10 +49,6 @@ module _ {A : Type 0} where
 -- the n elements from index at
 unfoldable pub chunk : List ℕ → ℕ → ℕ → List ℕ
 chunk s at n = take n (drop at s)
-
--- s with bs over the elements from index at
-unfoldable pub splice : List ℕ → ℕ → List ℕ → List ℕ
-splice s at bs = take at s ++ bs ++ drop (at + length bs) s
 
 unfoldable pub allZero : List ℕ → Bool
 allZero [] = true

@@ -5,7 +5,7 @@ ghost use mathlib.Core.Bool.{_&&_};
 ghost use lib.Dec.{eqb};
 ghost use Prim.Native.Nat.{_+_, _≤_, _<_};
 ghost use lib.ListN.{length};
-ghost use Rattle.records.specs.Bytes.{le16, le32, le64, bytes8, keysAt, splice, allZero};
+ghost use Rattle.records.specs.Bytes.{le16, le32, le64, bytes8, keysAt, allZero};
 
 fn wide(x: u8) -> u32
     ensures { λ r. ⌜ (r ≡ x) × (r < 256) ⌝ }
@@ -79,18 +79,6 @@ pub fn keys_at(s: &[u8], at: usize) -> Keys
     Keys {
         count: s[at],
         key: eight_at(s, at + 1),
-    }
-}
-
-// Writes bs over the bytes from `at` on.
-pub fn store(s: &mut [u8], at: usize, bs: &[u8])
-    requires { ⌜ at + length (now bs) ≤ length (now s) ⌝ }
-    ensures { λ _. ⌜ now (s .exit) ≡ splice (now (s .entry)) at (now (bs .entry)) ⌝ }
-{
-    let mut j: usize = 0;
-    while j < bs.len() {
-        s[at + j] = bs[j];
-        j += 1;
     }
 }
 

@@ -4,13 +4,13 @@ use mathlib.Core.Path.{_≡_, sym, _∙_, ap, subst}
 use Prim.Native.Nat.{ℕ}
 use mathlib.Core.List.{List}
 use lib.ListN.{getD}
+use Rattle.graph.specs.Lists.{removeAt}
 use Rattle.graph.specs.Refusals.{Answer, numberOf}
 use Rattle.graph.specs.Sessions.{Session}
 use Rattle.graph.specs.Acceptance.{Claimed, claim, keeping}
 use Rattle.graph.proofs.Answers.{Holds, holds-at}
 use Rattle.graph.proofs.Validity.{ValidClaim, claim-valid}
 use Rattle.queue.specs.Flat.{Flat, flat, nest}
-use Rattle.worksteps.specs.FlatSteps.{removeAt}
 use Rattle.worksteps.specs.FlatEvents.{flatClaim}
 use Rattle.worksteps.proofs.Events.{claim-bridge}
 use Rattle.records.proofs.Codecs.{Bytes}

@@ -5,13 +5,14 @@ use Prim.Native.Nat.{ℕ, zero, suc, _+_, _≤_, _<_}
 use native.Mathlib.Omega.{arith}
 use mathlib.Core.List.{List, [], _∷_, _++_, map, map-append}
 use lib.ListN.{length, getD, set, take, drop, length-map}
+use Rattle.graph.specs.Lists.{removeAt}
 use Rattle.graph.specs.Nodes.{Node, Result}
 use Rattle.queue.specs.Flat.{Tagged}
 use Rattle.worksteps.specs.FlatSteps.{withQueue}
 use Rattle.records.specs.declared.node.NodeRecord.{NodeRecord}
 use Rattle.records.specs.declared.op.OpRecord.{OpRecord}
 use Rattle.records.specs.declared.result.ResultRecord.{ResultRecord}
-use Rattle.image.specs.Layout.{View, view, Written, withOps, removeAt, insertAt}
+use Rattle.image.specs.Layout.{View, view, Written, withOps, insertAt}
 use Rattle.image.specs.Layout.{withNodes as viewNodes, withResults as viewResults, withLast as viewLast}
 use Rattle.valid.specs.Values.{nodeOf, nodeRecord, taggedOf, taggedRecord, resultOf, resultRecord, flatOf, viewOf}
 use Rattle.state.specs.State.{held, Proper, Shows, withNodes, withResults, withLast}
@@ -34,7 +35,7 @@ module _ {A B : Type 0} (f : A → B) where
   map-set (y ∷ ys) (suc i) x = ap (λ (l : List B). f y ∷ l) (map-set ys i x)
 
   map-remove : (xs : List A) (p : ℕ) → map f (removeAt p xs) ≡ removeAt p (map f xs)
-  map-remove xs p = map-append f (take p xs) (drop (p + 1) xs) ∙ (λ i. map-take p xs i ++ map-drop (p + 1) xs i)
+  map-remove xs p = map-append f (take p xs) (drop (suc p) xs) ∙ (λ i. map-take p xs i ++ map-drop (suc p) xs i)
 
   map-insert : (xs : List A) (p : ℕ) (x : A) → map f (insertAt p x xs) ≡ insertAt p (f x) (map f xs)
   map-insert xs p x = map-append f (take p xs) (x ∷ drop p xs) ∙ (λ i. map-take p xs i ++ (f x ∷ map-drop p xs i))

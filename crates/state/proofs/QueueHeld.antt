@@ -2,14 +2,14 @@
 -- Assumes nothing.
 use mathlib.Core.Path.{_≡_, refl, sym, ap, _∙_, subst}
 use Prim.Native.Nat.{ℕ, zero, suc, _+_, _<_}
-use native.Mathlib.Numerals.{add-one}
 use native.Mathlib.Omega.{arith}
 use mathlib.Core.List.{List, [], _∷_, _++_}
-use lib.ListN.{length, getD, set, take, drop, length-set}
+use lib.ListN.{length, getD, set, length-set}
+use Rattle.graph.specs.Lists.{removeAt}
 use Rattle.queue.specs.Flat.{Tagged, Flat}
-use Rattle.worksteps.specs.FlatSteps.{alter, removeAt, noOp, withQueue}
+use Rattle.worksteps.specs.FlatSteps.{alter, noOp, withQueue}
 use Rattle.records.specs.declared.op.OpRecord.{OpRecord}
-use Rattle.image.specs.Layout.{view, opRegion, blank, Written, withOps, removeAt as without}
+use Rattle.image.specs.Layout.{view, opRegion, blank, Written, withOps}
 use Rattle.valid.specs.Values.{taggedOf, taggedRecord}
 use Rattle.state.specs.State.{held, Proper, Shows}
 use Rattle.state.specs.Operations.{Reads}
@@ -48,10 +48,8 @@ module _ (s : List ℕ) (proper : Proper s) where
         → Shows (withQueue (held s) (held s .queue ++ (taggedOf r ∷ []))) t
     append-shown r e w = queue-shown s proper t (stands-append taggedOf taggedRecord (queue-stands s proper) r e) w
 
-    pub remove-shown : (i : ℕ) → Written (withOps (view s) (without i (view s .ops))) s t → Shows (withQueue (held s) (removeAt i (held s .queue))) t
-    remove-shown i w =
-        subst (λ (n : ℕ). Shows (withQueue (held s) (take i (held s .queue) ++ drop n (held s .queue))) t) (add-one i)
-        (queue-shown s proper t (stands-remove taggedOf taggedRecord (queue-stands s proper) i) w)
+    pub remove-shown : (i : ℕ) → Written (withOps (view s) (removeAt i (view s .ops))) s t → Shows (withQueue (held s) (removeAt i (held s .queue))) t
+    remove-shown i w = queue-shown s proper t (stands-remove taggedOf taggedRecord (queue-stands s proper) i) w
 
     -- the queue that is shown, said another way
     pub shown-as : {l m : List Tagged} → l ≡ m → Shows (withQueue (held s) l) t → Shows (withQueue (held s) m) t

@@ -10,6 +10,7 @@ use lib.Dec.{eqb, ltb}
 use lib.ListN.{length, getD, take}
 use lib.Seq.{take-suc, length-take-le}
 use Rattle.graph.specs.declared.keys.Keys.{Keys}
+use Rattle.graph.specs.Lists.{removeAt}
 use Rattle.graph.specs.Packed.{listed, packed}
 use Rattle.graph.specs.Refusals.{Answer, refused, done, mapDone}
 use Rattle.graph.specs.Nodes.{Result, resultsFor}
@@ -18,9 +19,8 @@ use Rattle.graph.specs.Acceptance.{Claimed, takeResult}
 use Rattle.records.specs.declared.labels.Labels.{Labels}
 use Rattle.records.specs.declared.result.ResultRecord.{ResultRecord}
 use Rattle.image.specs.Layout.{view, resultRegion, blank, Written, insertAt}
-use Rattle.image.specs.Layout.{withResults as viewResults, removeAt as without}
+use Rattle.image.specs.Layout.{withResults as viewResults}
 use Rattle.queue.specs.Flat.{Flat, find}
-use Rattle.worksteps.specs.FlatSteps.{removeAt}
 use Rattle.valid.specs.Values.{labelsOf, packedLabels, resultOf, resultRecord}
 use Rattle.state.specs.State.{held, Proper, Shows, withResults}
 use Rattle.state.specs.Results.{IsOutcome, noResult, resultWith, hasLabel, placeOf, takenAt}
@@ -107,8 +107,8 @@ module _ (s : List ℕ) (proper : Proper s) where
         rw (e, insert-place (resultWith l v (listed ts)) (held s .results)) at
         (results-shown s proper t (stands-insert resultOf resultRecord stand p (made l v ts) (λ i. made l v (sym normal i))) w)
 
-    pub result-taken : (p : ℕ) → Written (viewResults (view s) (without p (view s .results))) s t → Shows (withResults (held s) (removeAt p (held s .results))) t
-    result-taken p w = rw (add-one p) at (results-shown s proper t (stands-remove resultOf resultRecord stand p) w)
+    pub result-taken : (p : ℕ) → Written (viewResults (view s) (removeAt p (view s .results))) s t → Shows (withResults (held s) (removeAt p (held s .results))) t
+    result-taken p w = results-shown s proper t (stands-remove resultOf resultRecord stand p) w
 
 -- STORED ONE BY ONE: t holds what s does, with the results of the first i labels
 module _ (s each : List ℕ) (v : ℕ) (ts : List ℕ) where

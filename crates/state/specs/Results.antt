@@ -6,10 +6,10 @@ use mathlib.Core.Bool.{Bool}
 use mathlib.Core.List.{List, []}
 use lib.Dec.{eqb, ltb}
 use lib.ListN.{getD}
+use Rattle.graph.specs.Lists.{removeAt}
 use Rattle.graph.specs.Nodes.{Node, Result}
 use Rattle.graph.specs.Acceptance.{Claimed}
 use Rattle.queue.specs.Flat.{find}
-use Rattle.worksteps.specs.FlatSteps.{removeAt}
 use Rattle.state.specs.declared.nodes.Body.{Body}
 use Rattle.state.specs.declared.results.Outcome.{Outcome}
 use Rattle.state.specs.Operations.{Lists}

@@ -1,13 +1,13 @@
--- Laws of `pasted`: one store, a copy, a decimal, and one text after another.
+-- Laws of `pasted`: byte by byte, one store, a copy, a decimal, and one text after another.
 -- Assumes nothing.
-use Prim.Native.Nat.{ℕ, _+_, _/_, _%_, _<_, _≤_}
+use Prim.Native.Nat.{ℕ, _+_, _-_, _/_, _%_, _<_, _≤_}
 use mathlib.Core.Path.{_≡_, sym, ap, _∙_}
 use mathlib.Core.List.{List, [], _∷_, _++_, append-assoc}
 use native.Mathlib.Omega.{arith}
 use native.Mathlib.Nat.{add-assoc, add-zero}
 use native.Mathlib.Numerals.{add-one}
-use lib.ListN.{length, take, drop, set, getD, length-append, length-drop, take-append-drop}
-use lib.Seq.{set-split, take-at, length-take-le, drop-append-add, take-suc, drop-drop, take-all}
+use lib.ListN.{length, take, drop, set, getD, length-append, length-take, length-drop, take-append-drop, List·getD-append}
+use lib.Seq.{set-split, getD-take, getD-drop, getD-append-add, take-at, length-take-le, drop-append-add, take-suc, drop-drop, take-all}
 use Rattle.text.specs.Text.{pasted, decimal, Written}
 use Rattle.text.proofs.Decimals.{decimal-low, decimal-high, len-low, len-high}
 
@@ -19,10 +19,40 @@ pasted-one : (s : List ℕ) (at b : ℕ) → at < length s → set s at b ≡ pa
 unfolding pasted
 pasted-one s at b h = rw add-one (set-split s at b h)
 
-length-pasted : (s : List ℕ) (at : ℕ) (a : List ℕ) → at + length a ≤ length s → length (pasted s at a) ≡ length s
-unfolding pasted
-length-pasted s at a h =
-    omega (arith, length-append (take at s) (a ++ drop (at + length a) s), length-append a (drop (at + length a) s), length-drop (at + length a) s, length-take-le at s (omega arith))
+-- what stands in a list after a was written over it
+module _ (s : List ℕ) (at : ℕ) (a : List ℕ) (fits : at + length a ≤ length s) where
+  front : length (take at s) ≡ at
+  front = length-take-le at s (omega arith)
+
+  pub length-pasted : length (pasted s at a) ≡ length s
+  unfolding pasted
+  length-pasted = simp (length-append, length-take, length-drop) (omega arith)
+
+  pub pasted-below : (i : ℕ) → i < at → getD (pasted s at a) i 0 ≡ getD s i 0
+  unfolding pasted
+  pasted-below i h =
+      let l : i < length (take at s) = omega (arith, front) in
+      List·getD-append (take at s) (a ++ drop (at + length a) s) 0 i l ∙ getD-take at s i 0 h
+
+  -- byte k of what follows the front
+  beyond : (k : ℕ) → getD (pasted s at a) (at + k) 0 ≡ getD (a ++ drop (at + length a) s) k 0
+  unfolding pasted
+  beyond k =
+      ap (λ (n : ℕ). getD (take at s ++ (a ++ drop (at + length a) s)) (n + k) 0) (sym front)
+      ∙ getD-append-add (take at s) (a ++ drop (at + length a) s) k 0
+
+  pub pasted-in : (k : ℕ) → k < length a → getD (pasted s at a) (at + k) 0 ≡ getD a k 0
+  pasted-in k h = beyond k ∙ List·getD-append a (drop (at + length a) s) 0 k h
+
+  pub pasted-above : (i : ℕ) → at + length a ≤ i → getD (pasted s at a) i 0 ≡ getD s i 0
+  pasted-above i h =
+      let k = i - (at + length a) in
+      let e : i ≡ at + (length a + k) = omega arith in
+      ap (λ (n : ℕ). getD (pasted s at a) n 0) e
+      ∙ beyond (length a + k)
+      ∙ getD-append-add a (drop (at + length a) s) k 0
+      ∙ getD-drop (at + length a) s k 0
+      ∙ ap (λ (n : ℕ). getD s n 0) (omega arith)
 
 pasted-more : (s : List ℕ) (at n : ℕ) (a b : List ℕ) → at + length a + length b ≤ length s → n ≡ at + length a → pasted (pasted s at a) n b ≡ pasted s at (a ++ b)
 unfolding pasted

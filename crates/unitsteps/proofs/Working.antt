@@ -6,6 +6,7 @@ use mathlib.Core.Bool.{Bool, true, cond, _&&_}
 use mathlib.Core.List.{List, _++_}
 use lib.ListN.{length, getD, set}
 use borrow.Author.Tests.{leb-true}
+use Rattle.graph.specs.Lists.{removeAt}
 use Rattle.graph.specs.Refusals.{refused, done, mapDone}
 use Rattle.graph.specs.Acts.{isMap}
 use Rattle.graph.specs.KeyLists.{sameKeys}
@@ -14,7 +15,7 @@ use Rattle.graph.proofs.Answers.{and-right}
 use Rattle.graph.specs.OneAtATime.{opOf}
 use Rattle.graph.specs.Nodes.{Op}
 use Rattle.queue.specs.Flat.{Tagged, Flat, isOp, carried}
-use Rattle.worksteps.specs.FlatSteps.{noOp, opIn, withOp, withQueue, removeAt, swapFlat, fuseFlat, flatStep}
+use Rattle.worksteps.specs.FlatSteps.{noOp, opIn, withOp, withQueue, swapFlat, fuseFlat, flatStep}
 use Rattle.state.specs.Operations.{opValue, Carries}
 use Rattle.state.specs.declared.operation.Operation.{Operation}
 use Rattle.state.specs.State.{held, Shows}

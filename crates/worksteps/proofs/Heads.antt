@@ -9,15 +9,16 @@ use lib.Dec.{eqb}
 use lib.ListN.{length, getD, length-append}
 use lib.Seq.{slice, take-append-seam, getD-at, set-at}
 use borrow.Author.Tests.{ne-eqb, eq-eqb, lt-ltb, le-ltb}
+use Rattle.graph.specs.Lists.{any, removeAt}
 use Rattle.graph.specs.Refusals.{Answer, refused, done, mapDone}
 use Rattle.graph.specs.KeyLists.{isNil, contains}
 use Rattle.graph.specs.Nodes.{Node, Op, Result, hits, actOn, actBy, mayFinish, stored}
 use Rattle.graph.specs.Sessions.{Station, station, Session, store}
-use Rattle.graph.specs.Steps.{Change, only, any, anyHits, FirstOp, firstOp, moveAt, afterRealise, realiseAt, afterFinish, finishAt, putUnit, move, realise, finish, step}
+use Rattle.graph.specs.Steps.{Change, only, anyHits, FirstOp, firstOp, moveAt, afterRealise, realiseAt, afterFinish, finishAt, putUnit, move, realise, finish, step}
 use Rattle.queue.specs.Flat.{Tagged, Flat, standing, tagUnit, tagUnits, queueOf, nodesOf, flat, find, atPlace, Full, Keyed}
 use Rattle.queue.proofs.Places.{No, find-none, find-at, drop-past, drop-mid, slice-mid, no-queue, beyond-below, length-nodes}
 use Rattle.queue.proofs.Nesting.{flatSession}
-use Rattle.worksteps.specs.FlatSteps.{alter, removeAt, mapFrom, firstIn, noOp, noNode, moveTo, openAs, withOp, opIn, hitsKey, unitFrom, headUnit, onPlace, onFirstOp, moveFlat, actAt, actFlat, realiseFlat, finishesAt, takeOut, finishPlace, leaveFlat, finishFlat, flatStep}
+use Rattle.worksteps.specs.FlatSteps.{alter, mapFrom, firstIn, noOp, noNode, moveTo, openAs, withOp, opIn, hitsKey, unitFrom, headUnit, onPlace, onFirstOp, moveFlat, actAt, actFlat, realiseFlat, finishesAt, takeOut, finishPlace, leaveFlat, finishFlat, flatStep}
 use Rattle.worksteps.proofs.Focus.{put, back, Agrees, step-focus}
 use Rattle.worksteps.proofs.UnitPlaces.{unit-none, unit-here, start}
 

@@ -9,6 +9,7 @@ use lib.Dec.{eqb, leb, ltb}
 use lib.ListN.{length, getD, set, length-append}
 use lib.Seq.{take-append-seam, drop-append-seam, getD-append-seam, set-append-seam}
 use borrow.Author.Tests.{ne-eqb, eq-eqb, lt-ltb, le-ltb, le-leb}
+use Rattle.graph.specs.Lists.{removeAt}
 use Rattle.graph.specs.Refusals.{Answer, refused, done, mapDone}
 use Rattle.graph.specs.Nodes.{Node, Op, Result}
 use Rattle.graph.specs.Sessions.{Station, station, Session}
@@ -16,7 +17,7 @@ use Rattle.graph.specs.Steps.{Step, admit, realise, move, finish, join, split, 
 use Rattle.queue.specs.Flat.{Tagged, standing, tagUnit, tagUnits, queueOf, nodesOf, flat, find, atPlace, Full, Keyed}
 use Rattle.queue.proofs.Places.{No, no-queue, beyond-below, length-ops, ends-units, is-at, is-not-at, end-of}
 use Rattle.queue.proofs.Nesting.{flatSession}
-use Rattle.worksteps.specs.FlatSteps.{alter, removeAt, noOp, openAs, unitFrom, withNext, pairFrom, joinFlat, splitFlat, neighbours, swapFlat, fuseFlat, onQueue, flatStep}
+use Rattle.worksteps.specs.FlatSteps.{alter, noOp, openAs, unitFrom, withNext, pairFrom, joinFlat, splitFlat, neighbours, swapFlat, fuseFlat, onQueue, flatStep}
 use Rattle.worksteps.proofs.Focus.{back, Agrees, step-focus}
 use Rattle.worksteps.proofs.UnitPlaces.{past, unit-none, unit-here, unit-next, start}
 use Rattle.worksteps.proofs.Heads.{regroup-at, ops-split, remove-seam, move-bridge, realise-bridge, finish-bridge}

@@ -9,13 +9,14 @@ use lib.ListN.{length, take, drop, getD, set}
 use lib.Seq.{slice}
 use Rattle.graph.specs.declared.task.Task.{Task}
 use Rattle.graph.specs.declared.task.Task.the-variants.{Acts, Finishes, Passes}
+use Rattle.graph.specs.Lists.{any, removeAt}
 use Rattle.graph.specs.Refusals.{Answer, refused, done, mapDone}
 use Rattle.graph.specs.KeyLists.{isNil, contains}
 use Rattle.graph.specs.Nodes.{Node, Op, actOn, actBy, stored, newNode, addResult}
 use Rattle.graph.specs.Tasks.{taskRule}
 use Rattle.graph.specs.OneAtATime.{Labelled, addOf, opOf}
 use Rattle.graph.specs.Sessions.{store}
-use Rattle.graph.specs.Steps.{Step, admit, realise, move, finish, join, split, swap, fuse, any, maySwap, mayFuse, fused}
+use Rattle.graph.specs.Steps.{Step, admit, realise, move, finish, join, split, swap, fuse, maySwap, mayFuse, fused}
 use Rattle.queue.specs.Flat.{Tagged, Flat, carried, find, atPlace, isAt, endOf}
 
 -- LISTS BY INDEX
@@ -24,9 +25,6 @@ module _ {A : Type 0} where
   alter i f [] = []
   alter zero f (x ∷ xs) = f x ∷ xs
   alter (suc i) f (x ∷ xs) = x ∷ alter i f xs
-
-  abbrev pub removeAt : ℕ → List A → List A
-  removeAt p xs = take p xs ++ drop (suc p) xs
 
   -- f of each element from index a up to, not including, e
   abbrev pub mapFrom : (A → A) → ℕ → ℕ → List A → List A

@@ -15,17 +15,17 @@ node-count-requires c κs = search needs
 node-bytes-requires : tie.Need-node-bytes-requires
 node-bytes-requires c κs = search needs
 
-mul-store : tie.Need-mul-store
-mul-store c = search needs
+mul-put-bytes : tie.Need-mul-put-bytes
+mul-put-bytes c = search needs
 
-add-store : tie.Need-add-store
-add-store c = search needs
+add-put-bytes : tie.Need-add-put-bytes
+add-put-bytes c = search needs
 
-slice-aggregate-store : tie.Need-slice-aggregate-store
-slice-aggregate-store c = search needs
+slice-aggregate-put-bytes : tie.Need-slice-aggregate-put-bytes
+slice-aggregate-put-bytes c = search needs
 
-store-requires : tie.Need-store-requires
-store-requires c κs = search needs
+put-bytes-requires : tie.Need-put-bytes-requires
+put-bytes-requires c κs = search needs
 
 add-image : tie.Need-add-image
 add-image c = search needs
@@ -41,7 +41,7 @@ same-length c = search needs
 
 returns : tie.Need-returns
 returns c =
-    let e = c .before .before .store .ensures in
+    let e = c .before .before .put-bytes .ensures .bytes in
     let b = c .before .before .before .before .before .node-bytes in
     let m = c .before .before .before .before .before .before .node-count in
     let start = c .before .before .before .before .before .before .before .before .before in
@@ -57,10 +57,10 @@ append-node-spec =
     (tie.spec
     node-count-requires
     node-bytes-requires
-    mul-store
-    add-store
-    slice-aggregate-store
-    store-requires
+    mul-put-bytes
+    add-put-bytes
+    slice-aggregate-put-bytes
+    put-bytes-requires
     add-image
     cast-image
     slice-write-image

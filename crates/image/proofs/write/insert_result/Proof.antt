@@ -30,17 +30,17 @@ add-move-up-2 c = search needs
 move-up-requires : tie.Need-move-up-requires
 move-up-requires c κs = search needs
 
-mul-store : tie.Need-mul-store
-mul-store c = search needs
+mul-put-bytes : tie.Need-mul-put-bytes
+mul-put-bytes c = search needs
 
-add-store : tie.Need-add-store
-add-store c = search needs
+add-put-bytes : tie.Need-add-put-bytes
+add-put-bytes c = search needs
 
-slice-aggregate-store : tie.Need-slice-aggregate-store
-slice-aggregate-store c = search needs
+slice-aggregate-put-bytes : tie.Need-slice-aggregate-put-bytes
+slice-aggregate-put-bytes c = search needs
 
-store-requires : tie.Need-store-requires
-store-requires c κs = search needs
+put-bytes-requires : tie.Need-put-bytes-requires
+put-bytes-requires c κs = search needs
 
 add-image : tie.Need-add-image
 add-image c = search needs
@@ -52,11 +52,11 @@ slice-write-image : tie.Need-slice-write-image
 slice-write-image c = search needs
 
 same-length : tie.Need-same-length
-same-length c = simp length-set (c .before .before .store .kept .0 ∙ c .before .before .before .before .before .before .before .move-up .ensures .size)
+same-length c = simp length-set (c .before .before .put-bytes .kept .0 ∙ c .before .before .before .before .before .before .before .move-up .ensures .size)
 
 returns : tie.Need-returns
 returns c =
-    let e = c .before .before .store .ensures in
+    let e = c .before .before .put-bytes .ensures .bytes in
     let m = c .before .before .before .before .before .before .before .before .before .before .result-count in
     let b = c .before .before .before .before .before .before .before .before .before .result-bytes in
     let up = c .before .before .before .before .before .before .before .move-up .ensures in
@@ -78,10 +78,10 @@ insert-result-spec =
     mul-move-up-2
     add-move-up-2
     move-up-requires
-    mul-store
-    add-store
-    slice-aggregate-store
-    store-requires
+    mul-put-bytes
+    add-put-bytes
+    slice-aggregate-put-bytes
+    put-bytes-requires
     add-image
     cast-image
     slice-write-image
