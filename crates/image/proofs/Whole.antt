@@ -8,12 +8,14 @@ use native.Mathlib.Decide.{decLt}
 use mathlib.Core.List.{List, [], _∷_, _++_, append-assoc, append-nil}
 use lib.ListN.{length, getD, take, drop, replicate, length-append, length-take, length-drop, length-replicate, getD-replicate, List·getD-append, List·getD-eq-default}
 use lib.Seq.{getD-append-add, ext-getD, take-all, take-add, drop-drop, take-at, drop-at}
+use Rattle.text.specs.Text.{texts}
+use Rattle.text.proofs.Lists.{texts-append}
 use Rattle.records.specs.Bytes.{bytes16, chunk, tab}
 use Rattle.records.specs.Records.{encodeHead, encodeNode, encodeOp, encodeResult}
 use Rattle.records.specs.declared.head.Head.{Head}
 use Rattle.records.proofs.Tables.{tab-snoc, tab-is}
 use Rattle.records.proofs.Codecs.{Bytes, FitNode, FitOp, FitResult, node-back, op-back, result-back, node-there, op-there, result-there, node-size, op-size, result-size, back16, there16}
-use Rattle.image.specs.Layout.{Region, place, recordAt, listedIn, blank, Zeros, Sound, Canonical, View, view, nodeRegion, opRegion, resultRegion, joined, zeroPadded, headOf, imageOf}
+use Rattle.image.specs.Layout.{Region, place, recordAt, listedIn, blank, Zeros, Sound, Canonical, View, view, nodeRegion, opRegion, resultRegion, zeroPadded, headOf, imageOf}
 use Rattle.image.proofs.Parts.{next-place, chunk-same, chunk-is, chunk-byte}
 use Rattle.image.proofs.Regions.{count-of}
 
@@ -34,46 +36,38 @@ chunk-add s b m n = sym (take-add m n (drop b s) ∙ ap (λ (l : List ℕ). take
 
 -- ONE REGION
 module _ {A : Type 0} (R : Region A) (encode : A → List ℕ) (size : (x : A) → length (encode x) ≡ R .size) where
-  joined-append : (xs ys : List A) → joined encode (xs ++ ys) ≡ joined encode xs ++ joined encode ys
-  unfolding joined
-  joined-append [] ys = refl
-  joined-append (x ∷ xs) ys = ap (λ (l : List ℕ). encode x ++ l) (joined-append xs ys) ∙ sym (append-assoc (encode x) (joined encode xs) (joined encode ys))
+  texts-one : (x : A) → texts encode (x ∷ []) ≡ encode x
+  texts-one x = append-nil (encode x)
 
-  joined-one : (x : A) → joined encode (x ∷ []) ≡ encode x
-  unfolding joined
-  joined-one x = append-nil (encode x)
+  texts-none : texts encode [] ≡ []
+  texts-none = refl
 
-  joined-none : joined encode [] ≡ []
-  unfolding joined
-  joined-none = refl
-
-  pub joined-length : (xs : List A) → length (joined encode xs) ≡ R .size * length xs
-  unfolding joined
-  joined-length [] = sym (mul-zero (R .size))
-  joined-length (x ∷ xs) = length-append (encode x) (joined encode xs) ∙ omega (arith, size x, joined-length xs, mul-suc (R .size) (length xs))
+  pub texts-length : (xs : List A) → length (texts encode xs) ≡ R .size * length xs
+  texts-length [] = sym (mul-zero (R .size))
+  texts-length (x ∷ xs) = length-append (encode x) (texts encode xs) ∙ omega (arith, size x, texts-length xs, mul-suc (R .size) (length xs))
 
   -- from bytes to records and back
   module _ (there : (bs : List ℕ) → Bytes bs → length bs ≡ R .size → encode (R .decode bs) ≡ bs) (s : List ℕ) (y : Bytes s) (fits : place R 64 ≤ length s) where
-    records-there : (n : ℕ) → n ≤ 64 → joined encode (tab n (recordAt R s)) ≡ chunk s (R .base) (R .size * n)
+    records-there : (n : ℕ) → n ≤ 64 → texts encode (tab n (recordAt R s)) ≡ chunk s (R .base) (R .size * n)
     unfolding tab recordAt chunk
-    records-there zero h = joined-none ∙ ap (λ (k : ℕ). chunk s (R .base) k) (sym (mul-zero (R .size)))
+    records-there zero h = texts-none ∙ ap (λ (k : ℕ). chunk s (R .base) k) (sym (mul-zero (R .size)))
     records-there (suc n) h =
         let next = next-place (R .size) n 64 h in
-        ap (joined encode) (tab-snoc n (recordAt R s))
-        ∙ joined-append (tab n (recordAt R s)) (recordAt R s n ∷ [])
+        ap (texts encode) (tab-snoc n (recordAt R s))
+        ∙ texts-append encode (tab n (recordAt R s)) (recordAt R s n ∷ [])
         ∙ ap₂ _++_ (records-there n (omega arith))
-        (joined-one (recordAt R s n) ∙ there (chunk s (place R n) (R .size)) (chunk-bytes s y (place R n) (R .size) (omega arith)) (chunk-length s (place R n) (R .size) (omega arith)))
+        (texts-one (recordAt R s n) ∙ there (chunk s (place R n) (R .size)) (chunk-bytes s y (place R n) (R .size) (omega arith)) (chunk-length s (place R n) (R .size) (omega arith)))
         ∙ chunk-add s (R .base) (R .size * n) (R .size)
         ∙ ap (chunk s (R .base)) (sym (mul-suc (R .size) n))
 
-    pub region-there : length (listedIn R s) ≤ 64 → Zeros s (place R (length (listedIn R s))) (place R 64) → zeroPadded (R .size * 64) (joined encode (listedIn R s)) ≡ chunk s (R .base) (R .size * 64)
+    pub region-there : length (listedIn R s) ≤ 64 → Zeros s (place R (length (listedIn R s))) (place R 64) → zeroPadded (R .size * 64) (texts encode (listedIn R s)) ≡ chunk s (R .base) (R .size * 64)
     unfolding listedIn
     region-there few z =
         let n = getD s (R .slot) 0 in
         let count : length (listedIn R s) ≡ n = count-of R s in
         let small : n ≤ 64 = omega arith in
         let full : R .size * n ≤ R .size * 64 = mul-le-mul-left {m = n} {n = 64} (R .size) small in
-        let len : length (joined encode (listedIn R s)) ≡ R .size * n = joined-length (listedIn R s) ∙ ap (λ (k : ℕ). R .size * k) count in
+        let len : length (texts encode (listedIn R s)) ≡ R .size * n = texts-length (listedIn R s) ∙ ap (λ (k : ℕ). R .size * k) count in
         let rest : replicate (R .size * 64 - R .size * n) 0 ≡ chunk s (R .base + R .size * n) (R .size * 64 - R .size * n) =
         ext-getD 0 (replicate (R .size * 64 - R .size * n) 0) (chunk s (R .base + R .size * n) (R .size * 64 - R .size * n))
         (length-replicate (R .size * 64 - R .size * n) 0 ∙ sym (chunk-length s (R .base + R .size * n) (R .size * 64 - R .size * n) (omega arith)))
@@ -82,7 +76,7 @@ module _ {A : Type 0} (R : Region A) (encode : A → List ℕ) (size : (x : A) �
         getD-replicate (R .size * 64 - R .size * n) i 0 0 k
         ∙ sym (chunk-byte s (R .base + R .size * n) (R .size * 64 - R .size * n) i k
         ∙ z (R .base + R .size * n + i) (subst (λ (m : ℕ). place R m ≤ R .base + R .size * n + i) (sym count) (omega arith)) (omega arith))) in
-        ap (λ (k : ℕ). joined encode (listedIn R s) ++ replicate (R .size * 64 - k) 0) len
+        ap (λ (k : ℕ). texts encode (listedIn R s) ++ replicate (R .size * 64 - k) 0) len
         ∙ ap₂ _++_ (records-there n small) rest
         ∙ chunk-add s (R .base) (R .size * n) (R .size * 64 - R .size * n)
         ∙ ap (chunk s (R .base)) (omega arith)
@@ -90,29 +84,29 @@ module _ {A : Type 0} (R : Region A) (encode : A → List ℕ) (size : (x : A) �
   -- from records to bytes and back
   module _ (xs : List A) (few : length xs ≤ 64) where
     abbrev pub part : List ℕ
-    part = zeroPadded (R .size * 64) (joined encode xs)
+    part = zeroPadded (R .size * 64) (texts encode xs)
 
     full : R .size * length xs ≤ R .size * 64
     full = mul-le-mul-left {m = length xs} {n = 64} (R .size) few
 
     pub part-length : length part ≡ R .size * 64
-    part-length = length-append (joined encode xs) (replicate (R .size * 64 - length (joined encode xs)) 0)
-        ∙ omega (arith, joined-length xs, full, length-replicate {A = ℕ} (R .size * 64 - length (joined encode xs)) 0)
+    part-length = length-append (texts encode xs) (replicate (R .size * 64 - length (texts encode xs)) 0)
+        ∙ omega (arith, texts-length xs, full, length-replicate {A = ℕ} (R .size * 64 - length (texts encode xs)) 0)
 
     -- record i of the bytes of a list
-    joined-at : (ys : List A) (rest : List ℕ) (i : ℕ) → i < length ys → chunk (joined encode ys ++ rest) (R .size * i) (R .size) ≡ encode (getD ys i (blank R))
-    unfolding joined chunk
-    joined-at [] rest i h = absurd (not-suc-le-zero h)
-    joined-at (x ∷ ys) rest zero h =
-        ap (λ (k : ℕ). take (R .size) (drop k (encode x ++ joined encode ys ++ rest))) (mul-zero (R .size))
-        ∙ ap (take (R .size)) (append-assoc (encode x) (joined encode ys) rest)
-        ∙ take-at (encode x) (joined encode ys ++ rest) (R .size) (size x)
-    joined-at (x ∷ ys) rest (suc i) h =
+    texts-at : (ys : List A) (rest : List ℕ) (i : ℕ) → i < length ys → chunk (texts encode ys ++ rest) (R .size * i) (R .size) ≡ encode (getD ys i (blank R))
+    unfolding chunk
+    texts-at [] rest i h = absurd (not-suc-le-zero h)
+    texts-at (x ∷ ys) rest zero h =
+        ap (λ (k : ℕ). take (R .size) (drop k (encode x ++ texts encode ys ++ rest))) (mul-zero (R .size))
+        ∙ ap (take (R .size)) (append-assoc (encode x) (texts encode ys) rest)
+        ∙ take-at (encode x) (texts encode ys ++ rest) (R .size) (size x)
+    texts-at (x ∷ ys) rest (suc i) h =
         let e : R .size * suc i ≡ R .size + R .size * i = omega (arith, mul-suc (R .size) i) in
-        ap (λ (k : ℕ). take (R .size) (drop k (encode x ++ joined encode ys ++ rest))) e
-        ∙ ap (λ (l : List ℕ). take (R .size) (drop (R .size + R .size * i) l)) (append-assoc (encode x) (joined encode ys) rest)
-        ∙ ap (take (R .size)) (sym (drop-drop (R .size * i) (R .size) (encode x ++ (joined encode ys ++ rest))) ∙ ap (drop (R .size * i)) (drop-at (encode x) (joined encode ys ++ rest) (R .size) (size x)))
-        ∙ joined-at ys rest i (le-of-suc-le-suc h)
+        ap (λ (k : ℕ). take (R .size) (drop k (encode x ++ texts encode ys ++ rest))) e
+        ∙ ap (λ (l : List ℕ). take (R .size) (drop (R .size + R .size * i) l)) (append-assoc (encode x) (texts encode ys) rest)
+        ∙ ap (take (R .size)) (sym (drop-drop (R .size * i) (R .size) (encode x ++ (texts encode ys ++ rest))) ∙ ap (drop (R .size * i)) (drop-at (encode x) (texts encode ys ++ rest) (R .size) (size x)))
+        ∙ texts-at ys rest i (le-of-suc-le-suc h)
 
     -- the part stands at the region's base
     module _ (P Q : List ℕ) (base : length P ≡ R .base) where
@@ -136,18 +130,18 @@ module _ {A : Type 0} (R : Region A) (encode : A → List ℕ) (size : (x : A) �
           ap (R .decode)
           (chunk-same image part (place R i) (R .size * i) (R .size) (omega (arith, image-fits)) (omega (arith, part-length))
           (λ k l. ap (λ (m : ℕ). getD image m 0) (omega arith) ∙ in-part (R .size * i + k) (omega arith))
-          ∙ joined-at xs (replicate (R .size * 64 - length (joined encode xs)) 0) i h)
+          ∙ texts-at xs (replicate (R .size * 64 - length (texts encode xs)) 0) i h)
           ∙ back i h)
 
       pub part-zeros : Zeros image (place R (length xs)) (place R 64)
       part-zeros i lo hi =
           let k : ℕ = i - R .base in
           let e : i ≡ R .base + k = omega arith in
-          let l : k ≡ length (joined encode xs) + (k - R .size * length xs) = omega (arith, joined-length xs) in
+          let l : k ≡ length (texts encode xs) + (k - R .size * length xs) = omega (arith, texts-length xs) in
           ap (λ (m : ℕ). getD image m 0) e ∙ in-part k (omega arith)
-          ∙ ap (λ (m : ℕ). getD (joined encode xs ++ replicate (R .size * 64 - length (joined encode xs)) 0) m 0) l
-          ∙ getD-append-add (joined encode xs) (replicate (R .size * 64 - length (joined encode xs)) 0) (k - R .size * length xs) 0
-          ∙ getD-replicate (R .size * 64 - length (joined encode xs)) (k - R .size * length xs) 0 0 (omega (arith, joined-length xs))
+          ∙ ap (λ (m : ℕ). getD (texts encode xs ++ replicate (R .size * 64 - length (texts encode xs)) 0) m 0) l
+          ∙ getD-append-add (texts encode xs) (replicate (R .size * 64 - length (texts encode xs)) 0) (k - R .size * length xs) 0
+          ∙ getD-replicate (R .size * 64 - length (texts encode xs)) (k - R .size * length xs) 0 0 (omega (arith, texts-length xs))
 
 -- THE WHOLE
 ten-zeros : (k : ℕ) → getD {A = ℕ} (replicate 10 0) k 0 ≡ 0
@@ -207,13 +201,13 @@ module _ (v : View) (f : Fit v) where
   H = encodeHead (headOf v)
 
   abbrev N : List ℕ
-  N = zeroPadded 1024 (joined encodeNode (v .nodes))
+  N = zeroPadded 1024 (texts encodeNode (v .nodes))
 
   abbrev O : List ℕ
-  O = zeroPadded 2048 (joined encodeOp (v .ops))
+  O = zeroPadded 2048 (texts encodeOp (v .ops))
 
   abbrev S : List ℕ
-  S = zeroPadded 1024 (joined encodeResult (v .results))
+  S = zeroPadded 1024 (texts encodeResult (v .results))
 
   head-length : length H ≡ 16
   unfolding encodeHead

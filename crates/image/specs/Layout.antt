@@ -4,6 +4,7 @@ use Prim.Native.Nat.{ℕ, _+_, _*_, _-_, _≤_, _<_}
 use mathlib.Core.Path.{_≡_}
 use mathlib.Core.List.{List, [], _∷_, _++_}
 use lib.ListN.{length, getD, take, drop, replicate}
+use Rattle.text.specs.Text.{texts}
 use Rattle.records.specs.declared.head.Head.{Head}
 use Rattle.records.specs.declared.node.NodeRecord.{NodeRecord}
 use Rattle.records.specs.declared.op.OpRecord.{OpRecord}
@@ -95,11 +96,6 @@ module _ {A : Type 0} where
   insertAt p x xs = take p xs ++ (x ∷ drop p xs)
 
 -- the bytes of a view: the head, then each region's records, one after the other, and zeros up to its end
-module _ {A : Type 0} (encode : A → List ℕ) where
-  unfoldable pub joined : List A → List ℕ
-  joined [] = []
-  joined (x ∷ xs) = encode x ++ joined xs
-
 abbrev pub zeroPadded : ℕ → List ℕ → List ℕ
 zeroPadded n bs = bs ++ replicate (n - length bs) 0
 
@@ -109,9 +105,9 @@ headOf v = record { nodes = length (v .nodes); ops = length (v .ops); results = 
 unfoldable pub imageOf : View → List ℕ
 imageOf v =
     encodeHead (headOf v)
-    ++ (zeroPadded 1024 (joined encodeNode (v .nodes))
-    ++ (zeroPadded 2048 (joined encodeOp (v .ops))
-    ++ zeroPadded 1024 (joined encodeResult (v .results))))
+    ++ (zeroPadded 1024 (texts encodeNode (v .nodes))
+    ++ (zeroPadded 2048 (texts encodeOp (v .ops))
+    ++ zeroPadded 1024 (texts encodeResult (v .results))))
 
 -- bytes moved within a list, and bytes cleared: `by` places down or up, between `at` and `end`
 pub record MovedDown (at end by : ℕ) (s t : List ℕ) : Type 0 where

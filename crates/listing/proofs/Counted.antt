@@ -12,7 +12,8 @@ use Rattle.graph.proofs.Labels.{one, total-one}
 use Rattle.queue.specs.Flat.{Flat, flat, nest, nodesOf, queued}
 use Rattle.queue.proofs.Labels.{pending-same}
 use Rattle.worksteps.specs.FlatSteps.{noNode}
-use Rattle.print.specs.Printed.{headText, nodeText, resultText, texts, nodeOf, resultOf}
+use Rattle.text.specs.Text.{texts}
+use Rattle.print.specs.Printed.{headText, nodeText, resultText, nodeOf, resultOf}
 use Rattle.valid.specs.Values.{sessionOf}
 use Rattle.state.specs.State.{held}
 use Rattle.state.specs.Results.{IsBody, IsOutcome, noResult}

@@ -7,10 +7,9 @@ use native.Mathlib.Omega.{arith}
 use native.Mathlib.Numerals.{add-one}
 use lib.ListN.{length, take, drop, getD, length-append, length-drop, length-reverse}
 use lib.Seq.{take-suc, split-at, getD-at}
-use Rattle.text.specs.Text.{Written}
+use Rattle.text.specs.Text.{Written, texts}
 use Rattle.text.proofs.Pasting.{written-room, written-then}
-use Rattle.print.specs.Printed.{texts}
-use Rattle.print.proofs.Listing.{texts-append}
+use Rattle.text.proofs.Lists.{texts-append}
 use Rattle.listing.specs.Listed.{joined}
 
 -- the same text, written another way

@@ -7,7 +7,8 @@ use mathlib.Core.List.{List, _++_, map, reverse}
 use lib.ListN.{length}
 use Rattle.graph.specs.Sessions.{Session, graphOf, pending}
 use Rattle.queue.specs.Flat.{Flat, queued}
-use Rattle.print.specs.Printed.{headText, nodeText, resultText, nodeOf, resultOf, texts, listingText}
+use Rattle.text.specs.Text.{texts}
+use Rattle.print.specs.Printed.{headText, nodeText, resultText, nodeOf, resultOf, listingText}
 use Rattle.listing.specs.declared.rows.Row.{Row}
 
 -- "The head counts nodes, unclaimed results and pending calls. Nodes stand in station order, results by label."

@@ -1,16 +1,11 @@
 -- The listing: how it grows by a line, and document 01's own listing, computed.
 -- Assumes nothing.
 use Prim.Native.Nat.{ℕ}
-use mathlib.Core.Path.{_≡_, refl, sym, ap, _∙_}
-use mathlib.Core.List.{List, [], _∷_, _++_, append-assoc}
+use mathlib.Core.Path.{_≡_, refl}
+use mathlib.Core.List.{List, [], _∷_, _++_}
 use Rattle.graph.specs.Nodes.{Node, Result}
 use Rattle.text.specs.Text.{ascii, digits, decimal, further, commas}
-use Rattle.print.specs.Printed.{texts, newline, listingText, refusalText}
-
-pub texts-append : {A : Type 0} (text : A → List ℕ) (xs ys : List A) → texts text (xs ++ ys) ≡ texts text xs ++ texts text ys
-texts-append text [] ys = refl
-texts-append text (x ∷ xs) ys =
-    ap (λ (r : List ℕ). text x ++ r) (texts-append text xs ys) ∙ sym (append-assoc (text x) (texts text xs) (texts text ys))
+use Rattle.print.specs.Printed.{newline, listingText, refusalText}
 
 node : ℕ → ℕ → Node
 node key value = record { key = key; value = value; links = [] }

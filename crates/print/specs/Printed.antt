@@ -6,7 +6,7 @@ use lib.ListN.{length}
 use Rattle.graph.specs.Nodes.{Node, Result}
 use Rattle.graph.specs.Packed.{listed}
 use Rattle.graph.specs.declared.keys.Keys.{Keys}
-use Rattle.text.specs.Text.{ascii, decimal, commas}
+use Rattle.text.specs.Text.{ascii, decimal, commas, texts}
 
 -- a name and a number
 abbrev pub numbered : List ℕ → ℕ → List ℕ
@@ -31,11 +31,6 @@ nodeText n = lineOf (ascii "key=") (n .key) (ascii " value=") (n .value) (ascii 
 abbrev pub headText : (nodes results pending : ℕ) → List ℕ
 headText nodes results pending =
     numbered (ascii "nodes=") nodes ++ numbered (ascii " results=") results ++ numbered (ascii " pending=") pending ++ newline
-
--- texts one after another
-abbrev pub texts : {A : Type 0} → (A → List ℕ) → List A → List ℕ
-texts text [] = []
-texts text (x ∷ xs) = text x ++ texts text xs
 
 -- "The head counts nodes, unclaimed results and pending calls. Nodes stand in station order, results by label."
 abbrev pub listingText : List Node → List Result → (pending : ℕ) → List ℕ

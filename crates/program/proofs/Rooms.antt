@@ -5,14 +5,14 @@ use mathlib.Core.List.{List, [], _∷_, _++_}
 use Prim.Native.Nat.{ℕ, suc, _+_, _*_, _≤_, _<_, _^_}
 use native.Mathlib.Omega.{arith}
 use lib.ListN.{length, length-append}
-use Rattle.text.specs.Text.{ascii, decimal, further, commas}
+use Rattle.text.specs.Text.{ascii, decimal, further, commas, texts}
 use Rattle.text.proofs.Decimals.{len-ten}
 use Rattle.graph.specs.Nodes.{Node, Result}
 use Rattle.graph.specs.Sessions.{Station, Session, graphOf, labelsOfResults, pending, live}
 use Rattle.graph.specs.Valid.{Each, Key, ValidNode, ValidStation, ValidResult, KeysFall, Given, Valid}
 use Rattle.graph.proofs.Labels.{length-labels}
 use Rattle.graph.proofs.Limits.{each-right}
-use Rattle.print.specs.Printed.{lineOf, resultText, nodeText, headText, texts}
+use Rattle.print.specs.Printed.{lineOf, resultText, nodeText, headText}
 use Rattle.listing.specs.Listed.{listingOf}
 
 further-short : (ts : List ℕ) → Each Key ts → length (further ts) ≤ 11 * length ts

@@ -5,7 +5,7 @@ use mathlib.Core.Path.{_≡_, refl, sym, ap, _∙_}
 use mathlib.Core.List.{List, [], _∷_, _++_, append-nil, append-assoc}
 use native.Mathlib.Omega.{arith}
 use lib.ListN.{length, drop, length-append}
-use Rattle.text.specs.Text.{decimal, further, commas}
+use Rattle.text.specs.Text.{decimal, further, commas, texts}
 use Rattle.text.specs.Reads.{Gap}
 use Rattle.text.proofs.Decimals.{decimal-is}
 use Rattle.text.proofs.Splits.{Clean, decimal-clean, same-number}
@@ -89,3 +89,10 @@ passed-next (t ∷ ts) v x =
     append-assoc (decimal t) (44 ∷ passed ts) (decimal v ++ (44 ∷ x))
     ∙ ap (λ (r : List ℕ). decimal t ++ (44 ∷ r)) (passed-next ts v x)
     ∙ sym (append-assoc (decimal t) (44 ∷ passed (ts ++ v ∷ [])) x)
+
+-- ---- texts one after another
+
+pub texts-append : {A : Type 0} (text : A → List ℕ) (xs ys : List A) → texts text (xs ++ ys) ≡ texts text xs ++ texts text ys
+texts-append text [] ys = refl
+texts-append text (x ∷ xs) ys =
+    ap (λ (r : List ℕ). text x ++ r) (texts-append text xs ys) ∙ sym (append-assoc (text x) (texts text xs) (texts text ys))

@@ -19,6 +19,11 @@ unfoldable pub upTo : ℕ → List ℕ → List ℕ
 upTo stop [] = []
 upTo stop (x ∷ xs) = cond (eqb x stop) [] (x ∷ upTo stop xs)
 
+-- texts one after another
+abbrev pub texts : {A : Type 0} → (A → List ℕ) → List A → List ℕ
+texts text [] = []
+texts text (x ∷ xs) = text x ++ texts text xs
+
 -- does the text begin with this one?
 unfoldable pub startsWith : (literal text : List ℕ) → Bool
 startsWith [] text = true

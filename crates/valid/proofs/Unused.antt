@@ -12,7 +12,7 @@ use Rattle.graph.specs.Sessions.{fresh}
 use Rattle.records.specs.Bytes.{allZero}
 use Rattle.records.specs.Records.{encodeHead}
 use Rattle.records.proofs.Zeros.{zeros, all-zeros}
-use Rattle.image.specs.Layout.{Sound, Zeros, Cleared, nodeRegion, opRegion, resultRegion, imageOf, joined}
+use Rattle.image.specs.Layout.{Sound, Zeros, Cleared, nodeRegion, opRegion, resultRegion, imageOf}
 use Rattle.image.proofs.Regions.{count-of}
 use Rattle.valid.specs.Values.{encode}
 use Rattle.valid.specs.Exact.{Decides}
@@ -41,7 +41,7 @@ refuses f = record { sound = λ e. absurd (true≢false (sym e)); complete = λ 
 
 -- OPENING
 fresh-bytes : encode fresh ≡ 1 ∷ replicate 4111 0
-unfolding encode imageOf joined encodeHead
+unfolding encode imageOf encodeHead
 fresh-bytes =
     ap (λ (l : List ℕ). encodeHead (record { nodes = 0; ops = 0; results = 0; last = 0 }) ++ (replicate 1024 0 ++ l)) (replicate-append-replicate 2048 1024 0)
     ∙ ap (λ (l : List ℕ). encodeHead (record { nodes = 0; ops = 0; results = 0; last = 0 }) ++ l) (replicate-append-replicate 1024 3072 0)
