@@ -2,14 +2,21 @@
 -- Assumes nothing.
 use mathlib.Core.Path.{sym, _∙_}
 use Rattle.state.specs.State.{held}
+use Rattle.state.proofs.Holding.{few-ops}
 use Rattle.calls.proofs.Admitting.{admit-none, admit-some}
 use Rattle.calls.proofs.Worked.{shown-by}
+use native.Mathlib.Omega.{arith}
 use borrow.Author.Needs.{needs}
 use Rattle.calls.proofs.admit.admit_operation.Statement.{statement}
 use Rattle.calls.proofs.admit.admit_operation.Tie as tie
 
 total-requires : tie.Need-total-requires
 total-requires c κs = search needs
+
+add-finish-at : tie.Need-add-finish-at
+add-finish-at c =
+    let s = c .before .before .before .before .before in
+    record { fits = omega (arith, few-ops (s .args .image .now) (s .pre .0 .proper), s .pre .1) }
 
 finish-at-requires : tie.Need-finish-at-requires
 finish-at-requires c κs = search needs
@@ -38,4 +45,4 @@ returns-2 c =
     shown-by (admit-some (held (s .args .image .now)) (s .args .w) (s .pre .2) (n .result) (n .ensures .is) (c .before .before .before .before .if1 .left)) (c .before .before .set-place .ensures)
 
 pub admit-operation-spec : {M : Type 1} → statement M
-admit-operation-spec = tie.close (tie.spec total-requires finish-at-requires same-length returns cast-set-place set-place-requires same-length-2 returns-2)
+admit-operation-spec = tie.close (tie.spec total-requires add-finish-at finish-at-requires same-length returns cast-set-place set-place-requires same-length-2 returns-2)
