@@ -15,21 +15,19 @@ use Rattle.graph.specs.Steps.{admit}
 use Rattle.graph.specs.Valid.{ValidCall}
 use Rattle.graph.proofs.Answers.{Holds, holds-map, holds-at}
 use Rattle.graph.proofs.Validity.{step-valid}
-use Rattle.queue.specs.Flat.{Tagged, Flat, flat, nest, isOp, labelsIn, queued}
+use Rattle.queue.specs.Flat.{Flat, flat, nest, isOp, labelsIn, queued}
 use Rattle.queue.proofs.Places.{length-nodes}
+use Rattle.queue.proofs.Elements.{each-queued}
+use Rattle.queue.proofs.Labels.{labels-many}
 use Rattle.worksteps.specs.FlatSteps.{noOp, admitCall, flatStep}
 use Rattle.worksteps.specs.FlatEvents.{flatLive}
 use Rattle.worksteps.proofs.Events.{valid-room, step-valid-flat}
-use Rattle.worksteps.proofs.Facts.{sits-at, labels-room}
+use Rattle.worksteps.proofs.Facts.{labels-room}
 use Rattle.state.specs.State.{held}
 use Rattle.live.specs.Live.{Live}
 use Rattle.calls.specs.Admission.{admittedAt}
 
-one-label : (c : Labelled) → ValidCall c → 1 ≤ length (labelsIn c)
-one-label (addOf l v) g = omega arith
-one-label (opOf o) g = g .named
-
--- an add has one, and its node is one more
+-- an add has one label, and its node is one more
 one-name : (c : Labelled) → isOp c ≡ false → length (labelsIn c) ≡ 1
 one-name (addOf l v) e = refl
 one-name (opOf o) e = absurd (true≢false e)
@@ -37,12 +35,6 @@ one-name (opOf o) e = absurd (true≢false e)
 grown : (w : ℕ) (f : Flat) (c : Labelled) → isOp c ≡ false → length (admitCall w c f .nodes) ≡ suc (length (f .nodes))
 grown w f (addOf l v) e = omega (arith, length-append (f .nodes) (newNode (length (f .nodes)) v ∷ []))
 grown w f (opOf o) e = absurd (true≢false e)
-
--- each call of the queue has a label of its own
-labels-many : (q : List Tagged) → ((i : ℕ) → i < length q → 1 ≤ length (labelsIn (getD q i noOp .call))) → length q ≤ length (queued q)
-labels-many [] g = omega arith
-labels-many (x ∷ xs) g =
-    omega (arith, g 0 (omega arith), labels-many xs (λ i h. g (suc i) (omega arith)), length-append (labelsIn (x .call)) (queued xs))
 
 module _ (s : List ℕ) (g : Live s) where
   pub results-room : (i : ℕ) → i < length (held s .queue) → length (held s .results) + length (labelsIn (getD (held s .queue) i noOp .call)) ≤ 64
@@ -52,10 +44,10 @@ module _ (s : List ℕ) (g : Live s) where
 
   pub queue-room : leb 64 (flatLive (held s)) ≡ false → length (held s .queue) < 64
   queue-room e =
-      let one : (i : ℕ) → i < length (held s .queue) → 1 ≤ length (labelsIn (getD (held s .queue) i noOp .call)) =
-      subst (λ (f : Flat). (i : ℕ) → i < length (f .queue) → 1 ≤ length (labelsIn (getD (f .queue) i noOp .call))) (g .flat)
-      (λ i h. one-label (getD (flat (nest (held s)) .queue) i noOp .call) (sits-at (nest (held s)) (g .valid) i h .call)) in
-      omega (arith, labels-many (held s .queue) one, leb-false 64 (flatLive (held s)) e)
+      let many : length (held s .queue) ≤ length (queued (held s .queue)) =
+      subst (λ (f : Flat). length (f .queue) ≤ length (queued (f .queue))) (g .flat)
+      (labels-many (flat (nest (held s)) .queue) (each-queued (λ x. ValidCall (x .call)) (λ c w. w) (nest (held s)) (g .valid) (λ k b o l h w. w))) in
+      omega (arith, many, leb-false 64 (flatLive (held s)) e)
 
   -- a step leaves a valid session, so an add that waits has room for its node
   few-after : Holds (λ (f : Flat). length (f .nodes) ≤ 64) (flatStep admit (held s))

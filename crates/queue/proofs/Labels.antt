@@ -1,15 +1,15 @@
 -- The labels and the adds of a queue are its session's, in another order: whatever counts them counts the same.
 -- Assumes nothing.
 use mathlib.Core.Path.{_≡_, refl, sym, _∙_, ap, ap₂}
-use Prim.Native.Nat.{ℕ, _+_}
+use Prim.Native.Nat.{ℕ, _+_, _≤_}
 use native.Mathlib.Omega.{arith}
 use mathlib.Core.Bool.{Bool, true, false}
 use mathlib.Core.List.{List, [], _∷_, _++_, append-assoc}
-use lib.ListN.{length}
+use lib.ListN.{length, length-append}
 use Rattle.graph.specs.Nodes.{Op}
 use Rattle.graph.specs.OneAtATime.{Labelled, addOf, opOf}
 use Rattle.graph.specs.Sessions.{Station, Session, labelsOfUnit, labelsOfUnits, labelsOfStations, labelsOfCalls, labelsOfResults, pending, live, addsIn}
-use Rattle.graph.specs.Valid.{count}
+use Rattle.graph.specs.Valid.{Each, ValidCall, count}
 use Rattle.graph.proofs.Labels.{total, is, one, total-append, total-is, total-one}
 use Rattle.queue.specs.Flat.{Tagged, tagUnit, tagUnits, queueOf, waiting, flat, labelsIn, queued, addsQueued, liveIn}
 
@@ -58,6 +58,15 @@ live-count l s = sym (total-is l (liveIn (flat s))) ∙ live-same (is l) s ∙ t
 
 pub live-length : (s : Session) → length (liveIn (flat s)) ≡ length (live s)
 live-length s = sym (total-one (liveIn (flat s))) ∙ live-same one s ∙ total-one (live s)
+
+-- each call of a queue has a label of its own
+labels-some : (c : Labelled) → ValidCall c → 1 ≤ length (labelsIn c)
+labels-some (addOf l v) g = omega arith
+labels-some (opOf o) g = g .named
+
+pub labels-many : (q : List Tagged) → Each (λ x. ValidCall (x .call)) q → length q ≤ length (queued q)
+labels-many [] g = omega arith
+labels-many (x ∷ xs) g = omega (arith, length-append (labelsIn (x .call)) (queued xs), labels-some (x .call) (g .0), labels-many xs (g .1))
 
 -- ADDS: none stands at a station
 adds-unit : (k : ℕ) (b : Bool) (os : List Op) (q : List Tagged) → addsQueued (tagUnit k b os ++ q) ≡ addsQueued q

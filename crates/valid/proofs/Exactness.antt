@@ -11,13 +11,13 @@ use lib.ListN.{length, getD, length-append, length-map}
 use borrow.Author.Tests.{leb-true, le-leb, lt-ltb, ltb-true}
 use Rattle.graph.specs.KeyLists.{above, rising}
 use Rattle.graph.specs.Nodes.{Node, Result}
-use Rattle.graph.specs.OneAtATime.{Labelled, addOf, opOf}
 use Rattle.graph.specs.Sessions.{Session, labelsOfResults}
-use Rattle.graph.specs.Valid.{Each, ValidNode, ValidCall, ValidResult, Given, Valid}
+use Rattle.graph.specs.Valid.{Each, ValidNode, ValidResult, Given, Valid}
 use Rattle.graph.proofs.Answers.{and-left, and-right, by-bool}
 use Rattle.graph.proofs.Labels.{length-labels}
 use Rattle.graph.proofs.Limits.{each-left, each-right, rising-above, each-at}
 use Rattle.queue.specs.Flat.{Tagged, Flat, flat, nest, ordered, placed, follows, labelsIn, queued, addsQueued, liveIn}
+use Rattle.queue.proofs.Labels.{labels-many}
 use Rattle.queue.proofs.Nesting.{KeysUp, Formed, flat-nest, nest-flat, keyed-nest, order-line, keyed-stations}
 use Rattle.records.specs.Bytes.{chunk, tab}
 use Rattle.records.specs.declared.node.NodeRecord.{NodeRecord}
@@ -230,16 +230,6 @@ results-small : (rs : List Result) → Small (labelsOfResults rs) → Each (λ r
 results-small [] s = tt
 results-small (r ∷ rs) s = (s .0, results-small rs (s .1))
 
--- each call has a label
-named : (c : Labelled) → ValidCall c → 1 ≤ length (labelsIn c)
-named (addOf l v) h = omega arith
-named (opOf o) h = h .named
-
-queue-few : (q : List Tagged) → Each ValidTagged q → length q ≤ length (queued q)
-queue-few [] v = omega arith
-queue-few (x ∷ xs) v =
-    omega (arith, length-append (labelsIn (x .call)) (queued xs), named (x .call) (v .0), queue-few xs (v .1))
-
 module _ (f : Flat) (v : FlatValid f) where
   small : Small (liveIn f)
   small = small-each (f .last) (v .labels) (liveIn f) (v .fresh .given)
@@ -268,7 +258,7 @@ module _ (f : Flat) (v : FlatValid f) where
       record {
         last = omega (arith, v .labels);
         few-nodes = omega (arith, v .room, length-map (f .nodes) nodeRecord);
-        few-ops = omega (arith, length-map (f .queue) taggedRecord, queue-few (f .queue) (v .queue), both-lists, v .places);
+        few-ops = omega (arith, length-map (f .queue) taggedRecord, labels-many (f .queue) (v .queue), both-lists, v .places);
         few-results = omega (arith, length-map (f .results) resultRecord, length-labels (f .results), both-lists, v .places);
         nodes = each-at FitNode (map nodeRecord (f .nodes)) (blank nodeRegion) (map-each nodeRecord ValidNode FitNode (λ n h. node-fit n h) (f .nodes) (v .nodes));
         ops = each-at FitOp (map taggedRecord (f .queue)) (blank opRegion)
