@@ -18,7 +18,7 @@ use Rattle.graph.proofs.Validity.{step-valid}
 use Rattle.queue.specs.Flat.{Flat, flat, nest, isOp, labelsIn, queued}
 use Rattle.queue.proofs.Places.{length-nodes}
 use Rattle.queue.proofs.Elements.{each-queued}
-use Rattle.queue.proofs.Labels.{queue-few}
+use Rattle.queue.proofs.Labels.{labels-many}
 use Rattle.worksteps.specs.FlatSteps.{noOp, admitCall, flatStep}
 use Rattle.worksteps.specs.FlatEvents.{flatLive}
 use Rattle.worksteps.proofs.Events.{valid-room, step-valid-flat}
@@ -27,7 +27,7 @@ use Rattle.state.specs.State.{held}
 use Rattle.live.specs.Live.{Live}
 use Rattle.calls.specs.Admission.{admittedAt}
 
--- an add has one, and its node is one more
+-- an add has one label, and its node is one more
 one-name : (c : Labelled) → isOp c ≡ false → length (labelsIn c) ≡ 1
 one-name (addOf l v) e = refl
 one-name (opOf o) e = absurd (true≢false e)
@@ -44,10 +44,10 @@ module _ (s : List ℕ) (g : Live s) where
 
   pub queue-room : leb 64 (flatLive (held s)) ≡ false → length (held s .queue) < 64
   queue-room e =
-      let few : length (held s .queue) ≤ length (queued (held s .queue)) =
+      let many : length (held s .queue) ≤ length (queued (held s .queue)) =
       subst (λ (f : Flat). length (f .queue) ≤ length (queued (f .queue))) (g .flat)
-      (queue-few (flat (nest (held s)) .queue) (each-queued (λ x. ValidCall (x .call)) (λ c v. v) (nest (held s)) (g .valid) (λ k b o l h v. v))) in
-      omega (arith, few, leb-false 64 (flatLive (held s)) e)
+      (labels-many (flat (nest (held s)) .queue) (each-queued (λ x. ValidCall (x .call)) (λ c w. w) (nest (held s)) (g .valid) (λ k b o l h w. w))) in
+      omega (arith, many, leb-false 64 (flatLive (held s)) e)
 
   -- a step leaves a valid session, so an add that waits has room for its node
   few-after : Holds (λ (f : Flat). length (f .nodes) ≤ 64) (flatStep admit (held s))

@@ -3,7 +3,7 @@
 use mathlib.Core.Path.{_≡_, refl, sym, _∙_, ap}
 use Prim.Native.Nat.{ℕ, suc, _+_, _≤_, _<_}
 use native.Mathlib.Omega.{arith}
-use mathlib.Core.Bool.{Bool, true, false, cond, _&&_}
+use mathlib.Core.Bool.{Bool, true, false, cond, _&&_, _||_}
 use mathlib.Core.List.{List, [], _∷_, _++_}
 use lib.Dec.{eqb, leb, ltb}
 use lib.ListN.{length}
@@ -16,7 +16,7 @@ use Rattle.graph.specs.OneAtATime.{Labelled, addOf, opOf}
 use Rattle.graph.specs.Sessions.{Station, station, Session, insert, store, labelsOfUnit, labelsOfUnits, labelsOfStations, labelsOfCalls, labelsOfResults, pending, live}
 use Rattle.graph.specs.Steps.{Step, step, enter}
 use Rattle.graph.specs.Valid.{Each, count, Given}
-use Rattle.graph.proofs.Answers.{Holds, refuses, holds, holds-at, or-left, or-right, and-left, and-right, and-both, eqb-same}
+use Rattle.graph.proofs.Answers.{Holds, refuses, holds, holds-at, and-left, and-right, and-both, eqb-same}
 use Rattle.graph.proofs.Outcome.{flat, flowOps, Seen, sumOf, sum-append, sum, sumOps, through, admitting, outcome, sum-store}
 use Rattle.graph.proofs.OutcomeKept.{Same, step-same}
 
@@ -68,9 +68,16 @@ pub length-labels : (rs : List Result) → length (labelsOfResults rs) ≡ lengt
 length-labels [] = refl
 length-labels (r ∷ rs) = ap suc (length-labels rs)
 
+pub contains-count : (l : ℕ) (xs : List ℕ) → contains l xs ≡ ltb 0 (count l xs)
+contains-count l [] = refl
+contains-count l (x ∷ xs) = go (eqb l x) (contains-count l xs)
+  where
+    go : (b : Bool) → contains l xs ≡ ltb 0 (count l xs) → (b || contains l xs) ≡ ltb 0 (cond b 1 0 + count l xs)
+    go true e = sym (lt-ltb 0 (1 + count l xs) (omega arith))
+    go false e = let z : count l xs ≡ 0 + count l xs = omega arith in e ∙ ap (ltb 0) z
+
 pub count-out : (l : ℕ) (xs : List ℕ) → contains l xs ≡ false → count l xs ≡ 0
-count-out l [] e = refl
-count-out l (x ∷ xs) e = rw (or-left (eqb l x) (contains l xs) e) (omega (arith, count-out l xs (or-right (eqb l x) _ e)))
+count-out l xs e = omega (arith, ltb-false 0 (count l xs) (sym (contains-count l xs) ∙ e))
 
 -- THE OUTCOME'S TOTAL
 stored-total : (v : ℕ → ℕ) (ls : List ℕ) (x : ℕ) (ts : List ℕ) → sum (byLabel v) (resultsFor ls x ts) ≡ total v ls

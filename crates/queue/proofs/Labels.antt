@@ -59,14 +59,14 @@ live-count l s = sym (total-is l (liveIn (flat s))) ∙ live-same (is l) s ∙ t
 pub live-length : (s : Session) → length (liveIn (flat s)) ≡ length (live s)
 live-length s = sym (total-one (liveIn (flat s))) ∙ live-same one s ∙ total-one (live s)
 
--- each valid call has a label
-named : (c : Labelled) → ValidCall c → 1 ≤ length (labelsIn c)
-named (addOf l v) h = omega arith
-named (opOf o) h = h .named
+-- each call of a queue has a label of its own
+labels-some : (c : Labelled) → ValidCall c → 1 ≤ length (labelsIn c)
+labels-some (addOf l v) g = omega arith
+labels-some (opOf o) g = g .named
 
-pub queue-few : (q : List Tagged) → Each (λ x. ValidCall (x .call)) q → length q ≤ length (queued q)
-queue-few [] v = omega arith
-queue-few (x ∷ xs) v = omega (arith, length-append (labelsIn (x .call)) (queued xs), named (x .call) (v .0), queue-few xs (v .1))
+pub labels-many : (q : List Tagged) → Each (λ x. ValidCall (x .call)) q → length q ≤ length (queued q)
+labels-many [] g = omega arith
+labels-many (x ∷ xs) g = omega (arith, length-append (labelsIn (x .call)) (queued xs), labels-some (x .call) (g .0), labels-many xs (g .1))
 
 -- ADDS: none stands at a station
 adds-unit : (k : ℕ) (b : Bool) (os : List Op) (q : List Tagged) → addsQueued (tagUnit k b os ++ q) ≡ addsQueued q

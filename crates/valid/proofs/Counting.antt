@@ -1,25 +1,17 @@
 -- Labels that were given and stand once, by test and by count.
 -- Assumes nothing.
-use mathlib.Core.Path.{_≡_, refl, ap, subst}
+use mathlib.Core.Path.{_≡_, refl, ap, subst, _∙_}
 use Prim.Native.Nat.{ℕ, _+_, _≤_}
 use native.Mathlib.Omega.{arith}
-use mathlib.Core.Bool.{Bool, true, false, cond, not, _||_}
+use mathlib.Core.Bool.{Bool, true, false, cond, not}
 use mathlib.Core.List.{List, [], _∷_}
-use lib.Dec.{eqb, leb}
+use lib.Dec.{eqb, leb, ltb}
 use borrow.Author.Tests.{eqb-true, leb-true, le-leb, not-true}
 use Rattle.graph.specs.KeyLists.{contains}
 use Rattle.graph.specs.Valid.{Each, count, Given}
 use Rattle.graph.proofs.Answers.{and-left, and-right, eqb-same}
-use Rattle.graph.proofs.Labels.{count-out}
+use Rattle.graph.proofs.Labels.{contains-count, count-out}
 use Rattle.valid.specs.Tests.{givenOnce}
-
-not-in : (x : ℕ) (xs : List ℕ) → count x xs ≡ 0 → contains x xs ≡ false
-not-in x [] e = refl
-not-in x (y ∷ ys) e = go (eqb x y) refl e (not-in x ys)
-  where
-    go : (b : Bool) → eqb x y ≡ b → cond b 1 0 + count x ys ≡ 0 → (count x ys ≡ 0 → contains x ys ≡ false) → (b || contains x ys) ≡ false
-    go true q h f = absurd (omega arith)
-    go false q h f = f (omega arith)
 
 -- labels that were given and stand once
 pub record Fresh (last : ℕ) (ls : List ℕ) : Type 0 where
@@ -45,7 +37,8 @@ unfolding givenOnce
 fresh-ok last [] f = refl
 fresh-ok last (x ∷ xs) f =
     let none : count x xs ≡ 0 = first (eqb-same x) (f .once x) in
-    rw (le-leb 1 x (f .given .0 .0), le-leb x last (f .given .0 .1), not-in x xs none)
+    let out : contains x xs ≡ false = contains-count x xs ∙ ap (ltb 0) none in
+    rw (le-leb 1 x (f .given .0 .0), le-leb x last (f .given .0 .1), out)
     (fresh-ok last xs (record { given = f .given .1; once = λ l. omega (arith, f .once l) }))
   where
     first : eqb x x ≡ true → cond (eqb x x) 1 0 + count x xs ≤ 1 → count x xs ≡ 0

@@ -17,7 +17,7 @@ use Rattle.graph.proofs.Answers.{and-left, and-right, by-bool}
 use Rattle.graph.proofs.Labels.{length-labels}
 use Rattle.graph.proofs.Limits.{each-left, each-right, rising-above, each-at}
 use Rattle.queue.specs.Flat.{Tagged, Flat, flat, nest, ordered, placed, follows, labelsIn, queued, addsQueued, liveIn}
-use Rattle.queue.proofs.Labels.{queue-few}
+use Rattle.queue.proofs.Labels.{labels-many}
 use Rattle.queue.proofs.Nesting.{KeysUp, Formed, flat-nest, nest-flat, keyed-nest, order-line, keyed-stations}
 use Rattle.records.specs.Bytes.{chunk, tab}
 use Rattle.records.specs.declared.node.NodeRecord.{NodeRecord}
@@ -258,7 +258,7 @@ module _ (f : Flat) (v : FlatValid f) where
       record {
         last = omega (arith, v .labels);
         few-nodes = omega (arith, v .room, length-map (f .nodes) nodeRecord);
-        few-ops = omega (arith, length-map (f .queue) taggedRecord, queue-few (f .queue) (v .queue), both-lists, v .places);
+        few-ops = omega (arith, length-map (f .queue) taggedRecord, labels-many (f .queue) (v .queue), both-lists, v .places);
         few-results = omega (arith, length-map (f .results) resultRecord, length-labels (f .results), both-lists, v .places);
         nodes = each-at FitNode (map nodeRecord (f .nodes)) (blank nodeRegion) (map-each nodeRecord ValidNode FitNode (λ n h. node-fit n h) (f .nodes) (v .nodes));
         ops = each-at FitOp (map taggedRecord (f .queue)) (blank opRegion)

@@ -3,12 +3,12 @@
 use mathlib.Core.Path.{_≡_, refl, sym, _∙_, ap}
 use Prim.Native.Nat.{ℕ, suc, _+_, _≤_}
 use native.Mathlib.Omega.{arith}
-use mathlib.Core.Bool.{Bool, true, false, cond, _&&_, _||_, true≢false}
+use mathlib.Core.Bool.{Bool, true, false, cond, _&&_, true≢false}
 use mathlib.Core.List.{List, [], _∷_, _++_, append-assoc}
 use mathlib.Core.Option.{Option, none, some}
-use lib.Dec.{eqb, leb, ltb}
+use lib.Dec.{leb, ltb}
 use lib.ListN.{length, length-append}
-use borrow.Author.Tests.{ne-eqb, lt-ltb}
+use borrow.Author.Tests.{ne-eqb}
 use Rattle.graph.specs.Refusals.{Answer, refused, done, mapDone, Test, unless}
 use Rattle.graph.specs.KeyLists.{contains}
 use Rattle.graph.specs.Calls.{Call, isAdd, formTests}
@@ -18,8 +18,8 @@ use Rattle.graph.specs.Sessions.{Station, Session, labelsOfResults, pending, li
 use Rattle.graph.specs.Steps.{Step, admit, realise, move, finish, step}
 use Rattle.graph.specs.Acceptance.{roomTests, callTests, accepted, accept, takeResult, claim}
 use Rattle.graph.specs.Drain.{orHere, backmost, Taken, taking, orElse, drainStepAt, drainStep}
-use Rattle.graph.specs.Valid.{count, Valid}
-use Rattle.graph.proofs.Labels.{is, total-is, length-labels}
+use Rattle.graph.specs.Valid.{Valid}
+use Rattle.graph.proofs.Labels.{is, total-is, length-labels, contains-count}
 use Rattle.queue.specs.Flat.{Tagged, tagUnits, queueOf, nodesOf, waiting, flat, Full, Keyed, queued, addsQueued}
 use Rattle.queue.proofs.Places.{length-nodes}
 use Rattle.queue.proofs.Nesting.{keyed-stations, flatSession}
@@ -39,14 +39,6 @@ pub step-valid-flat : (t : Step) (s : Session) → Valid s → flatStep t (flat 
 step-valid-flat t s g = step-bridge t s (valid-keyed s g) (valid-room s g)
 
 -- LABELS AND ADDS
-contains-count : (l : ℕ) (xs : List ℕ) → contains l xs ≡ ltb 0 (count l xs)
-contains-count l [] = refl
-contains-count l (x ∷ xs) = go (eqb l x) (contains-count l xs)
-  where
-    go : (b : Bool) → contains l xs ≡ ltb 0 (count l xs) → (b || contains l xs) ≡ ltb 0 (cond b 1 0 + count l xs)
-    go true e = sym (lt-ltb 0 (1 + count l xs) (omega arith))
-    go false e = let z : count l xs ≡ 0 + count l xs = omega arith in e ∙ ap (ltb 0) z
-
 pending-named : (l : ℕ) (s : Session) → contains l (queued (flat s .queue)) ≡ contains l (pending s)
 pending-named l s =
     contains-count l (queued (flat s .queue)) ∙ ap (ltb 0) (sym (total-is l (queued (flat s .queue))) ∙ pending-same (is l) s ∙ total-is l (pending s)) ∙ sym (contains-count l (pending s))

@@ -9,7 +9,7 @@ use lib.Dec.{eqb, ltb, leb·suc-suc, leb·suc-zero}
 use lib.ListN.{length, getD, drop}
 use borrow.Author.Tests.{lt-ltb}
 use Rattle.graph.specs.Sessions.{Session, labelsOfResults, pending, live}
-use Rattle.graph.specs.Valid.{ValidCall, Valid}
+use Rattle.graph.specs.Valid.{Valid}
 use Rattle.graph.proofs.Labels.{total, one, total-append, total-one, length-labels}
 use Rattle.graph.proofs.Limits.{each-at}
 use Rattle.queue.specs.Flat.{Tagged, flat, isOp, find, here, labelsIn, queued}
@@ -18,15 +18,14 @@ use Rattle.queue.proofs.Labels.{pending-same}
 use Rattle.worksteps.specs.FlatSteps.{noOp}
 
 -- EACH OPERATION OF THE QUEUE
--- in the top stream a valid call, elsewhere a valid operation
+-- outside the top stream no add stands
 pub record Sits (x : Tagged) : Type 0 where
-  pub call : ValidCall (x .call)
   pub placed : eqb (x .place) 65 ≡ false → isOp (x .call) ≡ true
 
 pub sits-at : (s : Session) → Valid s → (i : ℕ) → i < length (flat s .queue) → Sits (getD (flat s .queue) i noOp)
 sits-at s g i h =
     each-at Sits (flat s .queue) noOp
-    (each-queued Sits (λ c v. record { call = v; placed = λ e. absurd (true≢false e) }) s g (λ k b o l m v. record { call = v; placed = λ e. refl })) i h
+    (each-queued Sits (λ c v. record { placed = λ e. absurd (true≢false e) }) s g (λ k b o l m v. record { placed = λ e. refl })) i h
 
 -- LABELS: those of one operation, among all that wait
 queued-at : (v : ℕ → ℕ) (q : List Tagged) (i : ℕ) → i < length q → total v (labelsIn (getD q i noOp .call)) ≤ total v (queued q)
