@@ -57,13 +57,12 @@ module _ (s : List ℕ) (at : ℕ) (a : List ℕ) (fits : at + length a ≤ leng
 pasted-more : (s : List ℕ) (at n : ℕ) (a b : List ℕ) → at + length a + length b ≤ length s → n ≡ at + length a → pasted (pasted s at a) n b ≡ pasted s at (a ++ b)
 unfolding pasted
 pasted-more s at n a b h e =
-    let t : length (take at s) ≡ at = length-take-le at s (omega arith) in
-    let front : length (take at s ++ a) ≡ at + length a = length-append (take at s) a ∙ ap (λ (k : ℕ). k + length a) t in
+    let both : length (take at s ++ a) ≡ at + length a = length-append (take at s) a ∙ ap (λ (k : ℕ). k + length a) (front s at a (omega arith)) in
     let x = drop (at + length a) s in
     let r : take at s ++ (a ++ x) ≡ (take at s ++ a) ++ x = sym (append-assoc (take at s) a x) in
-    let p : take n (take at s ++ (a ++ x)) ≡ take at s ++ a = rw (r, e) (take-at (take at s ++ a) x (at + length a) front) in
+    let p : take n (take at s ++ (a ++ x)) ≡ take at s ++ a = rw (r, e) (take-at (take at s ++ a) x (at + length a) both) in
     let q : drop (n + length b) (take at s ++ (a ++ x)) ≡ drop (at + (length a + length b)) s =
-    rw (r, e) (ap (λ (k : ℕ). drop (k + length b) ((take at s ++ a) ++ x)) (sym front) ∙ drop-append-add (take at s ++ a) x (length b) ∙ drop-drop (length b) (at + length a) s ∙ ap (λ (k : ℕ). drop k s) (add-assoc at (length a) (length b))) in
+    rw (r, e) (ap (λ (k : ℕ). drop (k + length b) ((take at s ++ a) ++ x)) (sym both) ∙ drop-append-add (take at s ++ a) x (length b) ∙ drop-drop (length b) (at + length a) s ∙ ap (λ (k : ℕ). drop k s) (add-assoc at (length a) (length b))) in
     rw (p, q, length-append) (append-assoc (take at s) a (b ++ drop (at + (length a + length b)) s) ∙ ap (λ (y : List ℕ). take at s ++ y) (sym (append-assoc a b (drop (at + (length a + length b)) s))))
 
 -- ---- texts one after another
