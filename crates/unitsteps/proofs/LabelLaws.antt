@@ -18,6 +18,7 @@ module _ (a b : Labels) where
 
   pub labels-next : (i : ℕ) → i < length (b .label) → length (labelsOf a) + i < 4
       → set (packedLabels (labelsOf a ++ take i (b .label)) .label) (length (labelsOf a) + i) (getD (b .label) i 0) ≡ packedLabels (labelsOf a ++ take (i + 1) (b .label)) .label
+  unfolding packedLabels
   labels-next i h room =
       let l = labelsOf a ++ take i (b .label) in
       let n : length l ≡ length (labelsOf a) + i = length-append (labelsOf a) (take i (b .label)) ∙ ap (λ (m : ℕ). length (labelsOf a) + m) (length-take-le i (b .label) (omega arith)) in
