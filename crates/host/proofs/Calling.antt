@@ -5,7 +5,8 @@ use Prim.Native.Nat.{ℕ, _+_}
 use native.Mathlib.Omega.{arith}
 use mathlib.Core.List.{List}
 use lib.ListN.{length}
-use Rattle.graph.specs.Calls.{Call, add, map, link, unlink, sum, top, pick, near, isAdd, formTests}
+use Rattle.graph.specs.Calls.{Call, isAdd, targetsOf, formTests}
+use Rattle.graph.specs.declared.keys.Keys.{Keys}
 use Rattle.graph.specs.Refusals.{Answer, refused, done, numberOf as codeOf, unless}
 use Rattle.graph.specs.Sessions.{Session, live, addsIn}
 use Rattle.graph.specs.Packed.{listed, packed}
@@ -15,7 +16,8 @@ use Rattle.graph.proofs.Validity.{Accepts, accept-valid}
 use Rattle.queue.specs.Flat.{Flat}
 use Rattle.graph.proofs.KeyLaws.{listed-packed}
 use Rattle.lines.specs.declared.call.CallLine.{CallLine}
-use Rattle.lines.specs.Answers.{callRead, refusedCall, callOf, IsCall, CallRead}
+use Rattle.lines.specs.Answers.{callRead, refusedCall, callForm, callOf, IsCall, CallRead}
+use Rattle.lines.proofs.Calls.{call-forms, call-value}
 use Rattle.panel.specs.declared.answer.Answer.the-variants.{Done, Refused}
 use Rattle.panel.specs.Answer.{numberOf}
 use Rattle.valid.specs.Values.{sessionOf}
@@ -28,38 +30,16 @@ use Rattle.host.proofs.Entering.{unless-refused, unless-number}
 use Rattle.host.proofs.Reading.{Reader, refused-in-reading, read-whole}
 
 -- what was read is the call
+read-to : (f : Call) → callRead f .to ≡ packed (targetsOf f)
+read-to f = ap (λ (c : CallLine). c .to) (call-value f)
+
 read-of : (f : Call) → callOf (callRead f) ≡ f
-read-of (add v) = refl
-read-of (map a b to) = ap (map a b) (listed-packed to)
-read-of (link k to) = ap (link k) (listed-packed to)
-read-of (unlink k to) = ap (unlink k) (listed-packed to)
-read-of (sum s to) = ap (sum s) (listed-packed to)
-read-of (top s to) = ap (top s) (listed-packed to)
-read-of (pick s to) = ap (pick s) (listed-packed to)
-read-of (near k s to) = ap (near k s) (listed-packed to)
-
-read-none : (f : Call) → callRead f .refusal ≡ 0
-read-none (add v) = refl
-read-none (map a b to) = refl
-read-none (link k to) = refl
-read-none (unlink k to) = refl
-read-none (sum s to) = refl
-read-none (top s to) = refl
-read-none (pick s to) = refl
-read-none (near k s to) = refl
-
-packed-again : (to : List ℕ) → packed to ≡ packed (listed (packed to))
-packed-again to = ap packed (sym (listed-packed to))
+read-of f =
+    let r = callRead f in
+    ap (λ (ks : Keys). callForm (r .kind) (r .x) (r .y) (listed ks)) (read-to f) ∙ ap (callForm (r .kind) (r .x) (r .y)) (listed-packed (targetsOf f)) ∙ call-forms .parts f .back
 
 read-packed : (f : Call) → callRead f .to ≡ packed (listed (callRead f .to))
-read-packed (add v) = packed-again _
-read-packed (map a b to) = packed-again to
-read-packed (link k to) = packed-again to
-read-packed (unlink k to) = packed-again to
-read-packed (sum s to) = packed-again to
-read-packed (top s to) = packed-again to
-read-packed (pick s to) = packed-again to
-read-packed (near k s to) = packed-again to
+read-packed f = read-to f ∙ ap packed (sym (listed-packed (targetsOf f))) ∙ ap (λ (ks : Keys). packed (listed ks)) (sym (read-to f))
 
 -- what the form's own tests refuse is not accepted
 form-refused : (f : Call) (s : Session) {n : ℕ} → unless (formTests f) f ≡ refused n → accept f s ≡ refused n
@@ -74,7 +54,7 @@ callReader =
       value = callRead;
       formOf = callOf;
       numbered = λ n. refl;
-      unrefused = read-none;
+      unrefused = λ f. ap (λ (c : CallLine). c .refusal) (call-value f);
       back = read-of;
       refuses = λ f. (omega arith, (omega arith, (omega arith, tt)));
     }

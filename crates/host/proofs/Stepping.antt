@@ -24,7 +24,7 @@ use Rattle.lines.specs.Forms.{StepForm, work, drain as drains, stepKeys}
 use Rattle.lines.specs.declared.step.StepKind.{StepKind}
 use Rattle.lines.specs.declared.step.StepLine.{StepLine}
 use Rattle.lines.specs.Answers.{stepRead, refusedStep, stepFormTests, stepForm, stepOf, stepNumber, IsStep, StepRead}
-use Rattle.lines.proofs.Steps.{step-back}
+use Rattle.lines.proofs.Steps.{step-back, step-value}
 use Rattle.panel.specs.declared.answer.Answer.the-variants.{Done, Refused}
 use Rattle.panel.specs.declared.tally.Tally.{Tally}
 use Rattle.panel.specs.Answer.{numberOf}
@@ -37,17 +37,6 @@ use Rattle.session.specs.Drained.{Drains}
 use Rattle.host.specs.Entries.{ImageOf, served, stepRefused, stepServed, stepMade, Steps}
 use Rattle.host.proofs.Entering.{unless-refused}
 use Rattle.host.proofs.Reading.{Reader, refused-in-reading, read-whole}
-
-read-none : (f : StepForm) → stepRead f .refusal ≡ 0
-read-none (work admit) = refl
-read-none (work (realise at)) = refl
-read-none (work (move at)) = refl
-read-none (work (finish at)) = refl
-read-none (work (join at unit)) = refl
-read-none (work (split at unit after)) = refl
-read-none (work (swap at unit)) = refl
-read-none (work (fuse at unit)) = refl
-read-none drains = refl
 
 -- a key fits in a byte
 key-small : (k : ℕ) → areKeys (k ∷ []) ≡ true → k < 256
@@ -75,7 +64,7 @@ stepReader =
       value = stepRead;
       formOf = stepOf;
       numbered = λ n. refl;
-      unrefused = read-none;
+      unrefused = λ f. ap (λ (c : StepLine). c .refusal) (step-value f);
       back = step-back;
       refuses = λ f. (omega arith, tt);
     }

@@ -1,7 +1,7 @@
 -- Call lines: their grammar, their forms, and the answer to each form.
 -- Assumes nothing.
 use Prim.Native.Nat.{ℕ, _<_, _≤_}
-use mathlib.Core.Path.{_≡_, refl, sym, _∙_}
+use mathlib.Core.Path.{_≡_, refl, sym, ap, _∙_}
 use mathlib.Core.Bool.{Bool, true, false, cond, false≢true, _&&_}
 use mathlib.Core.List.{List, _++_}
 use native.Mathlib.Omega.{arith}
@@ -137,6 +137,13 @@ formed Sum x y z ts t s = record { keys = refl; targets = refl; value = rw (s .0
 formed Top x y z ts t s = record { keys = refl; targets = refl; value = rw (s .0) }
 formed Pick x y z ts t s = record { keys = refl; targets = refl; value = rw (s .0) }
 formed Near x y z ts t s = record { keys = refl; targets = refl; value = refl }
+
+-- a call's value by its parts
+pub call-value : (f : Call) → callRead f ≡ callLine (callRead f .kind) (callRead f .x) (callRead f .y) (targetsOf f)
+unfolding calls
+call-value f =
+    let p = parts f in
+    ap callRead (sym (p .back)) ∙ formed (callRead f .kind) (callRead f .x) (callRead f .y) 0 (targetsOf f) (p .unused .1) (p .unused .0) .value
 
 module _ (k : CallKind) (f : Fields) (r : CallLine) where
   -- the answer by its two tests, whatever their outcome

@@ -147,6 +147,11 @@ formed Swap x y z s = record { key = λ h. and-true (isKey x); free = λ h. absu
 formed Fuse x y z s = record { key = λ h. and-true (isKey x); free = λ h. absurd (false≢true (sym h)); value = rw (s .0) }
 formed Drain x y z s = record { key = λ h. absurd (false≢true h); free = λ h. refl; value = rw (s .0, s .1, s .2) }
 
+-- a step's value by its parts
+pub step-value : (f : StepForm) → stepRead f ≡ stepLine (stepRead f .kind) (stepRead f .at) (stepRead f .unit) (stepRead f .after)
+unfolding steps
+step-value f = ap stepRead (sym (step-back f)) ∙ formed (stepRead f .kind) (stepRead f .at) (stepRead f .unit) (stepRead f .after) (parts f .unused .0) .value
+
 module _ (k : StepKind) (f : Fields) (r : StepLine) where
   pub made-place : (b : Bool) → hasPlace k ≡ true → isKey (f .x) ≡ b → r ≡ cond b (stepLine k (f .x) (f .y) (f .z)) (refusedStep 11) → StepMade k f r
   made-place b h e q s =
