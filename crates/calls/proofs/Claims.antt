@@ -1,20 +1,20 @@
 -- What a claim finds.
 -- Assumes nothing.
-use mathlib.Core.Path.{_≡_, refl, ap, _∙_}
-use Prim.Native.Nat.{ℕ, _≤_, _<_}
+use mathlib.Core.Path.{_≡_, refl, sym, ap, _∙_}
+use Prim.Native.Nat.{ℕ, _-_, _≤_, _<_}
 use native.Mathlib.Omega.{arith}
 use mathlib.Core.Bool.{Bool, true, false, cond, _&&_}
 use lib.Dec.{leb}
-use lib.ListN.{length}
+use lib.ListN.{length, getD}
 use borrow.Author.Tests.{le-leb, lt-leb}
 use Rattle.graph.specs.Acceptance.{takeResult}
-use Rattle.graph.specs.KeyLists.{contains}
+use Rattle.graph.specs.KeyLists.{contains, rising}
 use Rattle.graph.specs.Refusals.{refused, done}
-use Rattle.queue.specs.Flat.{Flat, find, queued}
-use Rattle.queue.proofs.Places.{find-within}
+use Rattle.graph.specs.Sessions.{labelsOfResults}
+use Rattle.queue.specs.Flat.{Flat, queued}
 use Rattle.worksteps.specs.FlatEvents.{flatClaim}
-use Rattle.state.specs.Results.{hasLabel, takenAt}
-use Rattle.state.proofs.ResultLaws.{take-none, take-some}
+use Rattle.state.specs.Results.{noResult, placeOf, takenAt}
+use Rattle.state.proofs.ResultLaws.{take-there, take-missing}
 use Rattle.calls.specs.Claiming.{Finds}
 
 module _ (l : ℕ) (f : Flat) where
@@ -44,11 +44,11 @@ module _ (l : ℕ) (f : Flat) where
       claim-results : flatClaim l f ≡ takeResult l (f .results)
       claim-results = rw (le-leb 1 l low, le-leb l (f .last) high, free)
 
-      pub finds-claimed : find (hasLabel l) (f .results) ≡ length (f .results) → Finds l f (record { refusal = 32; at = 0 })
-      finds-claimed e = finds-refused 32 (λ z. omega arith) (claim-results ∙ take-none l (f .results) e)
+      pub finds-claimed : rising (labelsOfResults (f .results)) ≡ true → (placeOf (l - 1) (f .results) < length (f .results) → getD (f .results) (placeOf (l - 1) (f .results)) noResult .label ≡ l → ⊥) → Finds l f (record { refusal = 32; at = 0 })
+      finds-claimed o n = finds-refused 32 (λ z. omega arith) (claim-results ∙ take-missing l low (f .results) o n)
 
-      pub finds-at : (p : ℕ) → p ≡ find (hasLabel l) (f .results) → (p ≡ length (f .results) → ⊥) → Finds l f (record { refusal = 0; at = p })
-      finds-at p e n =
-          let h : p < length (f .results) = omega (arith, find-within (hasLabel l) (f .results), n) in
-          let t : flatClaim l f ≡ done (takenAt p (f .results)) = rw e (claim-results ∙ take-some l (f .results) (omega (arith, h))) in
+      pub finds-at : (p : ℕ) → p ≡ placeOf (l - 1) (f .results) → p < length (f .results) → getD (f .results) p noResult .label ≡ l → Finds l f (record { refusal = 0; at = p })
+      finds-at p e h is =
+          let t : flatClaim l f ≡ done (takenAt p (f .results)) =
+          claim-results ∙ take-there l low (f .results) (omega (arith, e)) (ap (λ (q : ℕ). getD (f .results) q noResult .label) (sym e) ∙ is) ∙ ap (λ (q : ℕ). done (takenAt q (f .results))) (sym e) in
           record { number = rw t; within = λ z. h; taken = λ z. t }

@@ -1,7 +1,8 @@
 // Claims: where the result with a label stands.
 use crate::waiting::is_queued;
 use state::results;
-ghost use Rattle.state.specs.State.{held, Proper};
+ghost use Rattle.state.specs.State.{held};
+ghost use Rattle.live.specs.Live.{Live};
 ghost use Rattle.calls.specs.Claiming.{Finds};
 
 // A refusal's number, or 0 and the index of the result.
@@ -11,7 +12,7 @@ pub struct Claim {
 }
 
 pub fn claim_place(image: &[u8], label: u32) -> Claim
-    requires { ⌜ Proper (now image) ⌝ }
+    requires { ⌜ Live (now image) ⌝ }
     ensures { λ r. ⌜ Finds label (held (now (image .entry))) r ⌝ }
 {
     if label == 0 {
@@ -24,9 +25,12 @@ pub fn claim_place(image: &[u8], label: u32) -> Claim
     if is_queued(image, l) {
         return Claim { refusal: 31, at: 0 };
     }
-    let at = results::find(image, l);
-    if at == results::total(image) {
-        return Claim { refusal: 32, at: 0 };
+    // Results rise by label: that one's is the first above l - 1, if it is there.
+    let at = results::place_of(image, l - 1);
+    if at < results::total(image) {
+        if results::label_at(image, at) == l {
+            return Claim { refusal: 0, at: at };
+        }
     }
-    Claim { refusal: 0, at: at }
+    Claim { refusal: 32, at: 0 }
 }

@@ -1,29 +1,33 @@
 -- The results that an image holds: by index, by label, and one more at its place.
 -- Assumes nothing.
 use mathlib.Core.Path.{_≡_, refl, sym, ap, _∙_}
-use Prim.Native.Nat.{ℕ, zero, suc, _+_, _<_}
+use Prim.Native.Nat.{ℕ, zero, suc, _+_, _<_, _-_, _≤_}
 use native.Mathlib.Numerals.{add-one}
 use native.Mathlib.Omega.{arith}
 use mathlib.Core.Bool.{Bool, true, false, cond}
 use mathlib.Core.List.{List, [], _∷_, _++_}
-use lib.Dec.{eqb, ltb}
+use lib.Dec.{ltb}
 use lib.ListN.{length, getD, take}
 use lib.Seq.{take-suc, length-take-le}
+use borrow.Author.Tests.{eq-eqb, ne-eqb, ltb-true, ltb-false}
 use Rattle.graph.specs.declared.keys.Keys.{Keys}
 use Rattle.graph.specs.Lists.{removeAt}
 use Rattle.graph.specs.Packed.{listed, packed}
-use Rattle.graph.specs.Refusals.{Answer, refused, done, mapDone}
+use Rattle.graph.specs.Refusals.{refused, done}
 use Rattle.graph.specs.Nodes.{Result, resultsFor}
-use Rattle.graph.specs.Sessions.{insert, store}
-use Rattle.graph.specs.Acceptance.{Claimed, takeResult}
+use Rattle.graph.specs.Sessions.{insert, store, labelsOfResults}
+use Rattle.graph.specs.Acceptance.{takeResult}
 use Rattle.records.specs.declared.labels.Labels.{Labels}
 use Rattle.records.specs.declared.result.ResultRecord.{ResultRecord}
+use Rattle.graph.specs.KeyLists.{above, rising}
+use Rattle.graph.proofs.Answers.{and-left, and-right}
+use Rattle.graph.proofs.Limits.{rising-above}
 use Rattle.image.specs.Layout.{view, resultRegion, blank, Written, insertAt}
 use Rattle.image.specs.Layout.{withResults as viewResults}
-use Rattle.queue.specs.Flat.{Flat, find}
+use Rattle.queue.specs.Flat.{Flat}
 use Rattle.valid.specs.Values.{labelsOf, packedLabels, resultOf, resultRecord}
 use Rattle.state.specs.State.{held, Proper, Shows, withResults}
-use Rattle.state.specs.Results.{IsOutcome, noResult, resultWith, hasLabel, placeOf, takenAt}
+use Rattle.state.specs.Results.{IsOutcome, noResult, resultWith, placeOf, takenAt}
 use Rattle.state.proofs.Holding.{ResultsStand, stands-length, stands-at, clean-at, stands-insert, stands-remove, results-stand, results-shown}
 
 -- BY LABEL
@@ -53,26 +57,37 @@ module _ (v : ℕ) (ts : List ℕ) where
   length-stored [] rs = omega arith
   length-stored (l ∷ ls) rs = omega (arith, length-stored ls (insert (resultWith l v ts) rs), length-insert (resultWith l v ts) rs)
 
--- a claim takes the result at the index that was found
-module _ (l : ℕ) where
-  pub take-none : (rs : List Result) → find (hasLabel l) rs ≡ length rs → takeResult l rs ≡ refused 32
-  take-none [] e = refl
-  take-none (r ∷ rs) e = go (eqb (r .label) l) (take-none rs) e
+-- a claim of label l takes the first result above l - 1, if it has that label; results rise by label
+module _ (l : ℕ) (low : 1 ≤ l) where
+  pub take-there : (rs : List Result) → placeOf (l - 1) rs < length rs → getD rs (placeOf (l - 1) rs) noResult .label ≡ l → takeResult l rs ≡ done (takenAt (placeOf (l - 1) rs) rs)
+  take-there [] h e = absurd (omega arith)
+  take-there (r ∷ rs) h e = go (ltb (l - 1) (r .label)) refl (take-there rs) h e
     where
-      go : (b : Bool) → (find (hasLabel l) rs ≡ length rs → takeResult l rs ≡ refused 32) → cond b zero (suc (find (hasLabel l) rs)) ≡ suc (length rs)
-          → cond {A = Answer Claimed} b (done (record { result = r; others = rs })) (mapDone (λ c. record { result = c .result; others = r ∷ c .others }) (takeResult l rs)) ≡ refused 32
-      go true ih e = absurd (omega arith)
-      go false ih e = rw (ih (omega arith))
+      go : (b : Bool) → ltb (l - 1) (r .label) ≡ b
+          → (placeOf (l - 1) rs < length rs → getD rs (placeOf (l - 1) rs) noResult .label ≡ l → takeResult l rs ≡ done (takenAt (placeOf (l - 1) rs) rs))
+          → cond b zero (suc (placeOf (l - 1) rs)) < suc (length rs) → getD (r ∷ rs) (cond b zero (suc (placeOf (l - 1) rs))) noResult .label ≡ l
+          → takeResult l (r ∷ rs) ≡ done (takenAt (cond b zero (suc (placeOf (l - 1) rs))) (r ∷ rs))
+      go true t ih h e = rw (eq-eqb (r .label) l e)
+      go false t ih h e = rw (ne-eqb (r .label) l (λ q. omega (arith, ltb-false (l - 1) (r .label) t)), ih (omega arith) e)
 
-  pub take-some : (rs : List Result) → find (hasLabel l) rs < length rs → takeResult l rs ≡ done (takenAt (find (hasLabel l) rs) rs)
-  take-some [] h = absurd (omega arith)
-  take-some (r ∷ rs) h = go (eqb (r .label) l) (take-some rs) h
+  take-above : (d : ℕ) → l ≤ d → (rs : List Result) → above d (labelsOfResults rs) ≡ true → takeResult l rs ≡ refused 32
+  take-above d h [] a = refl
+  take-above d h (r ∷ rs) a =
+      let up : d < r .label = ltb-true d (r .label) (and-left _ _ a) in
+      rw (ne-eqb (r .label) l (λ q. omega arith), take-above (r .label) (omega arith) rs (and-right (ltb d (r .label)) _ a))
+
+  pub take-missing : (rs : List Result) → rising (labelsOfResults rs) ≡ true → (placeOf (l - 1) rs < length rs → getD rs (placeOf (l - 1) rs) noResult .label ≡ l → ⊥) → takeResult l rs ≡ refused 32
+  take-missing [] o n = refl
+  take-missing (r ∷ rs) o n = go (ltb (l - 1) (r .label)) refl (take-missing rs (rising-above (r .label) (labelsOfResults rs) o)) n
     where
-      go : (b : Bool) → (find (hasLabel l) rs < length rs → takeResult l rs ≡ done (takenAt (find (hasLabel l) rs) rs)) → cond b zero (suc (find (hasLabel l) rs)) < suc (length rs)
-          → cond b (done (record { result = r; others = rs })) (mapDone (λ c. record { result = c .result; others = r ∷ c .others }) (takeResult l rs))
-          ≡ done (takenAt (cond b zero (suc (find (hasLabel l) rs))) (r ∷ rs))
-      go true ih h = refl
-      go false ih h = rw (ih (omega arith))
+      go : (b : Bool) → ltb (l - 1) (r .label) ≡ b
+          → ((placeOf (l - 1) rs < length rs → getD rs (placeOf (l - 1) rs) noResult .label ≡ l → ⊥) → takeResult l rs ≡ refused 32)
+          → (cond b zero (suc (placeOf (l - 1) rs)) < suc (length rs) → getD (r ∷ rs) (cond b zero (suc (placeOf (l - 1) rs))) noResult .label ≡ l → ⊥)
+          → takeResult l (r ∷ rs) ≡ refused 32
+      go true t ih n =
+          let up : l - 1 < r .label = ltb-true (l - 1) (r .label) t in
+          rw (ne-eqb (r .label) l (n (omega arith)), take-above (r .label) (omega arith) rs o)
+      go false t ih n = rw (ne-eqb (r .label) l (λ q. omega (arith, ltb-false (l - 1) (r .label) t)), ih (λ h. n (omega arith)))
 
 -- IN THE IMAGE
 abbrev made : ℕ → ℕ → Keys → ResultRecord

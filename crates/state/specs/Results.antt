@@ -4,7 +4,7 @@ use Prim.Native.Nat.{ℕ}
 use mathlib.Core.Path.{_≡_}
 use mathlib.Core.Bool.{Bool}
 use mathlib.Core.List.{List, []}
-use lib.Dec.{eqb, ltb}
+use lib.Dec.{ltb}
 use lib.ListN.{getD}
 use Rattle.graph.specs.Lists.{removeAt}
 use Rattle.graph.specs.Nodes.{Node, Result}
@@ -34,9 +34,6 @@ noResult = record { label = 0; value = 0; left = [] }
 
 abbrev pub resultWith : ℕ → ℕ → List ℕ → Result
 resultWith l v ts = record { label = l; value = v; left = ts }
-
-abbrev pub hasLabel : ℕ → Result → Bool
-hasLabel l r = eqb (r .label) l
 
 abbrev pub isAbove : ℕ → Result → Bool
 isAbove l r = ltb l (r .label)

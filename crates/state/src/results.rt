@@ -15,11 +15,10 @@ ghost use Rattle.graph.specs.Lists.{removeAt};
 ghost use Rattle.graph.specs.Packed.{listed, packed};
 ghost use Rattle.graph.specs.Nodes.{resultsFor};
 ghost use Rattle.graph.specs.Sessions.{insert, store};
-ghost use Rattle.queue.specs.Flat.{find};
 ghost use Rattle.valid.specs.Values.{labelsOf, packedLabels};
 ghost use Rattle.state.specs.Operations.{Bounded};
 ghost use Rattle.state.specs.State.{held, Proper, Shows, withResults, withLast};
-ghost use Rattle.state.specs.Results.{IsOutcome, noResult, resultWith, hasLabel, placeOf};
+ghost use Rattle.state.specs.Results.{IsOutcome, noResult, resultWith, placeOf};
 
 // A result's label, its value, and the keys that it left unstruck.
 pub struct Outcome {
@@ -79,22 +78,6 @@ pub fn place_of(image: &[u8], label: u16) -> usize
     let mut i: usize = 0;
     while i < n {
         if label < label_at(image, i) {
-            return i;
-        }
-        i += 1;
-    }
-    n
-}
-
-// The place of the result with this label, or the number of results.
-pub fn find(image: &[u8], label: u16) -> usize
-    requires { ⌜ Proper (now image) ⌝ }
-    ensures { λ r. ⌜ r ≡ find (hasLabel label) (held (now (image .entry)) .results) ⌝ }
-{
-    let n = total(image);
-    let mut i: usize = 0;
-    while i < n {
-        if label_at(image, i) == label {
             return i;
         }
         i += 1;

@@ -1,7 +1,14 @@
--- The tests in order; then the place of the label among the results.
+-- The tests in order; then the label's place among the results.
 -- Assumes nothing.
-use mathlib.Core.Path.{sym, _∙_}
+use mathlib.Core.Path.{_≡_, sym, ap, _∙_}
+use Prim.Native.Nat.{ℕ, _≤_}
 use native.Mathlib.Omega.{arith}
+use mathlib.Core.Bool.{true}
+use lib.ListN.{getD}
+use Rattle.graph.specs.KeyLists.{rising}
+use Rattle.graph.specs.Sessions.{labelsOfResults}
+use Rattle.queue.specs.Flat.{Flat}
+use Rattle.state.specs.Results.{noResult}
 use Rattle.state.specs.State.{held}
 use Rattle.calls.proofs.Claims.{finds-zero, finds-above, finds-pending, finds-claimed, finds-at}
 use borrow.Author.Needs.{needs}
@@ -26,20 +33,74 @@ cast-l c = search needs
 is-queued-requires : tie.Need-is-queued-requires
 is-queued-requires c κs = search needs
 
-returns-3 : tie.Need-returns-3
-returns-3 c = finds-pending (c .before .before .before .before .before .before .args .label) (held (c .before .before .before .before .before .before .args .image .now)) (omega (arith, c .before .before .before .before .if1 .left)) (omega (arith, c .before .before .before .last .ensures, c .before .before .if2 .left)) (sym (c .before .is-queued .ensures) ∙ c .if3 .taken)
+-- the label was given; whether it waits is what `is_queued` said
+module _ (q : tie.After-is-queued) where
+  abbrev start : tie.Start
+  start = q .before .before .before .before .before
 
-find-requires : tie.Need-find-requires
-find-requires c κs = search needs
+  abbrev f : Flat
+  f = held (start .args .image .now)
+
+  low : 1 ≤ start .args .label
+  low = omega (arith, q .before .before .before .if1 .left)
+
+  high : start .args .label ≤ f .last
+  high = omega (arith, q .before .before .last .ensures, q .before .if2 .left)
+
+  order : rising (labelsOfResults (f .results)) ≡ true
+  order = start .pre .valid .order
+
+returns-3 : tie.Need-returns-3
+returns-3 c = let q = c .before in finds-pending (start q .args .label) (f q) (low q) (high q) (sym (q .is-queued .ensures) ∙ c .if3 .taken)
+
+sub-place-of : tie.Need-sub-place-of
+sub-place-of c = search needs
+
+place-of-requires : tie.Need-place-of-requires
+place-of-requires c κs = search needs
 
 total-requires : tie.Need-total-requires
 total-requires c κs = search needs
 
+label-at-requires : tie.Need-label-at-requires
+label-at-requires c κs = (start (c .before .before .before .before) .pre .proper, omega (arith, c .before .total .ensures .is, c .if4 .taken))
+
 returns-4 : tie.Need-returns-4
-returns-4 c = finds-claimed (c .before .before .before .before .before .before .before .before .before .args .label) (held (c .before .before .before .before .before .before .before .before .before .args .image .now)) (omega (arith, c .before .before .before .before .before .before .before .if1 .left)) (omega (arith, c .before .before .before .before .before .before .last .ensures, c .before .before .before .before .before .if2 .left)) (sym (c .before .before .before .before .is-queued .ensures) ∙ c .before .before .before .if3 .left) (sym (c .before .before .find .ensures) ∙ c .if4 .taken ∙ c .before .total .ensures .is)
+returns-4 c =
+    let q = c .before .before .before .before .before .before in
+    let p = c .before .before .before .before .place-of in
+    finds-at (start q .args .label) (f q) (low q) (high q) (sym (q .is-queued .ensures) ∙ c .before .before .before .before .before .if3 .left) (p .result) (p .ensures)
+    (omega (arith, c .before .before .before .total .ensures .is, c .before .before .if4 .taken)) (sym (c .before .label-at .ensures) ∙ c .if5 .taken)
 
 returns-5 : tie.Need-returns-5
-returns-5 c = finds-at (c .before .before .before .before .before .before .before .before .before .args .label) (held (c .before .before .before .before .before .before .before .before .before .args .image .now)) (omega (arith, c .before .before .before .before .before .before .before .if1 .left)) (omega (arith, c .before .before .before .before .before .before .last .ensures, c .before .before .before .before .before .if2 .left)) (sym (c .before .before .before .before .is-queued .ensures) ∙ c .before .before .before .if3 .left) (c .before .before .find .result) (c .before .before .find .ensures) (λ e. c .if4 .left (e ∙ sym (c .before .total .ensures .is)))
+returns-5 c =
+    let q = c .before .before .before .before .before .before in
+    let p = c .before .before .before .before .place-of in
+    finds-claimed (start q .args .label) (f q) (low q) (high q) (sym (q .is-queued .ensures) ∙ c .before .before .before .before .before .if3 .left) (order q)
+    (λ h e. c .if5 .left (c .before .label-at .ensures ∙ ap (λ (i : ℕ). getD (f q .results) i noResult .label) (p .ensures) ∙ e))
+
+returns-6 : tie.Need-returns-6
+returns-6 c =
+    let q = c .before .before .before .before in
+    let p = c .before .before .place-of in
+    finds-claimed (start q .args .label) (f q) (low q) (high q) (sym (q .is-queued .ensures) ∙ c .before .before .before .if3 .left) (order q)
+    (λ h e. omega (arith, h, p .ensures, c .before .total .ensures .is, c .if4 .left))
 
 pub claim-place-spec : {M : Type 1} → statement M
-claim-place-spec = tie.close (tie.spec returns last-requires cast-if2 returns-2 cast-l is-queued-requires returns-3 find-requires total-requires returns-4 returns-5)
+claim-place-spec =
+    tie.close
+    (tie.spec
+    returns
+    last-requires
+    cast-if2
+    returns-2
+    cast-l
+    is-queued-requires
+    returns-3
+    sub-place-of
+    place-of-requires
+    total-requires
+    label-at-requires
+    returns-4
+    returns-5
+    returns-6)
