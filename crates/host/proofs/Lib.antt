@@ -5,3 +5,5 @@ pub mod Stepping
 pub mod Claiming
 pub mod Listing
 pub mod Determined
+pub mod Decided
+pub mod Answered

@@ -5,4 +5,5 @@ pub mod Calls
 pub mod Steps
 pub mod Claims
 pub mod Answered
+pub mod Decided
 pub mod Document

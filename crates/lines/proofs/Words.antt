@@ -85,7 +85,7 @@ module _ {K : Type 0} (G : Grammar K) where
   gap-in : (p : Parts K) → Gap 32 (fieldsIn G p)
   gap-in p = fields-gap (G .literals (p .kind)) (G .kinds (p .kind) .gaps) (G .listed (p .kind)) (p .x) (p .y) (p .z) (p .to)
 
-  word-in : (p : Parts K) (l : List ℕ) → l ≡ G .word (p .kind) ++ fieldsIn G p → upTo 32 l ≡ G .word (p .kind)
+  pub word-in : (p : Parts K) (l : List ℕ) → l ≡ G .word (p .kind) ++ fieldsIn G p → upTo 32 l ≡ G .word (p .kind)
   word-in p l e = part-is 32 l (G .word (p .kind)) (fieldsIn G p) e (G .kinds (p .kind) .clean) (gap-in p)
 
   module _ (line rest word : List ℕ) (h : AfterHead line (G .head) rest) (v : word ≡ upTo 32 rest) where
@@ -160,7 +160,7 @@ pub record Forms {K F : Type 0} (G : Grammar K) (text numbers : F → List ℕ) 
   pub made : (p : Parts K) → Made G text numbers p (formOf p)
 
 module _ {K F : Type 0} {G : Grammar K} {text numbers : F → List ℕ} {formOf : Parts K → F} {partsOf : F → Parts K} (L : Forms G text numbers formOf partsOf) where
-  text-of : (f : F) → text f ≡ textIn G (partsOf f)
+  pub text-of : (f : F) → text f ≡ textIn G (partsOf f)
   text-of f = ap text (sym (L .parts f .back)) ∙ sym (L .made (partsOf f) .same)
 
   -- a line's text determines the form

@@ -4,3 +4,4 @@ pub mod Framing
 pub mod LineCases
 pub mod Rooms
 pub mod Determined
+pub mod EveryInput

@@ -27,16 +27,17 @@ use Rattle.graph.proofs.Verdicts.{step-done}
 use Rattle.graph.proofs.Validity.{valid-fresh}
 use Rattle.graph.proofs.Drains.{work-cons, drain-drains, drain-works}
 use Rattle.graph.proofs.Demand3 as sessions
-use Rattle.lines.specs.Forms.{work, stepText}
-use Rattle.lines.specs.Answers.{IsClaim}
+use Rattle.text.specs.Text.{ascii}
+use Rattle.lines.specs.Forms.{work, drain as drainForm, stepText}
+use Rattle.lines.specs.Answers.{IsStep, IsClaim}
 use Rattle.panel.specs.declared.tally.Tally.{Tally}
 use Rattle.panel.specs.Tally.{upBy, each, counted, zeros}
 use Rattle.panel.proofs.TallyLaws.{counted-kinds, up-from-zero}
 use Rattle.valid.specs.Values.{encode}
-use Rattle.host.specs.Entries.{ImageOf, Steps}
+use Rattle.host.specs.Entries.{ImageOf, served, Stepped, stepMade, Steps}
 use Rattle.runs.specs.Runs.{Sent, step, claim, Runs, opening, after, acceptedLines, TextsOf, noLine, aLine, Pending, Wrote, ClaimedIn, here, there, WouldWrite, OneTally, lastTally}
-use Rattle.runs.specs.Demand.{ResultOf, claimed, unclaimed, HasResult, ClaimsMeant, Progress, StepLines, NonePending, Demand3}
-use Rattle.host.proofs.Determined.{same-session}
+use Rattle.runs.specs.Demand.{ResultOf, claimed, unclaimed, HasResult, ClaimsMeant, Progress, StepLines, NonePending, Cleared, Demand3}
+use Rattle.host.proofs.Determined.{same-session, step-once}
 use Rattle.runs.proofs.Entered.{own}
 use Rattle.runs.proofs.Found.{none-some, find-here, find-skip, Where, first-of, later, where-found}
 use Rattle.runs.proofs.OneLine.{Gave, noClaim, pastCall, pastStep, pastRefusal, pastClaim, adding}
@@ -176,15 +177,34 @@ module _ (es : List Sent) (h : Runs opening es) where
       (subst (λ (y : Session). StepLines (encode ((drain y) .end)) (encode s) ((drain y) .took)) same
       (all-lines ((drain s) .took) s ((drain s) .end) v (drain-works (suc (weightOf s)) s) (drain-drains s v .steps)))
 
+  drain-line : IsStep (stepText drainForm) drainForm
+  unfolding ascii
+  drain-line = record { short = omega arith; fits = refl; same = refl }
+
+  clears : (t : Tally) (r : Stepped) → Steps (after opening es) (stepText drainForm) t r → Cleared r
+  clears t r k =
+      let same : r ≡ stepMade (encode s) t s drainForm = step-once (subst (λ (i : List ℕ). Steps i (stepText drainForm) t r) image k) (served s (own s v) drainForm drain-line refl) in
+      subst Cleared (sym same)
+      (record {
+        answer = refl;
+        none = λ l p. true≢false (sym (pending-only ((drain s) .end) (drain-drains s v .valid) l p) ∙ ap (contains l) (d .drained));
+      })
+
+  pub holding : ImageOf (after opening es) s
+  holding = subst (λ (i : List ℕ). ImageOf i s) (sym image) (own s v)
+
   pub demand3 : Demand3 es
   demand3 =
       record {
+        session = s;
+        holds = holding;
         calls = to .calls;
         texts = to .texts;
         labels = to .labels;
+        few = omega (arith, size, v .labels);
         results = λ l a b np. result l a b (by-bool (contains l (pending s)) (λ c. absurd (np (waits l a b c))) (λ c. c));
         claims = gave-meant ((oneAtATime (to .calls)) .results) (to .gave) (d .claims) [] (to .wrote) refl;
-        graph = λ np. record { session = s; holds = subst (λ (i : List ℕ). ImageOf i s) (sym image) (own s v); graph = d .graph (no-more np) };
+        graph = λ np. record { session = s; holds = holding; graph = d .graph (no-more np) };
         progress = onward;
         steps = to .steps;
         taken = to .took;
@@ -196,4 +216,5 @@ module _ (es : List Sent) (h : Runs opening es) where
           ap (λ (t : Tally). t .finish) (tallied o) ∙ up-from-zero (ofKind 3 (to .steps)) (omega (arith, small)),
         );
         drained = one-by-one;
+        cleared = clears;
       }

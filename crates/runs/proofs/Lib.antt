@@ -7,3 +7,5 @@ pub mod Demand3
 pub mod Unchanged
 pub mod SameEnd
 pub mod SameImage
+pub mod EveryRun
+pub mod OneResult

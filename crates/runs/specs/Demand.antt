@@ -14,14 +14,14 @@ use Rattle.graph.specs.Sessions.{Session}
 use Rattle.graph.specs.Steps.{Step}
 use Rattle.graph.specs.Drain.{drain}
 use Rattle.graph.specs.Runs.{find, ofKind, workSteps}
-use Rattle.lines.specs.Forms.{work, stepText}
+use Rattle.lines.specs.Forms.{work, drain as drains, stepText}
 use Rattle.lines.specs.Answers.{IsClaim}
 use Rattle.print.specs.Printed.{resultText}
 use Rattle.panel.specs.declared.tally.Tally.{Tally}
 use Rattle.panel.specs.Tally.{counted, zeros}
 use Rattle.valid.specs.Values.{encode}
-use Rattle.host.specs.Entries.{ImageOf, ClaimMade, Steps}
-use Rattle.runs.specs.Runs.{Sent, call, step, claim, opening, after, isServed, acceptedLines, labelsGiven, labelsFrom, TextsOf, Pending, Allowed, Wrote, ClaimedIn, WouldWrite, GraphOf, Taken, OneTally, lastTally}
+use Rattle.host.specs.Entries.{ImageOf, Stepped, ClaimMade, Steps}
+use Rattle.runs.specs.Runs.{Sent, call, step, claim, Input, inputsOf, Runs, opening, after, isServed, acceptedLines, labelsGiven, labelsFrom, TextsOf, Pending, Allowed, Wrote, ClaimedIn, WouldWrite, GraphOf, Taken, OneTally, lastTally}
 
 -- label l has a result, that of one-at-a-time processing: "the value and the `left` in the line that its claim wrote or, while
 -- unclaimed, would write given room"
@@ -63,11 +63,21 @@ pub data StepLines (end : List ℕ) : List ℕ → List Step → Type 0 where
 abbrev pub NonePending : List Sent → Type 0
 NonePending es = (l : ℕ) → 1 ≤ l → l ≤ length (acceptedLines es) → Pending (after opening es) l → ⊥
 
+-- a drain line was answered 0, and left no call pending
+pub record Cleared (r : Stepped) : Type 0 where
+  pub answer : r .answer ≡ pos 0
+  pub none : (l : ℕ) → Pending (r .image) l → ⊥
+
 pub record Demand3 (es : List Sent) : Type 0 where
+  -- the session that the image holds, which is valid
+  pub session : Session
+  pub holds : ImageOf (after opening es) session
   -- one-at-a-time processing is fed the accepted lines, read by the grammar alone
   pub calls : List Call
   pub texts : TextsOf (acceptedLines es) calls
   pub labels : labelsGiven es ≡ labelsFrom 1 (length (acceptedLines es))
+  -- "Labels run 1 to 65,535"
+  pub few : length (acceptedLines es) ≤ 65535
   -- "For every accepted call that isn't pending it equals the result of the same label in one-at-a-time processing"
   pub results : (l : ℕ) → 1 ≤ l → l ≤ length (acceptedLines es) → (Pending (after opening es) l → ⊥) → HasResult es ((oneAtATime calls) .results) l
   -- every claim that was served wrote exactly that
@@ -84,6 +94,16 @@ pub record Demand3 (es : List Sent) : Type 0 where
   pub tally : OneTally zeros es → (lastTally zeros es .admit ≡ ofKind 0 steps) × (lastTally zeros es .realise ≡ ofKind 1 steps) × (lastTally zeros es .«move_on» ≡ ofKind 2 steps) × (lastTally zeros es .finish ≡ ofKind 3 steps)
   -- a drain's steps, sent one by one as lines, are each answered 0 and lead to the image that the drain leaves
   pub drained : (s : Session) → ImageOf (after opening es) s → StepLines (encode ((drain s) .end)) (after opening es) ((drain s) .took)
+  -- a drain is served, and leaves none pending
+  pub cleared : (t : Tally) (r : Stepped) → Steps (after opening es) (stepText drains) t r → Cleared r
+
+-- what is sent has one run from the image that opening writes, and demand 3 holds of it
+pub record RunOf (is : List Input) : Type 0 where
+  pub sent : List Sent
+  pub inputs : inputsOf sent ≡ is
+  pub runs : Runs opening sent
+  pub only : (es : List Sent) → inputsOf es ≡ is → Runs opening es → es ≡ sent
+  pub demand : Demand3 sent
 
 -- "Two such lists that accept the same calls in the same order, and end with none pending, have the same final graph and the same
 -- result for each call."

@@ -27,6 +27,18 @@ pub data Sent : Type 0 where
   step : (line : List ℕ) → Tally → Stepped → Sent
   claim : (line out : List ℕ) → ClaimMade → Sent
 
+-- what is sent, without what was given and left
+pub data Input : Type 0 where
+  callInput : (line : List ℕ) → Input
+  stepInput : (line : List ℕ) → Tally → Input
+  claimInput : (line out : List ℕ) → Input
+
+abbrev pub inputsOf : List Sent → List Input
+inputsOf [] = []
+inputsOf (call line r ∷ es) = callInput line ∷ inputsOf es
+inputsOf (step line t r ∷ es) = stepInput line t ∷ inputsOf es
+inputsOf (claim line out r ∷ es) = claimInput line out ∷ inputsOf es
+
 -- "Each line gets the image as the lines before left it"
 abbrev pub Runs : List ℕ → List Sent → Type 0
 Runs image [] = Unit {0}
