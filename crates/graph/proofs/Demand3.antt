@@ -19,7 +19,7 @@ use Rattle.graph.specs.OneAtATime.{Labelled, labelled, World, passOp, pr
 use Rattle.graph.specs.Sessions.{Station, Session, graphOf, labelsOfResults, pending, live}
 use Rattle.graph.specs.Steps.{Step, step}
 use Rattle.graph.specs.Acceptance.{accepted, accept, Claimed, claim}
-use Rattle.graph.specs.Drain.{weightOfCall, weightOfCalls, weightOf, backmost, drain}
+use Rattle.graph.specs.Drain.{backmost, drain}
 use Rattle.graph.specs.Valid.{Valid, count}
 use Rattle.graph.specs.Runs.{Event, calls, steps, drains, claims, Run, onCall, onStep, onDrain, onClaim, events, start, run, stepEvents, workSteps, stepAll, find, SameResult, Demand3, SameOutcome}
 use Rattle.graph.proofs.Answers.{Holds, holds, holds-at, and-left, and-right, eqb-same}
@@ -28,7 +28,7 @@ use Rattle.graph.proofs.Effects.{costs}
 use Rattle.graph.proofs.Outcome.{Seen, plus, seen-path, sum, through, admitting, outcome, seen, processSeen, sum-append, process-seen, process-plus, outcome-accepted}
 use Rattle.graph.proofs.OutcomeKept.{Same, step-same}
 use Rattle.graph.proofs.Labels.{byLabel, is, total, total-append, total-is, total-results, count-out, visit-labels, live-total}
-use Rattle.graph.proofs.Weights.{Lighter, step-lighter}
+use Rattle.graph.proofs.Weights.{weightOfCall, weightOfCalls, weightOf, Lighter, step-lighter}
 use Rattle.graph.proofs.Validity.{valid-fresh, Stepped, step-valid, claim-valid, ValidClaim, Accepts, accept-valid, Fits, Sort, adds, operates, sort}
 use Rattle.graph.proofs.Drains.{no-units, pending-resting, valid-progress, work-cons, work-append, drain-drains, drain-ends}
 
@@ -41,7 +41,7 @@ labelling-last : (i : ℕ) (rs : List Result) (r : Result) → Labelling i rs �
 labelling-last i [] r h e = (omega (arith, e), tt)
 labelling-last i (q ∷ qs) r h e = (h .0, labelling-last (suc i) qs r (h .1) (omega (arith, e)))
 
-pass-labels : (o : Op) (ns : List Node) → (passOp o ns) .labels ≡ o .labels
+pub pass-labels : (o : Op) (ns : List Node) → (passOp o ns) .labels ≡ o .labels
 pass-labels o [] = refl
 pass-labels o (n ∷ ns) = pass-labels (visitOp o n) ns ∙ visit-labels o n
 

@@ -16,13 +16,13 @@ use Rattle.graph.specs.OneAtATime.{Labelled, addOf, opOf}
 use Rattle.graph.specs.Sessions.{Station, station, Session, labelsOfUnit, labelsOfUnits, labelsOfStations, labelsOfCalls, labelsOfResults, pending}
 use Rattle.graph.specs.Steps.{Step, admit, realise, move, finish, join, split, swap, fuse, step, anyHits}
 use Rattle.graph.specs.Allowed.{fromKey, anyFinishes, rule, allowed}
-use Rattle.graph.specs.Drain.{orHere, backmost, Taken, taking, orElse, drainStepAt, drainStep, Drained, drainOn, drainFor, weightOfUnit, weightOfUnits, weightOfStations, weightOfCalls, weightOf, drain}
+use Rattle.graph.specs.Drain.{orHere, backmost, Taken, taking, orElse, drainStepAt, drainStep, Drained, drainOn, drainFor, enoughSteps, drain}
 use Rattle.graph.specs.Valid.{Each, ValidOp, ValidUnit, ValidStation, ValidCall, KeysFall, Valid}
 use Rattle.graph.specs.Runs.{workSteps, stepAll, Progress}
 use Rattle.graph.proofs.Answers.{Holds, refuses, holds, holds-at, isDone, isDone-map, or-left, eqb-same}
 use Rattle.graph.proofs.Effects.{costs}
 use Rattle.graph.proofs.OutcomeKept.{Same, step-same}
-use Rattle.graph.proofs.Weights.{Lighter, step-lighter}
+use Rattle.graph.proofs.Weights.{weightOfUnit, weightOfUnits, weightOfStations, weightOfCalls, weightOf, Lighter, step-lighter}
 use Rattle.graph.proofs.Validity.{Stepped, step-valid}
 use Rattle.graph.proofs.Verdicts.{step-done}
 
@@ -244,44 +244,23 @@ drains-for (suc n) s g = go (drainStep s) (drain-took s) (drains-for n)
         let x = next s g t h in
         drains-more s t (drainFor n (t .to)) h x (ih (t .to) (x .valid))
 
-ends-for : (n : ℕ) (s : Session) → Valid s → weightOf s < n → Resting ((drainFor n s) .end)
-ends-for zero s g h = absurd (omega arith)
+-- a session without weight takes no step of drain
+weightless : (s : Session) → Valid s → weightOf s ≤ 0 → (t : Taken) → Took s t → ⊥
+weightless s g h t k = omega (arith, next s g t k .lighter)
+
+ends-for : (n : ℕ) (s : Session) → Valid s → weightOf s ≤ n → Resting ((drainFor n s) .end)
+ends-for zero s g h = go (drainStep s) refl (drain-took s)
+  where
+    go : (x : Answer Taken) → drainStep s ≡ x → Holds (Took s) x → Resting s
+    go (refused r) e k = refused-resting s g (ap isDone e)
+    go (done t) e (holds k) = absurd (weightless s g h t k)
 ends-for (suc n) s g h = go (drainStep s) refl (drain-took s) (ends-for n)
   where
-    go : (x : Answer Taken) → drainStep s ≡ x → Holds (Took s) x → ((u : Session) → Valid u → weightOf u < n → Resting ((drainFor n u) .end)) → Resting ((drainOn (drainFor n) x s) .end)
+    go : (x : Answer Taken) → drainStep s ≡ x → Holds (Took s) x → ((u : Session) → Valid u → weightOf u ≤ n → Resting ((drainFor n u) .end)) → Resting ((drainOn (drainFor n) x s) .end)
     go (refused r) e k ih = refused-resting s g (ap isDone e)
     go (done t) e (holds k) ih =
         let x = next s g t k in
         ih (t .to) (x .valid) (omega (arith, x .lighter))
-
--- from every valid session
-pub drain-ends : (s : Session) → Valid s → pending ((drain s) .end) ≡ []
-drain-ends s g = resting-pending _ (ends-for (suc (weightOf s)) s g (omega arith))
-
-pub drain-drains : (s : Session) → Valid s → Drains s (drain s)
-drain-drains s g = drains-for (suc (weightOf s)) s g
-
--- STEP BY STEP: what drain comes to after one of its steps, and where it takes none
-enough : (n m : ℕ) (s : Session) → Valid s → weightOf s < n → weightOf s < m → drainFor n s ≡ drainFor m s
-enough zero m s g h k = absurd (omega arith)
-enough (suc n) zero s g h k = absurd (omega arith)
-enough (suc n) (suc m) s g h k = go (drainStep s) (drain-took s) (enough n m)
-  where
-    go : (x : Answer Taken) → Holds (Took s) x → ((u : Session) → Valid u → weightOf u < n → weightOf u < m → drainFor n u ≡ drainFor m u) → drainOn (drainFor n) x s ≡ drainOn (drainFor m) x s
-    go (refused r) j ih = refl
-    go (done t) (holds j) ih =
-        let x = next s g t j in
-        let e : drainFor n (t .to) ≡ drainFor m (t .to) = ih (t .to) (x .valid) (omega (arith, x .lighter)) (omega (arith, x .lighter)) in
-        λ i. record { end = (e i) .end; took = t .what ∷ (e i) .took }
-
-pub drain-next : (s : Session) → Valid s → (t : Taken) → drainStep s ≡ done t → drain s ≡ record { end = (drain (t .to)) .end; took = t .what ∷ (drain (t .to)) .took }
-drain-next s g t e =
-    let x = next s g t (holds-at (rw e at (drain-took s))) in
-    let f : drainFor (weightOf s) (t .to) ≡ drain (t .to) = enough (weightOf s) (suc (weightOf (t .to))) (t .to) (x .valid) (omega (arith, x .lighter)) (omega arith) in
-    ap (λ (y : Answer Taken). drainOn (drainFor (weightOf s)) y s) e ∙ (λ i. record { end = (f i) .end; took = t .what ∷ (f i) .took })
-
-pub drain-rests : (s : Session) (r : ℕ) → drainStep s ≡ refused r → drain s ≡ record { end = s; took = [] }
-drain-rests s r e = ap (λ (y : Answer Taken). drainOn (drainFor (weightOf s)) y s) e
 
 -- BOUND: a valid session weighs at most 73 for each live label
 unit-bound : (d : ℕ) (os : List Op) → d ≤ 63 → Each ValidOp os → weightOfUnit d os ≤ 73 * length (labelsOfUnit os)
@@ -312,11 +291,62 @@ weight-bound s g =
       g .places,
     )
 
+pub weight-enough : (s : Session) → Valid s → weightOf s ≤ enoughSteps
+unfolding enoughSteps
+weight-enough s g = omega (arith, weight-bound s g)
+
+-- from every valid session
+pub drain-ends : (s : Session) → Valid s → pending ((drain s) .end) ≡ []
+drain-ends s g = resting-pending _ (ends-for enoughSteps s g (weight-enough s g))
+
+pub drain-drains : (s : Session) → Valid s → Drains s (drain s)
+drain-drains s g = drains-for enoughSteps s g
+
+-- STEP BY STEP: what drain comes to after one of its steps, and where it takes none
+rests-for : (m : ℕ) (s : Session) → Valid s → weightOf s ≤ 0 → drainFor m s ≡ record { end = s; took = [] }
+rests-for zero s g h = refl
+rests-for (suc m) s g h = go (drainStep s) (drain-took s)
+  where
+    go : (x : Answer Taken) → Holds (Took s) x → drainOn (drainFor m) x s ≡ record { end = s; took = [] }
+    go (refused r) j = refl
+    go (done t) (holds j) = absurd (weightless s g h t j)
+
+enough : (n m : ℕ) (s : Session) → Valid s → weightOf s ≤ n → weightOf s ≤ m → drainFor n s ≡ drainFor m s
+enough zero m s g h k = sym (rests-for m s g h)
+enough (suc n) zero s g h k = rests-for (suc n) s g k
+enough (suc n) (suc m) s g h k = go (drainStep s) (drain-took s) (enough n m)
+  where
+    go : (x : Answer Taken) → Holds (Took s) x → ((u : Session) → Valid u → weightOf u ≤ n → weightOf u ≤ m → drainFor n u ≡ drainFor m u) → drainOn (drainFor n) x s ≡ drainOn (drainFor m) x s
+    go (refused r) j ih = refl
+    go (done t) (holds j) ih =
+        let x = next s g t j in
+        let e : drainFor n (t .to) ≡ drainFor m (t .to) = ih (t .to) (x .valid) (omega (arith, x .lighter)) (omega (arith, x .lighter)) in
+        λ i. record { end = (e i) .end; took = t .what ∷ (e i) .took }
+
+-- one step, and what is left of the steps that are enough
+drain-once : (s : Session) → (n : ℕ) × (enoughSteps ≡ suc n) × (drain s ≡ drainOn (drainFor n) (drainStep s) s)
+unfolding enoughSteps
+drain-once s = (4671, refl, refl)
+
+pub drain-next : (s : Session) → Valid s → (t : Taken) → drainStep s ≡ done t → drain s ≡ record { end = (drain (t .to)) .end; took = t .what ∷ (drain (t .to)) .took }
+drain-next s g t e =
+    let x = next s g t (holds-at (rw e at (drain-took s))) in
+    let o = drain-once s in
+    let n : ℕ = o .0 in
+    let f : drainFor n (t .to) ≡ drain (t .to) = enough n enoughSteps (t .to) (x .valid) (omega (arith, x .lighter, weight-enough s g, o .1)) (weight-enough (t .to) (x .valid)) in
+    o .2 ∙ ap (λ (y : Answer Taken). drainOn (drainFor n) y s) e ∙ (λ i. record { end = (f i) .end; took = t .what ∷ (f i) .took })
+
+pub drain-rests : (s : Session) (r : ℕ) → drainStep s ≡ refused r → drain s ≡ record { end = s; took = [] }
+drain-rests s r e = let o = drain-once s in o .2 ∙ ap (λ (y : Answer Taken). drainOn (drainFor (o .0)) y s) e
+
 -- every step that drain takes is an admit, realise, move or finish
-pub drain-works : (n : ℕ) (s : Session) → workSteps ((drainFor n s) .took) ≡ length ((drainFor n s) .took)
-drain-works zero s = refl
-drain-works (suc n) s = go (drainStep s) (drain-took s) (drain-works n)
+works-for : (n : ℕ) (s : Session) → workSteps ((drainFor n s) .took) ≡ length ((drainFor n s) .took)
+works-for zero s = refl
+works-for (suc n) s = go (drainStep s) (drain-took s) (works-for n)
   where
     go : (x : Answer Taken) → Holds (Took s) x → ((u : Session) → workSteps ((drainFor n u) .took) ≡ length ((drainFor n u) .took)) → workSteps ((drainOn (drainFor n) x s) .took) ≡ length ((drainOn (drainFor n) x s) .took)
     go (refused r) h ih = refl
     go (done t) (holds h) ih = omega (arith, work-cons (t .what) ((drainFor n (t .to)) .took), h .cost, ih (t .to))
+
+pub drain-works : (s : Session) → workSteps ((drain s) .took) ≡ length ((drain s) .took)
+drain-works s = works-for enoughSteps s

@@ -13,7 +13,7 @@ use Rattle.graph.specs.KeyLists.{isNil, isKey, areKeys}
 use Rattle.graph.specs.Refusals.{Answer, refused, done, andThen, numberOf as codeOf, firstOf, unless}
 use Rattle.graph.specs.Sessions.{Session}
 use Rattle.graph.specs.Steps.{Step, admit, realise, move, finish, join, split, swap, fuse, step}
-use Rattle.graph.specs.Drain.{drain, weightOf}
+use Rattle.graph.specs.Drain.{drain}
 use Rattle.graph.specs.Runs.{tallyPlace}
 use Rattle.graph.proofs.Answers.{isDone, and-left, and-right}
 use Rattle.graph.specs.Allowed.{fromKey, unitsOf, fromUnit, allowed, tests, stepTests}
@@ -139,7 +139,7 @@ module _ (image after line : List ℕ) (t : Tally) (c : StepLine) (h : ImageOf i
       let is : stepOf c ≡ drains = drain-form (stepOf c) p in
       let all : u ≡ counted t ((drain s) .took) =
       q ∙ (λ i. raised (raised (raised (raised t 0 (d .counts .admits i)) 1 (d .counts .realises i)) 2 (d .counts .moves i)) 3 (d .counts .finishes i))
-      ∙ counted-at-once t ((drain s) .took) (drain-works (suc (weightOf s)) s) in
+      ∙ counted-at-once t ((drain s) .took) (drain-works s) in
       served s h drains (subst (IsStep line) is (r .text)) (λ i. record { answer = a i; image = d .image i; tally = all i })
 
   module _ (w : Step) (n : ℕ) (is : work w ≡ stepOf c) (s : Serves (step w (sessionOf image)) image after n) where

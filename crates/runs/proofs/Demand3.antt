@@ -17,7 +17,7 @@ use Rattle.graph.specs.OneAtATime.{oneAtATime}
 use Rattle.graph.specs.Sessions.{Session, pending, labelsOfResults}
 use Rattle.graph.specs.Steps as graph
 use Rattle.graph.specs.Allowed.{allowed}
-use Rattle.graph.specs.Drain.{drain, weightOf}
+use Rattle.graph.specs.Drain.{drain}
 use Rattle.graph.specs.Runs.{Run, start, find, ofKind, workSteps}
 use Rattle.graph.specs.Runs as graphRuns
 use Rattle.graph.specs.Valid.{Each, Given, Valid}
@@ -39,7 +39,7 @@ use Rattle.runs.specs.Runs.{Sent, step, claim, Runs, opening, after, acc
 use Rattle.runs.specs.Demand.{ResultOf, claimed, unclaimed, HasResult, ClaimsMeant, Progress, StepLines, NonePending, Cleared, Demand3}
 use Rattle.host.proofs.Determined.{same-session, step-once}
 use Rattle.runs.proofs.Entered.{own}
-use Rattle.runs.proofs.Found.{none-some, find-here, find-skip, Where, first-of, later, where-found}
+use Rattle.graph.proofs.Found.{none-some, find-here, find-skip, Where, first-of, later, where-found}
 use Rattle.runs.proofs.OneLine.{Gave, noClaim, pastCall, pastStep, pastRefusal, pastClaim, adding}
 use Rattle.runs.proofs.Reached.{Reached, reached}
 use Rattle.runs.proofs.Seen.{line-taken, all-lines, pending-seen, pending-only, would-write}
@@ -175,7 +175,7 @@ module _ (es : List Sent) (h : Runs opening es) where
       let same : s ≡ u = same-session (own s v) (subst (λ (b : List ℕ). ImageOf b u) image i) in
       subst (λ (b : List ℕ). StepLines (encode ((drain u) .end)) b ((drain u) .took)) (sym image)
       (subst (λ (y : Session). StepLines (encode ((drain y) .end)) (encode s) ((drain y) .took)) same
-      (all-lines ((drain s) .took) s ((drain s) .end) v (drain-works (suc (weightOf s)) s) (drain-drains s v .steps)))
+      (all-lines ((drain s) .took) s ((drain s) .end) v (drain-works s) (drain-drains s v .steps)))
 
   drain-line : IsStep (stepText drainForm) drainForm
   unfolding ascii

@@ -1,7 +1,6 @@
 pub mod Entered
 pub mod OneLine
 pub mod Reached
-pub mod Found
 pub mod Seen
 pub mod Demand3
 pub mod Unchanged

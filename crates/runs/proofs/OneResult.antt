@@ -21,7 +21,7 @@ use Rattle.host.specs.Entries.{ClaimMade, Claims}
 use Rattle.host.proofs.Determined.{claim-forms, claim-once}
 use Rattle.runs.specs.Runs.{Sent, call, step, claim, Runs, opening, after, isServed, Wrote, ClaimedIn, here, there, WouldWrite}
 use Rattle.runs.specs.Demand.{ResultOf, claimed, unclaimed, GaveMeant, ClaimsMeant}
-use Rattle.runs.proofs.Found.{some-same}
+use Rattle.graph.proofs.Found.{some-same}
 use Rattle.runs.proofs.Demand3.{demand3}
 
 -- what was written is read back

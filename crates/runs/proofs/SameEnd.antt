@@ -10,7 +10,7 @@ use Rattle.graph.specs.OneAtATime.{oneAtATime}
 use Rattle.graph.specs.Runs.{find}
 use Rattle.runs.specs.Runs.{Sent, Runs, opening, after, acceptedLines, TextsOf, noLine, aLine, here, there, GraphOf}
 use Rattle.runs.specs.Demand.{ResultOf, NonePending, SameEnd}
-use Rattle.runs.proofs.Found.{some-same}
+use Rattle.graph.proofs.Found.{some-same}
 use Rattle.host.proofs.Determined.{call-forms}
 use Rattle.runs.proofs.Demand3.{demand3}
 

@@ -25,7 +25,7 @@ use Rattle.graph.proofs.Labels.{is, total-append, total-is}
 use Rattle.valid.specs.Values.{encode}
 use Rattle.runs.specs.Runs.{Sent, Runs, opening, after, isServed, acceptedLines, ClaimedIn, here, there}
 use Rattle.runs.specs.Demand.{NonePending, ClaimedLabel}
-use Rattle.runs.proofs.Found.{none-some, find-here, find-skip, Where, first-of, later, where-found}
+use Rattle.graph.proofs.Found.{none-some, find-here, find-skip, Where, first-of, later, where-found}
 use Rattle.runs.proofs.OneLine.{Gave, pastCall, pastStep, pastRefusal, pastClaim}
 use Rattle.host.proofs.Determined.{claim-forms}
 use Rattle.runs.proofs.Demand3.{InEither, first, second, find-either, gave-claimed}

@@ -39,7 +39,7 @@ use Rattle.host.specs.Entries.{served, ClaimMade, claimRefused, claimWritten, c
 use Rattle.runs.specs.Runs.{isServed, Pending, Wrote, WouldWrite}
 use Rattle.runs.specs.Demand.{StepLines, ended, stepped}
 use Rattle.runs.proofs.Entered.{own, entered}
-use Rattle.runs.proofs.Found.{none-some, Where, first-of, later, where-found}
+use Rattle.graph.proofs.Found.{none-some, Where, first-of, later, where-found}
 
 refusal-of : (n : ℕ) → refusalIn (numberOf (Refused n)) ≡ n
 refusal-of zero = refl

@@ -10,9 +10,10 @@ use lib.ListN.{length}
 use Rattle.graph.specs.Refusals.{Answer, refused, done}
 use Rattle.graph.specs.Sessions.{Session}
 use Rattle.graph.specs.Steps.{Step, admit, realise, finish}
-use Rattle.graph.specs.Drain.{drain, weightOf}
+use Rattle.graph.specs.Drain.{drain}
 use Rattle.graph.specs.Valid.{Valid}
 use Rattle.graph.specs.Runs.{tallyPlace, ofKind, workSteps}
+use Rattle.graph.proofs.Weights.{weightOf}
 use Rattle.graph.proofs.Drains.{drain-drains, weight-bound}
 use Rattle.worksteps.specs.FlatEvents.{FlatTaken, flatDrainStep}
 use Rattle.graph.proofs.Effects.{place-below}

@@ -7,8 +7,9 @@ use mathlib.Core.List.{List, [], _∷_}
 use Rattle.graph.specs.Refusals.{Answer, refused, done, mapDone}
 use Rattle.graph.specs.Sessions.{Session}
 use Rattle.graph.specs.Steps.{Step}
-use Rattle.graph.specs.Drain.{Taken, drainStep, Drained, drain, weightOf}
+use Rattle.graph.specs.Drain.{Taken, drainStep, Drained, drain}
 use Rattle.graph.proofs.Answers.{Holds, holds-at}
+use Rattle.graph.proofs.Weights.{weightOf}
 use Rattle.graph.proofs.Drains.{Took, drain-took, Next, next, drain-next, drain-rests}
 use Rattle.queue.specs.Flat.{Flat, flat, nest}
 use Rattle.worksteps.specs.FlatEvents.{FlatTaken, flatDrainStep}

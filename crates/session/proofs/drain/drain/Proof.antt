@@ -1,7 +1,7 @@
 -- What is counted, with what is still to be taken, is what drain takes.
 -- Assumes nothing.
 use mathlib.Core.Path.{sym, subst}
-use Rattle.graph.specs.Drain.{weightOf}
+use Rattle.graph.proofs.Weights.{weightOf}
 use Rattle.valid.specs.Values.{sessionOf}
 use Rattle.session.proofs.DrainLoop.{Goes, Loop, loop-first, loop-next, loop-done, counts-fit}
 use borrow.Author.Needs.{needs}

@@ -1,14 +1,14 @@
 -- The result that a list holds under a label: the first with that label.
 -- Assumes nothing.
-use mathlib.Core.Path.{_≡_, sym, ap, refl}
+use mathlib.Core.Path.{_≡_, sym, ap, refl, _∙_}
 use Prim.Native.Nat.{ℕ}
 use mathlib.Core.Bool.{Bool, true, false, cond, true≢false}
-use mathlib.Core.List.{List, _∷_}
+use mathlib.Core.List.{List, [], _∷_, _++_}
 use mathlib.Core.Option.{Option, none, some}
 use lib.Dec.{eqb}
 use borrow.Author.Tests.{eqb-true, eqb-false, eq-eqb, ne-eqb}
 use Rattle.graph.specs.Nodes.{Result}
 use Rattle.graph.specs.Runs.{find}
 
 abbrev isSome : Option Result → Bool
 isSome none = false
@@ -40,3 +40,16 @@ where-found l q r rs e = go (eqb (r .label) l) refl e
     go : (b : Bool) → eqb (r .label) l ≡ b → cond b (some r) (find l rs) ≡ some q → Where l q r rs
     go true d e = first-of (eqb-true (r .label) l d) (some-same e)
     go false d e = later (eqb-false (r .label) l d) e
+
+-- two lists, one after the other: what the first holds, else what the second holds
+abbrev pub orThat : Option Result → Option Result → Option Result
+orThat none q = q
+orThat (some r) q = some r
+
+or-cond : (b : Bool) (r : Result) (p q : Option Result) → cond b (some r) (orThat p q) ≡ orThat (cond b (some r) p) q
+or-cond true r p q = refl
+or-cond false r p q = refl
+
+pub find-append : (l : ℕ) (rs qs : List Result) → find l (rs ++ qs) ≡ orThat (find l rs) (find l qs)
+find-append l [] qs = refl
+find-append l (r ∷ rs) qs = ap (cond (eqb (r .label) l) (some r)) (find-append l rs qs) ∙ or-cond (eqb (r .label) l) r (find l rs) (find l qs)
