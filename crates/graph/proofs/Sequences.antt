@@ -5,7 +5,8 @@ use mathlib.Core.Path.{_≡_, refl, sym, _∙_, ap}
 use Prim.Native.Nat.{ℕ, _≤_, _<_}
 use native.Mathlib.Omega.{arith}
 use mathlib.Core.Bool.{Bool, true, false, cond, not, _&&_, _||_, true≢false}
-use mathlib.Core.List.{List, [], _∷_, _++_}
+use mathlib.Core.List.{List, [], _∷_}
+use mathlib.Core.Option.{some}
 use lib.Dec.{eqb, ltb, leb}
 use borrow.Author.Tests.{eq-eqb, eqb-true, eqb-false, ltb-true, ne-eqb}
 use Rattle.graph.specs.Refusals.{Answer, refused, done, mapDone, andThen, numberOf, Test, firstOf, risesFrom, unless}
@@ -17,7 +18,9 @@ use Rattle.graph.specs.Steps.{Step, admit, realise, move, finish, join, 
 use Rattle.graph.specs.Allowed.{stepTests}
 use Rattle.graph.specs.Acceptance.{callTests, accepted, accept, Claimed, takeResult, claimTests, claim}
 use Rattle.graph.specs.Valid.{Each}
-use Rattle.graph.proofs.Answers.{and-left, and-right}
+use Rattle.graph.specs.Runs.{find}
+use Rattle.graph.proofs.Answers.{Holds, refuses, holds, holds-map, and-left, and-right}
+use Rattle.graph.proofs.Verdicts.{Says, says-map}
 
 -- THE LOWEST NUMBER
 rises-above : (n : ℕ) (ts : List Test) → risesFrom n ts ≡ true → Each (λ (t : Test). n < t .number) ts
@@ -83,30 +86,28 @@ same-label l r rs = go (eqb (r .label) l) refl
     go true e = rw (eq-eqb l (r .label) (sym (eqb-true (r .label) l e)))
     go false e = rw (ne-eqb l (r .label) (λ (q : l ≡ r .label). eqb-false (r .label) l e (sym q)))
 
-take-number : (l : ℕ) (rs : List Result) → numberOf (takeResult l rs) ≡ cond (contains l (labelsOfResults rs)) 0 32
-take-number l [] = refl
-take-number l (r ∷ rs) = rw (same-label l r rs) (go (eqb (r .label) l) (takeResult l rs) (contains l (labelsOfResults rs)) (take-number l rs))
+pub take-says : (l : ℕ) (rs : List Result) → Says (takeResult l rs) (cond (contains l (labelsOfResults rs)) 0 32) (contains l (labelsOfResults rs))
+take-says l [] = record { number = refl; done = refl }
+take-says l (r ∷ rs) = rw (same-label l r rs) (go (eqb (r .label) l) (contains l (labelsOfResults rs)) _ (says-map _ (take-says l rs)))
   where
-    go : (b : Bool) (x : Answer Claimed) (c : Bool) → numberOf x ≡ cond c 0 32 →
-        numberOf {A = Claimed} (cond b (done (record { result = r; others = rs })) (mapDone (λ c. record { result = c .result; others = r ∷ c .others }) x)) ≡ cond (cond b true c) 0 32
-    go true x c h = refl
-    go false (refused n) c h = h
-    go false (done a) c h = h
+    go : (b c : Bool) (a : Claimed) {x : Answer Claimed} → Says x (cond c 0 32) c → Says (cond b (done a) x) (cond (cond b true c) 0 32) (cond b true c)
+    go true c a h = record { number = refl; done = refl }
+    go false c a h = h
 
 -- a claim is refused by the first of its tests that applies, else the result is taken
 pub claim-tests : (l : ℕ) (s : Session) → claim l s ≡ andThen (unless (claimTests l s) (s .results)) (takeResult l)
-claim-tests l s = go (leb 1 l && leb l (s .last)) (contains l (pending s)) (contains l (labelsOfResults (s .results))) (takeResult l (s .results)) refl (take-number l (s .results))
+claim-tests l s = go (leb 1 l && leb l (s .last)) (contains l (pending s)) (contains l (labelsOfResults (s .results))) (takeResult l (s .results)) refl (take-says l (s .results))
   where
-    go : (a b c : Bool) (x : Answer Claimed) → takeResult l (s .results) ≡ x → numberOf x ≡ cond c 0 32 →
+    go : (a b c : Bool) (x : Answer Claimed) → takeResult l (s .results) ≡ x → Says x (cond c 0 32) c →
         cond a (cond b (refused 31) x) (refused 30) ≡ andThen (cond (not a) (refused 30) (cond b (refused 31) (cond (not c) (refused 32) (done (s .results))))) (takeResult l)
     go false b c x e h = refl
     go true true c x e h = refl
     go true false true x e h = sym e
-    go true false false (refused n) e h = ap refused h
-    go true false false (done r) e h = absurd (omega (arith, h))
+    go true false false (refused n) e h = ap refused (h .number)
+    go true false false (done r) e h = absurd (true≢false (h .done))
 
 pub claim-number : (l : ℕ) (s : Session) → numberOf (claim l s) ≡ firstOf (claimTests l s)
-claim-number l s = go (leb 1 l && leb l (s .last)) (contains l (pending s)) (contains l (labelsOfResults (s .results))) (takeResult l (s .results)) (take-number l (s .results))
+claim-number l s = go (leb 1 l && leb l (s .last)) (contains l (pending s)) (contains l (labelsOfResults (s .results))) (takeResult l (s .results)) (take-says l (s .results) .number)
   where
     go : (a b c : Bool) (x : Answer Claimed) → numberOf x ≡ cond c 0 32 →
         numberOf (cond a (cond b (refused 31) x) (refused 30)) ≡ cond (not a) 30 (cond b 31 (cond (not c) 32 0))
@@ -114,3 +115,13 @@ claim-number l s = go (leb 1 l && leb l (s .last)) (contains l (pending s)) (con
     go true true c x h = refl
     go true false true x h = h
     go true false false x h = h
+
+-- what is taken is the result that the label finds
+pub take-found : (l : ℕ) (rs : List Result) → Holds (λ (c : Claimed). find l rs ≡ some (c .result)) (takeResult l rs)
+take-found l [] = refuses
+take-found l (r ∷ rs) = go (eqb (r .label) l) (take-found l rs)
+  where
+    go : (b : Bool) {x : Answer Claimed} → Holds (λ (c : Claimed). find l rs ≡ some (c .result)) x →
+        Holds (λ (c : Claimed). cond b (some r) (find l rs) ≡ some (c .result)) (cond b (done (record { result = r; others = rs })) (mapDone (λ c. record { result = c .result; others = r ∷ c .others }) x))
+    go true h = holds refl
+    go false h = holds-map _ (λ c e. e) h

@@ -7,3 +7,4 @@ pub mod Listing
 pub mod Determined
 pub mod Decided
 pub mod Answered
+pub mod Sequences
