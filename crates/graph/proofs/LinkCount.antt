@@ -1,7 +1,7 @@
 -- From opening a link's count is exact: its result is at most the number of its targets, so that it never wraps.
 -- Assumes nothing.
 use mathlib.Core.Path.{_≡_, refl, sym, _∙_, ap}
-use Prim.Native.Nat.{ℕ, suc, _+_, _≤_, _<_}
+use Prim.Native.Nat.{ℕ, suc, _+_, _≤_}
 use native.Mathlib.Nat.{suc-add, add-suc, add-zero}
 use native.Mathlib.Omega.{arith}
 use mathlib.Core.Bool.{Bool, true, false, cond}
@@ -14,7 +14,7 @@ use Rattle.graph.specs.Affine.{plus}
 use Rattle.graph.specs.KeyLists.{contains, isFull}
 use Rattle.graph.specs.Acts.{answer}
 use Rattle.graph.specs.Calls.{Call, link, targetsOf}
-use Rattle.graph.specs.Nodes.{Node, Op, Result, hits, actBy, visitOp, stored, addResult}
+use Rattle.graph.specs.Nodes.{Node, Op, Result, hits, actBy, visitOp, addResult}
 use Rattle.graph.specs.OneAtATime.{World, labelled, passOp, process, processFrom, oneAtATime}
 use Rattle.graph.specs.Sessions.{pending}
 use Rattle.graph.specs.Runs.{Event, run, find}

@@ -14,7 +14,7 @@ use Rattle.graph.specs.KeyLists.{contains}
 use Rattle.graph.specs.Calls.{Call}
 use Rattle.graph.specs.Nodes.{Result}
 use Rattle.graph.specs.Sessions.{Session, labelsOfResults, pending}
-use Rattle.graph.specs.Steps.{Step, admit, realise, move, finish, join, split, swap, fuse, step}
+use Rattle.graph.specs.Steps.{Step, admit, realise, move, finish, join, split, swap, fuse}
 use Rattle.graph.specs.Allowed.{stepTests}
 use Rattle.graph.specs.Acceptance.{callTests, accepted, accept, Claimed, takeResult, claimTests, claim}
 use Rattle.graph.specs.Valid.{Each}

@@ -5,7 +5,7 @@ use Prim.Native.Nat.{ℕ, zero, suc, _*_, _≤_}
 use native.Mathlib.Omega.{arith}
 use mathlib.Core.Bool.{Bool, true, false, _||_, true≢false}
 use mathlib.Core.List.{List, [], _∷_, _++_, append-assoc}
-use mathlib.Core.Option.{some}
+use mathlib.Core.Option.{Option, none, some}
 use lib.IntN.{pos}
 use lib.ListN.{length}
 use borrow.Author.Tests.{eq-eqb}
@@ -36,10 +36,10 @@ use Rattle.panel.proofs.TallyLaws.{counted-kinds, up-from-zero}
 use Rattle.valid.specs.Values.{encode}
 use Rattle.host.specs.Entries.{ImageOf, served, Stepped, stepMade, Steps}
 use Rattle.runs.specs.Runs.{Sent, step, claim, Runs, opening, after, acceptedLines, TextsOf, noLine, aLine, Pending, Wrote, ClaimedIn, here, there, WouldWrite, OneTally, lastTally}
-use Rattle.runs.specs.Demand.{ResultOf, claimed, unclaimed, HasResult, ClaimsMeant, Progress, StepLines, NonePending, Cleared, Demand3}
-use Rattle.host.proofs.Determined.{same-session, step-once}
+use Rattle.runs.specs.Demand.{ResultOf, claimed, unclaimed, HasResult, ClaimsMeant, Progress, StepLines, NonePending, Cleared, Demand3, PendingOrResult, isPending, hasResult}
+use Rattle.host.proofs.Determined.{step-once}
 use Rattle.runs.proofs.Entered.{own}
-use Rattle.graph.proofs.Found.{none-some, find-here, find-skip, Where, first-of, later, where-found}
+use Rattle.graph.proofs.Found.{none-some, Where, first-of, later, where-found, orThat, find-append}
 use Rattle.runs.proofs.OneLine.{Gave, noClaim, pastCall, pastStep, pastRefusal, pastClaim, adding}
 use Rattle.runs.proofs.Reached.{Reached, reached}
 use Rattle.runs.proofs.Seen.{line-taken, all-lines, pending-seen, pending-only, would-write}
@@ -54,16 +54,11 @@ pub data InEither (l : ℕ) (q : Result) (xs ys : List Result) : Type 0 where
   second : find l ys ≡ some q → InEither l q xs ys
 
 pub find-either : (l : ℕ) (q : Result) (xs ys : List Result) → find l (xs ++ ys) ≡ some q → InEither l q xs ys
-find-either l q [] ys e = second e
-find-either l q (x ∷ xs) ys e = go (where-found l q x (xs ++ ys) e) (find-either l q xs ys)
+find-either l q xs ys e = go (find l xs) refl (sym (find-append l xs ys) ∙ e)
   where
-    further : (x .label ≡ l → ⊥) → InEither l q xs ys → InEither l q (x ∷ xs) ys
-    further n (first e) = first (find-skip l x xs n ∙ e)
-    further n (second e) = second e
-
-    go : Where l q x (xs ++ ys) → (find l (xs ++ ys) ≡ some q → InEither l q xs ys) → InEither l q (x ∷ xs) ys
-    go (first-of d s) g = first (find-here l x xs d ∙ ap some s)
-    go (later n s) g = further n (g s)
+    go : (p : Option Result) → find l xs ≡ p → orThat p (find l ys) ≡ some q → InEither l q xs ys
+    go none f e = second e
+    go (some r) f e = first (f ∙ e)
 
 -- what was claimed was written
 pub gave-claimed : (l : ℕ) (q : Result) {es : List Sent} {qs : List Result} → Gave es qs → find l qs ≡ some q → ClaimedIn l q es
@@ -90,6 +85,11 @@ module _ (meant : List Result) (all : List Result) (right : (pre post : List Res
 done-of : (x : Answer Session) → isDone x ≡ true → (B : Type 0) → ((u : Session) → x ≡ done u → B) → B
 done-of (refused n) e B f = absurd (true≢false (sym e))
 done-of (done u) e B f = f u refl
+
+-- where a call is not pending it has its result
+pub result-of : {es : List Sent} {meant : List Result} {l : ℕ} → PendingOrResult es meant l → (Pending (after opening es) l → ⊥) → HasResult es meant l
+result-of (isPending p) n = absurd (n p)
+result-of (hasResult n r) m = r
 
 -- ONE THEOREM
 module _ (es : List Sent) (h : Runs opening es) where
@@ -160,22 +160,19 @@ module _ (es : List Sent) (h : Runs opening es) where
             };
       })
 
-  few : workSteps (to .steps) ≤ 73 * length (acceptedLines es)
-  few = omega (arith, d .bound, d .labels, size)
+  bounded : workSteps (to .steps) ≤ 73 * length (acceptedLines es)
+  bounded = omega (arith, d .bound, d .labels, size)
 
   tallied : OneTally zeros es → lastTally zeros es ≡ each (λ k c. upBy c (ofKind k (to .steps))) zeros
   tallied o = to .tally zeros o ∙ counted-kinds zeros (to .steps)
 
-  -- 73 × 65,535 is far below resting
-  small : workSteps (to .steps) ≤ 4294967295
-  small = omega (arith, few, size, v .labels)
+  small : workSteps (to .steps) ≤ 4784055
+  small = omega (arith, bounded, size, v .labels)
 
-  one-by-one : (u : Session) → ImageOf (after opening es) u → StepLines (encode ((drain u) .end)) (after opening es) ((drain u) .took)
-  one-by-one u i =
-      let same : s ≡ u = same-session (own s v) (subst (λ (b : List ℕ). ImageOf b u) image i) in
-      subst (λ (b : List ℕ). StepLines (encode ((drain u) .end)) b ((drain u) .took)) (sym image)
-      (subst (λ (y : Session). StepLines (encode ((drain y) .end)) (encode s) ((drain y) .took)) same
-      (all-lines ((drain s) .took) s ((drain s) .end) v (drain-works s) (drain-drains s v .steps)))
+  one-by-one : StepLines (encode ((drain s) .end)) (after opening es) ((drain s) .took)
+  one-by-one =
+      subst (λ (b : List ℕ). StepLines (encode ((drain s) .end)) b ((drain s) .took)) (sym image)
+      (all-lines ((drain s) .took) s ((drain s) .end) v (drain-works s) (drain-drains s v .steps))
 
   drain-line : IsStep (stepText drainForm) drainForm
   unfolding ascii
@@ -202,13 +199,14 @@ module _ (es : List Sent) (h : Runs opening es) where
         texts = to .texts;
         labels = to .labels;
         few = omega (arith, size, v .labels);
-        results = λ l a b np. result l a b (by-bool (contains l (pending s)) (λ c. absurd (np (waits l a b c))) (λ c. c));
+        results = λ l a b. by-bool (contains l (pending s)) (λ c. isPending (waits l a b c)) (λ c. hasResult (λ p. true≢false (sym (waiting l p) ∙ c)) (result l a b c));
         claims = gave-meant ((oneAtATime (to .calls)) .results) (to .gave) (d .claims) [] (to .wrote) refl;
         graph = λ np. record { session = s; holds = holding; graph = d .graph (no-more np) };
         progress = onward;
         steps = to .steps;
         taken = to .took;
-        bound = few;
+        bound = bounded;
+        below = small;
         tally = λ o. (
           ap (λ (t : Tally). t .admit) (tallied o) ∙ up-from-zero (ofKind 0 (to .steps)) (omega (arith, small)),
           ap (λ (t : Tally). t .realise) (tallied o) ∙ up-from-zero (ofKind 1 (to .steps)) (omega (arith, small)),

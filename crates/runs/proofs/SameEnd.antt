@@ -12,7 +12,7 @@ use Rattle.runs.specs.Runs.{Sent, Runs, opening, after, acceptedLines, T
 use Rattle.runs.specs.Demand.{ResultOf, NonePending, SameEnd}
 use Rattle.graph.proofs.Found.{some-same}
 use Rattle.host.proofs.Determined.{call-forms}
-use Rattle.runs.proofs.Demand3.{demand3}
+use Rattle.runs.proofs.Demand3.{result-of, demand3}
 
 -- the same lines are the texts of the same calls
 same-texts : {lines : List (List ℕ)} {cs ds : List Call} → TextsOf lines cs → TextsOf lines ds → cs ≡ ds
@@ -33,9 +33,9 @@ module _ (es fs : List Sent) (h : Runs opening es) (k : Runs opening fs) (same :
         here = demand3 es h .graph p;
         there = subst (λ (cs : List Call). GraphOf (after opening fs) ((oneAtATime cs) .nodes)) (sym calls-same) (demand3 fs k .graph q);
         results = λ l a b.
-            let r = demand3 es h .results l a b (p l a b) in
+            let r = result-of (demand3 es h .results l a b) (p l a b) in
             let b′ : l ≤ length (acceptedLines fs) = omega (arith, ap length same) in
-            let t = demand3 fs k .results l a b′ (q l a b′) in
+            let t = result-of (demand3 fs k .results l a b′) (q l a b′) in
             let alike : t .result ≡ r .result = some-same (sym (t .same) ∙ ap (λ (cs : List Call). find l ((oneAtATime cs) .results)) (sym calls-same) ∙ r .same) in
             record { result = r .result; here = r .given; there = subst (ResultOf fs l) alike (t .given) };
       }

@@ -34,6 +34,11 @@ pub record HasResult (es : List Sent) (meant : List Result) (l : ℕ) : Type 0 w
   pub given : ResultOf es l result
   pub same : find l meant ≡ some result
 
+-- an accepted call is pending, or it is not and has its result
+pub data PendingOrResult (es : List Sent) (meant : List Result) (l : ℕ) : Type 0 where
+  isPending : Pending (after opening es) l → PendingOrResult es meant l
+  hasResult : (Pending (after opening es) l → ⊥) → HasResult es meant l → PendingOrResult es meant l
+
 -- a claim line wrote the line of what one-at-a-time processing gives the label
 pub record GaveMeant (meant : List Result) (line out : List ℕ) (r : ClaimMade) : Type 0 where
   pub label : ℕ
@@ -79,7 +84,7 @@ pub record Demand3 (es : List Sent) : Type 0 where
   -- "Labels run 1 to 65,535"
   pub few : length (acceptedLines es) ≤ 65535
   -- "For every accepted call that isn't pending it equals the result of the same label in one-at-a-time processing"
-  pub results : (l : ℕ) → 1 ≤ l → l ≤ length (acceptedLines es) → (Pending (after opening es) l → ⊥) → HasResult es ((oneAtATime calls) .results) l
+  pub results : (l : ℕ) → 1 ≤ l → l ≤ length (acceptedLines es) → PendingOrResult es ((oneAtATime calls) .results) l
   -- every claim that was served wrote exactly that
   pub claims : ClaimsMeant ((oneAtATime calls) .results) es
   -- "With none pending it equals the nodes of one-at-a-time processing, front first."
@@ -90,10 +95,12 @@ pub record Demand3 (es : List Sent) : Type 0 where
   pub steps : List Step
   pub taken : Taken opening es steps
   pub bound : workSteps steps ≤ 73 * length (acceptedLines es)
+  -- "which stays far below resting": 73 × 65,535
+  pub below : workSteps steps ≤ 4784055
   -- "With one tally, zeros at the start .., each of these four kinds' number equals its count there"
   pub tally : OneTally zeros es → (lastTally zeros es .admit ≡ ofKind 0 steps) × (lastTally zeros es .realise ≡ ofKind 1 steps) × (lastTally zeros es .«move_on» ≡ ofKind 2 steps) × (lastTally zeros es .finish ≡ ofKind 3 steps)
   -- a drain's steps, sent one by one as lines, are each answered 0 and lead to the image that the drain leaves
-  pub drained : (s : Session) → ImageOf (after opening es) s → StepLines (encode ((drain s) .end)) (after opening es) ((drain s) .took)
+  pub drained : StepLines (encode ((drain session) .end)) (after opening es) ((drain session) .took)
   -- a drain is served, and leaves none pending
   pub cleared : (t : Tally) (r : Stepped) → Steps (after opening es) (stepText drains) t r → Cleared r
 
