@@ -1,8 +1,8 @@
 #!/usr/bin/env python3
 """ruled_out.py: compares docs/RULED-OUT.md with the public functions and the must-fail edits.
 
-Each public function has one row, with at least two wrong programs; each edit is named; and what the
-page names exists. The last line is 'N passed, M failed'.
+Each public function has an `ensures`, and one row with at least two wrong programs; each edit is
+named; and what the page names exists. The last line is 'N passed, M failed'.
 """
 import re
 import sys
@@ -15,15 +15,17 @@ EDIT = re.compile(r"\((?:definition )?`(\w+)`(?:, (\w+))?\)")
 
 
 def functions():
-    """The public functions as the page names them: by crate, file and type; those for C by their name."""
+    """The public functions as the page names them (by crate, file and type; those for C by their name),
+    and whether each has an `ensures` before its body."""
     for source in sorted(TOP.glob("crates/*/src/*.rt")):
-        crate, kind = source.parts[-3], ""
+        crate, kind, text = source.parts[-3], "", source.read_text()
         file = "" if source.stem == "lib" else source.stem + "::"
-        for item in ITEM.finditer(source.read_text()):
+        for item in ITEM.finditer(text):
             if item[1]:
                 kind = item[1] + "::"
-            else:
-                yield item[4] if item[3] else f"{crate}::{file}{kind if item[2] else ''}{item[4]}"
+                continue
+            name = item[4] if item[3] else f"{crate}::{file}{kind if item[2] else ''}{item[4]}"
+            yield name, re.search(r"^ *ensures |\{$", text[item.start() :], re.M)[0] != "{"
 
 
 def edits():
@@ -48,10 +50,12 @@ def page():
 
 def main():
     rows, short, named = page()
-    public, files = list(functions()), edits()
+    states, files = dict(functions()), edits()
+    public = set(states)
     tests = [
-        ("a public function without a row", set(public) - set(rows)),
-        ("a row of no public function", set(rows) - set(public)),
+        ("a public function without `ensures`", {name for name in public if not states[name]}),
+        ("a public function without a row", public - set(rows)),
+        ("a row of no public function", set(rows) - public),
         ("a function with two rows", {row for row in rows if rows.count(row) > 1}),
         ("a row with less than two programs", short),
         ("an edit that is not named", set(files) - set(named)),
