@@ -20,7 +20,10 @@ OWN = re.compile(r"^\s*(?:pub )?use Rattle·.*$", re.M)
 
 
 def text(path):
-    return (TOP / "crates" / path).read_text()
+    file = TOP / "crates" / path
+    if not file.exists():
+        raise SystemExit(f"crates/{path} is used and does not exist")
+    return file.read_text()
 
 
 def declared(path, name):

@@ -59,7 +59,7 @@ def names():
     """The names in docs/PROMISES.md: `a::b::f` is a function, `File.name` is in graph/proofs."""
     page = (TOP / "docs/PROMISES.md").read_text()
     everywhere = "\n".join(f"{path.stem} {path.read_text()}" for top in ("crates", "include") for path in files(TOP / top))
-    for name in sorted(set(re.findall(r"`([A-Za-z][\w:.-]*)`", page)) - set(PATH.findall(page))):
+    for name in sorted(set(re.findall(r"`([A-Za-z][\w:.-]*)(?: : [^`]*)?`", page)) - set(PATH.findall(page))):
         file = re.fullmatch(r"([A-Z]\w*)\.([\w-]+)", name)
         place = TOP / f"crates/graph/proofs/{file[1]}.antt" if file else None
         if not has(place.read_text() if place and place.exists() else everywhere, file[2] if file else name.split("::")[-1]):
