@@ -1,6 +1,6 @@
 #!/bin/sh
-# Tests what a studio links: the libraries, the header, the example host, the installation; and builds
-# the driver. The last line is 'N passed, M failed'.
+# Tests what a studio links: the libraries, the header, the example hosts (examples/host.c and the one in
+# README.md), the installation; and builds the driver. The last line is 'N passed, M failed'.
 
 cd "$(dirname "$0")/.." || exit 1
 work=$(mktemp -d) || exit 1
@@ -41,6 +41,18 @@ installed() {
         LD_LIBRARY_PATH="$work/prefix/lib" example "$work/installed"
 }
 
+# block INFO: the first fenced block of README.md that opens with this word.
+block() {
+    awk -v open="\`\`\`$1" '$0 == open { on = 1; next } on && /^```$/ { exit } on' README.md
+}
+
+# The host in README.md must compile, find each answer that it expects, and print the text below it.
+readme() {
+    block c >"$work/readme.c" && block text >"$work/readme.out" && [ -s "$work/readme.out" ] &&
+        gcc -std=c99 $warnings "$work/readme.c" build/libcg.a -o "$work/readme" &&
+        "$work/readme" >"$work/printed" && diff "$work/readme.out" "$work/printed"
+}
+
 try "make lib" make lib
 try "libcg.so exports the five functions and nothing else" exports
 
@@ -51,6 +63,7 @@ try "host.c with g++" g++ $warnings -x c++ examples/host.c -x none build/libcg.a
     try "host.c with g++, run" example "$work/cpp"
 try "host.c under valgrind" example valgrind --quiet --error-exitcode=1 --leak-check=full "$work/c"
 try "host.c with what is installed" installed
+try "the host in README.md" readme
 
 cd tests/driver && try "the driver's build" cargo build --release --offline --quiet &&
     try "the driver under valgrind" valgrind --quiet --error-exitcode=1 target/release/driver seed 1

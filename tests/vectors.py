@@ -1,5 +1,5 @@
 #!/usr/bin/env python3
-"""vectors.py: writes crates/vectors/stdin and stdout. The answers are computed here, from document 01 alone.
+"""vectors.py: writes crates/vectors/stdin and stdout. The answers are computed here, from the rules (docs/RULES.md) alone.
 
 The lines: each form once, the boundary vectors, and every single-byte deletion of a good line of each form."""
 import os

@@ -30,7 +30,7 @@ pub record Result : Type 0 where
 abbrev pub hits : Op → Node → Bool
 hits o n = contains (n .key) (o .targets)
 
--- "At each target it acts and strikes that key": the node and the operation after the act (document 000: MAP, FOLD)
+-- "At each target it acts and strikes that key": the node and the operation after the act (CG Calculus: MAP, FOLD)
 abbrev pub actOn : Op → Node → Node
 actOn o n = record { key = n .key; value = newValue (o .act) (n .value); links = newLinks (o .act) (n .links) }
 
@@ -48,7 +48,7 @@ visitOp o n = cond (hits o n) (actBy o n) o
 abbrev pub nothingLeft : Op → Bool
 nothingLeft o = isNil (o .targets)
 
--- "has no targets left, or, at the last station, doesn't target this node" (document 000: COMPLETE, LAST)
+-- "has no targets left, or, at the last station, doesn't target this node" (CG Calculus: COMPLETE, LAST)
 abbrev pub mayFinish : Op → Node → Bool → Bool
 mayFinish o n last = nothingLeft o || (last && not (hits o n))
 

@@ -1,4 +1,4 @@
--- The work steps: document 01, section 'Work steps'.
+-- The work steps: document 01, section 'Work steps'. In brackets: the rules of the published CG Calculus, arXiv 1911.10982.
 -- Assumes nothing.
 use Prim.Native.Nat.{ℕ, zero, suc}
 use mathlib.Core.Bool.{Bool, cond, _&&_, _||_}
@@ -63,7 +63,7 @@ abbrev pub onHead : (List Op → List (List Op) → Answer Change) → List (Lis
 onHead f [] = refused 21
 onHead f (u ∷ us) = f u us
 
--- REALISE (document 000: MAP, FOLD): "in the head unit, the first operation that targets this node acts and strikes the
+-- REALISE (MAP, FOLD): "in the head unit, the first operation that targets this node acts and strikes the
 -- key. Allowed where there is one."
 abbrev pub afterRealise : Node → List (List Op) → List Station → FirstOp → Change
 afterRealise n us ss f = only (station (actOn (f .op) n) ((f .before ++ (actBy (f .op) n ∷ f .after)) ∷ us) ∷ ss)

@@ -131,7 +131,7 @@ stepForm Drain x y z = drain
 abbrev pub stepOf : StepLine → StepForm
 stepOf r = stepForm (r .kind) (r .at) (r .unit) (r .after)
 
--- the step's place in document 01's list of kinds, which is the tally's order; drain, which has no count, is the ninth
+-- the step's place in the rules' list of kinds, which is the tally's order; drain, which has no count, is the ninth
 abbrev pub stepNumber : StepForm → ℕ
 stepNumber (work s) = tallyPlace s
 stepNumber drain = 8

@@ -1,4 +1,4 @@
--- The forms of call, step and claim lines, with any numbers and any targets, and their texts as document 01 prints them.
+-- The forms of call, step and claim lines, with any numbers and any targets, and their texts (docs/RULES.md).
 -- Assumes nothing.
 use Prim.Native.Nat.{ℕ}
 use Prim.Native.String.{String}

@@ -1,4 +1,4 @@
--- The listing: how it grows by a line, and document 01's own listing, computed.
+-- The listing: how it grows by a line, and the listing that document 01 prints, computed.
 -- Assumes nothing.
 use Prim.Native.Nat.{ℕ}
 use mathlib.Core.Path.{_≡_, refl}

@@ -1,4 +1,4 @@
--- What is written, as document 01 prints it: result lines, node lines, the listing, and cgrun's refusals.
+-- What is written (docs/RULES.md): result lines, node lines, the listing, and cgrun's refusals.
 -- Assumes nothing.
 use Prim.Native.Nat.{ℕ, zero, suc}
 use mathlib.Core.List.{List, [], _∷_, _++_}

@@ -1,7 +1,7 @@
 //! The second implementation of the deferred body graph.
 //!
-//! Written from document 01, with the design's decided points where document 01
-//! leaves a choice and its layout tables for the image, it shares no code with the
+//! Written from the rules (docs/RULES.md), with the decided points of docs/DECISIONS.md
+//! where they leave a choice and the tables of docs/IMAGE.md, it shares no code with the
 //! product: sessions here are nested lists, with no image underneath. The product is
 //! compared with it, answer by answer and byte by byte.
 

@@ -1,7 +1,7 @@
 //! One-at-a-time processing: what calls mean, without streams, steps or sessions.
 //!
 //! It shares no code with the steps, so that the two can be compared: the numbers
-//! here are wide and are brought back by a remainder, as document 01 words it.
+//! here are wide and are brought back by a remainder, as the rules word it.
 
 use crate::line::{Call, LIST};
 use crate::session::{Act, Node, Outcome};

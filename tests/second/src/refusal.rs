@@ -1,6 +1,6 @@
 //! Who can be turned down, and why.
 
-/// A refusal, with document 01's number as its discriminant.
+/// A refusal, with its number in the rules (docs/RULES.md) as its discriminant.
 #[derive(Clone, Copy, Debug, PartialEq, Eq)]
 pub enum Refusal {
     /// An image of another length.

@@ -1,4 +1,4 @@
-//! Every case of document 01's section 'Cases', and its traps.
+//! The cases that each implementation of the rules (docs/RULES.md) is to meet, and the traps.
 
 mod common;
 

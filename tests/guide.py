@@ -1,0 +1,116 @@
+#!/usr/bin/env python3
+"""guide.py: what a reader of the promises has to believe, computed from the `use` lines.
+
+The closure holds the ROOTS, each of the repository's own definition files that a file of it uses,
+and each source file that declares a type which they use (of such a file the declarations only).
+
+    tests/guide.py           prints it, each file after those that it uses, with its lines
+    tests/guide.py --check   compares it with the reading guide in docs/PROMISES.md; the last line
+                             is 'N passed, M failed'
+"""
+import re
+import sys
+from pathlib import Path
+
+TOP = Path(__file__).resolve().parent.parent
+ROOTS = ["runs/specs/Demand.antt", "host/specs/Entries.antt", "program/specs/Transcript.antt"]
+PAGE, HEADING = "docs/PROMISES.md", "## Reading guide"
+USE = re.compile(r"^\s*(?:pub )?use Rattle·(\w+)(?:·specs)?\.specs\.(\w+)(?:\.(\w+)\.(\w+))?", re.M)
+OWN = re.compile(r"^\s*(?:pub )?use Rattle·.*$", re.M)
+
+
+def text(path):
+    file = TOP / "crates" / path
+    if not file.exists():
+        raise SystemExit(f"crates/{path} is used and does not exist")
+    return file.read_text()
+
+
+def declared(path, name):
+    """The lines of a type's declaration in a source file."""
+    body = re.search(rf"^pub (?:struct|enum) {name} {{.*?^}}", text(path), re.M | re.S)
+    if not body:
+        raise SystemExit(f"{path}: no declaration of {name}")
+    return body.group().splitlines()
+
+
+def types_used(path, name):
+    """The types that a declaration holds, with the source files that declare them."""
+    crate, source = path.split("/")[0], text(path)
+    for other in re.findall(r"\b[A-Z]\w*\b", "\n".join(line.split("//")[0] for line in declared(path, name)[1:])):
+        brought = re.search(rf"^use (\w+)::(\w+)::{other};", source, re.M)
+        if brought:
+            yield f"{crate if brought[1] == 'crate' else brought[1]}/src/{brought[2]}.rt", other
+        elif re.search(rf"^pub (?:struct|enum) {other} {{", source, re.M):
+            yield path, other
+
+
+def used(path):
+    """What a definition file uses of the repository: pairs of a file and the type it declares, if any."""
+    source = text(path)
+    found = list(USE.finditer(source))
+    if len(found) != len(OWN.findall(source)):
+        raise SystemExit(f"{path}: a `use` line that is not understood")
+    for crate, module, file, name in (use.groups() for use in found):
+        yield (f"{crate}/src/{file}.rt", name) if module == "declared" else (f"{crate}/specs/{module}.antt", None)
+
+
+def closure():
+    """Each file, after those that it uses: its uses, and the types that are read of it."""
+    uses, types = {}, {}
+
+    def visit(path, name):
+        if name:
+            if name in types.setdefault(path, []):
+                return
+            types[path].append(name)
+        elif path in uses:
+            return
+        below = list(types_used(path, name) if name else used(path))
+        for file, other in below:
+            visit(file, other)
+        uses.setdefault(path, set()).update({file for file, _ in below} - {path})
+
+    for root in ROOTS:
+        visit(root, None)
+    return uses, types
+
+
+def lines(path, types):
+    return sum(len(declared(path, name)) for name in types[path]) if path in types else len(text(path).splitlines())
+
+
+def check(uses):
+    """What is wrong with the guide: four tests, each with its findings."""
+    page = (TOP / PAGE).read_text()
+    section = page.split(HEADING + "\n", 1)[1].split("\n## ", 1)[0] if HEADING in page else ""
+    named = re.findall(r"`(\w+/(?:specs|src)/\w+\.(?:antt|rt))`", section)
+    place = {path: i for i, path in reversed(list(enumerate(named)))}
+    yield "a file of the closure is missing", sorted(set(uses) - set(named))
+    yield "a file is named that is not of the closure", sorted(set(named) - set(uses))
+    yield "a file is named twice", sorted({path for path in named if named.count(path) > 1})
+    yield "a file stands before one that it uses", [
+        f"{path} before {below}"
+        for path in named
+        for below in sorted(uses.get(path, ()))
+        if place.get(below, -1) > place[path]
+    ]
+
+
+def main():
+    uses, types = closure()
+    if sys.argv[1:] == ["--check"]:
+        failed = 0
+        for said, findings in check(uses):
+            failed += bool(findings)
+            for finding in findings:
+                print(f"FAILED: {PAGE}, reading guide: {said}: {finding}")
+        print(f"{4 - failed} passed, {failed} failed")
+        return failed != 0
+    for path in uses:
+        print(f"{lines(path, types):4} {path}" + (f" ({', '.join(types[path])})" if path in types else ""))
+    print(f"{sum(lines(path, types) for path in uses):4} lines in {len(uses)} files")
+
+
+if __name__ == "__main__":
+    sys.exit(main())
