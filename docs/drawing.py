@@ -5,8 +5,10 @@ def text(x, y, words, size=13, weight="normal", anchor="middle", colour="#222"):
     return f'<text x="{x}" y="{y}" font-size="{size}" font-weight="{weight}" text-anchor="{anchor}" fill="{colour}">{words}</text>'
 
 
-def box(x, y, width, height, fill, edge, radius=6):
-    return f'<rect x="{x}" y="{y}" width="{width}" height="{height}" rx="{radius}" fill="{fill}" stroke="{edge}"/>'
+def box(x, y, width, height, fill, edge, radius=6, changed=False):
+    """What a step changes has a red edge."""
+    stroke = '#c62828" stroke-width="2' if changed else edge
+    return f'<rect x="{x}" y="{y}" width="{width}" height="{height}" rx="{radius}" fill="{fill}" stroke="{stroke}"/>'
 
 
 def arrow(x1, y1, x2, y2):

@@ -27,7 +27,7 @@ PICTURES = [
     ("drain", TWO + ["call=map a=3 b=4 to=1,2", "step=admit", "step=realise at=2", "call=sum start=10 to=1,2,9"], "step=drain"),
 ]
 
-COLUMN, TOP, OP, GAP, RED = 132, 76, 46, 44, "#c62828"
+COLUMN, TOP, OP, GAP = 132, 76, 46, 44
 
 
 def keys(numbers):
@@ -56,24 +56,20 @@ def same(column, others):
     return next((c for c in others if (c[1][0] if c[1] else c[0]) == name), ("", None, []))
 
 
-def edge(changed, colour):
-    return (RED if changed else colour) + ('" stroke-width="2' if changed else "")
-
-
 def column_of(x, height, column, other):
     title, node, units = column
     drawn = [box(x + 4, TOP, COLUMN - 8, height, "#fafafa", "#ccc", 10), text(x + COLUMN / 2, TOP - 8, title, 12, "bold")]
     y, left = TOP + 10, x + (22 if node else 16)
     middle = left + (COLUMN - 32) / 2
     if node:
-        drawn.append(box(left, y, COLUMN - 32, 56, "#fff1d6", edge(node != other[1], "#b8860b"), 28))
+        drawn.append(box(left, y, COLUMN - 32, 56, "#fff1d6", "#b8860b", 28, node != other[1]))
         drawn += [text(middle, y + 17 + 15 * i, words, 12 - (i > 0), "normal" if i else "bold") for i, words in enumerate(node)]
         y += 68
     moved = sorted(units) == sorted(other[2])
     fill = {"top stream": "#e8e8e8", "results": "#dff3df"}.get(title, "#dcebff")
     for number, unit in enumerate(units, 1):
         changed = unit != (other[2] + [None] * number)[number - 1] if moved else unit not in other[2]
-        drawn.append(box(left, y, COLUMN - 32, OP * len(unit), fill, edge(changed, "#777")))
+        drawn.append(box(left, y, COLUMN - 32, OP * len(unit), fill, "#777", changed=changed))
         if node:
             drawn.append(text(x + 14, y + 27, number, 11, colour="#555"))
         for place, lines in enumerate(unit):
