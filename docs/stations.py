@@ -4,6 +4,10 @@
     python3 docs/stations.py >docs/stations.svg
 """
 
+import sys
+
+from drawing import arrow, box, picture, text
+
 WIDTH, HEIGHT = 980, 400
 COLUMN, TOP, UNIT_HEIGHT = 196, 66, 44
 
@@ -15,18 +19,6 @@ STATIONS = [
     ("node 1", "value 5", "links –", []),
 ]
 RESULTS = ["label 1: 1", "label 2: 2", "label 3: 3"]
-
-
-def text(x, y, words, size=13, weight="normal", anchor="middle", colour="#222"):
-    return f'<text x="{x}" y="{y}" font-size="{size}" font-weight="{weight}" text-anchor="{anchor}" fill="{colour}">{words}</text>'
-
-
-def box(x, y, width, height, fill, edge, radius=6):
-    return f'<rect x="{x}" y="{y}" width="{width}" height="{height}" rx="{radius}" fill="{fill}" stroke="{edge}"/>'
-
-
-def arrow(x1, y1, x2, y2):
-    return f'<line x1="{x1}" y1="{y1}" x2="{x2}" y2="{y2}" stroke="#555" stroke-width="1.5" marker-end="url(#head)"/>'
 
 
 def unit(x, y, lines, fill):
@@ -64,7 +56,7 @@ def station(index, node, place):
     return drawn + streamlet(index, units, TOP + 74, "#dcebff")
 
 
-def picture():
+def scene():
     drawn = column(0, "top stream", "accepted calls wait")
     drawn += streamlet(0, WAITING, TOP - 16, "#e8e8e8")
     for place, node in enumerate(STATIONS, 1):
@@ -81,8 +73,4 @@ def picture():
     return drawn
 
 
-print(f'<svg xmlns="http://www.w3.org/2000/svg" viewBox="0 0 {WIDTH} {HEIGHT}" font-family="sans-serif">')
-print('<defs><marker id="head" markerWidth="9" markerHeight="7" refX="8" refY="3.5" orient="auto"><path d="M0,0 L9,3.5 L0,7 z" fill="#555"/></marker></defs>')
-print(f'<rect width="{WIDTH}" height="{HEIGHT}" fill="white"/>')
-print("\n".join(picture()))
-print("</svg>")
+sys.stdout.write(picture(WIDTH, HEIGHT, scene()))

@@ -1,0 +1,117 @@
+#!/usr/bin/env python3
+"""Checks docs/RULES.md and its pictures against a program that behaves like cgrun.
+
+    python3 docs/check_rules.py PROGRAM [LIBRARY]
+
+- a block of `lines` and the block `printed` that follows it: the input and the whole output;
+- a table under <!-- rows: BEFORE >> AFTER -->: the first cell of a row is a line, which is sent after the lines
+  BEFORE and followed by the lines AFTER; the code in its other cells is what is printed, `refused=N` for its own line;
+- a table under <!-- names -->: the file in crates/ and the names that it defines;
+- the program in C: it compiles, and with LIBRARY (build/libcg.a) prints the block that follows it;
+- docs/steps/*.svg: they are what docs/steps.py draws, and the model agrees with PROGRAM before and after each step.
+
+The last line is 'N passed, M failed'.
+"""
+
+import pathlib
+import re
+import subprocess
+import sys
+import tempfile
+
+import steps
+from model import Session
+
+ROOT = pathlib.Path(__file__).resolve().parent.parent
+PAGE = (ROOT / "docs/RULES.md").read_text()
+program, library = sys.argv[1], sys.argv[2:3]
+counts = {True: 0, False: 0}
+
+
+def tell(passed, what):
+    counts[bool(passed)] += 1
+    if not passed:
+        print(f"FAILED: {what}")
+
+
+def run(lines):
+    return subprocess.run([program], input="\n".join(lines).encode(), stdout=subprocess.PIPE, check=True).stdout.decode()
+
+
+def blocks():
+    found = re.findall(r"^```(\w+)\n(.*?)^```$", PAGE, re.M | re.S)
+    for (kind, body), (next_kind, printed) in zip(found, found[1:] + [("", "")]):
+        if kind == "lines":
+            tell(next_kind == "printed" and run(body.splitlines()) == printed, f"the lines\n{body}")
+        elif kind == "c":
+            tell(c_prints(body) in (None, printed), "the program in C")
+
+
+def c_prints(source):
+    """What it prints; None where there is no library to link."""
+    with tempfile.TemporaryDirectory() as folder:
+        flags = ["-std=c99", "-Wall", "-Wextra", "-Wpedantic", "-Werror", f"-I{ROOT}/include"]
+        pathlib.Path(folder, "page.c").write_text(source)
+        end = [*library, "-o", f"{folder}/page"] if library else ["-fsyntax-only"]
+        if subprocess.run(["gcc", *flags, f"{folder}/page.c", *end]).returncode:
+            return "it does not compile"
+        return subprocess.run([f"{folder}/page"], stdout=subprocess.PIPE).stdout.decode() if library else None
+
+
+def tables(mark):
+    """The rows of each table under a comment, as the code in their cells."""
+    for argument, table in re.findall(rf"^<!-- {mark}(.*?) -->\n\n?((?:\|.*\n)+)", PAGE, re.M):
+        for row in table.splitlines()[2:]:
+            yield argument, [re.findall(r"`([^`]*)`", cell) for cell in row.strip("|").split("|")]
+
+
+def rows():
+    for argument, cells in tables("rows:"):
+        before, after = [[line for line in part.strip().split("; ") if line] for part in argument.split(">>")]
+        (line,), spans = cells[0], sum(cells[1:], [])
+        printed = run(before + [line] + after).splitlines()
+        own = f"line={len(before) + 1} "
+        right = spans and all(span in printed or own + span in printed for span in spans)
+        refused = [words for words in printed if " refused=" in words]
+        tell(right and len(refused) == sum(span.startswith("refused=") for span in spans), f"the row of {line}: {printed}")
+
+
+def names():
+    for _, cells in tables("names"):
+        (path,), defined = cells[1], cells[2]
+        text = (ROOT / "crates" / path).read_text()
+        for name in defined:
+            tell(re.search(rf"^ *(\w+ )?pub (\w+ )?{name}\b", text, re.M), f"{path} defines {name}")
+
+
+def probes(session):
+    yield from ["step=admit", "step=drain"]
+    for key in range(1, len(session.stations) + 2):
+        yield from (f"step={word} at={key}" for word in ("realise", "move", "finish"))
+        for unit in range(5):
+            yield from (f"step={word} at={key} unit={unit}" for word in ("join", "swap", "fuse"))
+            yield from (f"step=split at={key} unit={unit} after={after}" for after in range(4))
+
+
+def agree(lines):
+    """The model and the program, on a session, on every step from it, and on the end of each."""
+    scripts = [lines + [probe] for probe in probes(Session(lines))]
+    refused = [script[-1] for script in scripts if "refused" in Session(script).printed]
+    scripts = [script for script in scripts if script[-1] not in refused]
+    scripts = [lines, lines + refused, *scripts, *(script + ["step=drain"] for script in scripts)]
+    return all(run(script) == Session(script).transcript() for script in scripts)
+
+
+def pictures():
+    for name, lines, step in steps.PICTURES:
+        tell((ROOT / f"docs/steps/{name}.svg").read_text() == steps.draw(lines, step), f"docs/steps/{name}.svg is not what docs/steps.py draws")
+        tell(f"](steps/{name}.svg)" in PAGE, f"the page has no picture {name}")
+        tell(agree(lines) and agree(lines + [step]), f"the picture {name} is not what {program} does")
+
+
+blocks()
+rows()
+names()
+pictures()
+print(f"{counts[True]} passed, {counts[False]} failed")
+sys.exit(1 if counts[False] else 0)
