@@ -2,7 +2,7 @@
 use crate::lent::image_refusal;
 use lines::step::StepKind;
 use lines::step::StepLine;
-use lines::step::read_step;
+use lines::step::parse_step;
 use lines::step::step_number;
 use panel::answer::Answer;
 use panel::answer::number;
@@ -11,6 +11,7 @@ use session::drain::Counts;
 use session::drain::drain;
 use session::steps::WorkStep;
 use session::steps::take;
+use text::cut::part_to;
 ghost use mathlib.Core.Path.{_≡_};
 ghost use Prim.Native.Nat.{_<_};
 ghost use Rattle.lines.specs.Forms.{work};
@@ -74,7 +75,7 @@ pub fn step_by(image: &mut [u8], frame: &[u8], at: usize, t: Tally) -> AnswerWit
     if refusal != 0 {
         return refused(refusal, t);
     }
-    let s = read_step(frame, at);
+    let s = parse_step(part_to(frame, at, b'\n'));
     if s.refusal != 0 {
         return refused(s.refusal as u32, t);
     }

@@ -5,7 +5,7 @@ use Prim.Native.Nat.{ℕ}
 use mathlib.Core.List.{List}
 use mir.Syntax.{w64}
 use mir.Val.{toZ, ofZ}
-use Rattle.lines.specs.Answers.{stepNumber}
+use Rattle.lines.specs.Answers.{lineAt, StepRead, stepNumber}
 use Rattle.lines.specs.declared.step.StepKind.the-variants.{Drain}
 use Rattle.panel.specs.Tally.{raised}
 use Rattle.host.proofs.Entering.{entered-as, tested-refused, tested-session, session-live}
@@ -13,6 +13,10 @@ use Rattle.host.proofs.Stepping.{line-refused, line-read, kind-is, line
 use borrow.Author.Needs.{needs}
 use Rattle.host.proofs.step.step_by.Statement.{statement}
 use Rattle.host.proofs.step.step_by.Tie as tie
+
+-- the part that was parsed is the line at the place
+read-at : (c : tie.After-parse-step) → StepRead (lineAt (c .before .before .before .before .before .before .before .args .frame .now) (c .before .before .before .before .before .before .before .args .at)) (c .parse-step .result)
+read-at c = rw (c .before .part-to .ensures) at (c .parse-step .ensures)
 
 image-refusal-requires : tie.Need-image-refusal-requires
 image-refusal-requires c κs = search needs
@@ -28,8 +32,11 @@ returns c =
     let after : List ℕ = _ in
     entered-as (λ i. record { answer = c .refused .ensures .0 i; image = after; tally = c .refused .ensures .1 i }) (tested-refused (c .before .before .image-refusal .ensures) (c .before .if1 .taken))
 
-read-step-requires : tie.Need-read-step-requires
-read-step-requires c κs = search needs
+part-to-requires : tie.Need-part-to-requires
+part-to-requires c κs = search needs
+
+parse-step-requires : tie.Need-parse-step-requires
+parse-step-requires c κs = search needs
 
 cast-refused : tie.Need-cast-refused
 cast-refused c = search needs
@@ -42,15 +49,15 @@ same-length-2 c = search needs
 
 returns-2 : tie.Need-returns-2
 returns-2 c =
-    let h = tested-session (c .before .before .before .before .before .before .image-refusal .ensures) (c .before .before .before .before .before .if1 .left) in
+    let h = tested-session (c .before .before .before .before .before .before .before .image-refusal .ensures) (c .before .before .before .before .before .before .if1 .left) in
     let after : List ℕ = _ in
-    entered-as (λ i. record { answer = c .refused2 .ensures .0 i; image = after; tally = c .refused2 .ensures .1 i }) (line-refused _ _ _ _ h (c .before .before .before .before .read-step .ensures) (c .before .before .if2 .taken))
+    entered-as (λ i. record { answer = c .refused2 .ensures .0 i; image = after; tally = c .refused2 .ensures .1 i }) (line-refused _ _ _ _ h (read-at (c .before .before .before .before)) (c .before .before .if2 .taken))
 
 step-number-requires : tie.Need-step-number-requires
 step-number-requires c κs = search needs
 
 drain-requires : tie.Need-drain-requires
-drain-requires c κs = session-live (tested-session (c .before .before .before .before .before .before .before .image-refusal .ensures) (c .before .before .before .before .before .before .if1 .left))
+drain-requires c κs = session-live (tested-session (c .before .before .before .before .before .before .before .before .image-refusal .ensures) (c .before .before .before .before .before .before .before .if1 .left))
 
 number-requires : tie.Need-number-requires
 number-requires c κs = search needs
@@ -63,18 +70,18 @@ same-length-3 c = search needs
 
 returns-3 : tie.Need-returns-3
 returns-3 c =
-    let h = tested-session (c .before .before .before .before .before .before .before .before .before .before .before .before .image-refusal .ensures) (c .before .before .before .before .before .before .before .before .before .before .before .if1 .left) in
-    let r = line-read _ _ (c .before .before .before .before .before .before .before .before .before .before .read-step .ensures) (c .before .before .before .before .before .before .before .before .if2 .left) in
+    let h = tested-session (c .before .before .before .before .before .before .before .before .before .before .before .before .before .image-refusal .ensures) (c .before .before .before .before .before .before .before .before .before .before .before .before .if1 .left) in
+    let r = line-read _ _ (read-at (c .before .before .before .before .before .before .before .before .before .before)) (c .before .before .before .before .before .before .before .before .if2 .left) in
     let same : toZ w64 (ofZ w64 (c .before .number .result)) ≡ c .before .number .result = search needs in
     line-drained _ _ _ _ _ h r _ _ _ (sym (c .before .before .before .before .before .before .before .step-number .ensures) ∙ c .before .before .before .before .before .before .if3 .taken) (c .before .before .before .before .drain .ensures) (same ∙ c .before .number .ensures) (c .drained .ensures)
 
 work-of-requires : tie.Need-work-of-requires
 work-of-requires c κs =
-    let r = line-read _ _ (c .before .before .before .before .before .read-step .ensures) (c .before .before .before .if2 .left) in
-    (r .small, λ e. c .before .if3 .left (c .before .before .step-number .ensures ∙ ap stepNumber (kind-is (c .before .before .before .before .before .read-step .result) Drain e)))
+    let r = line-read _ _ (read-at (c .before .before .before .before .before)) (c .before .before .before .if2 .left) in
+    (r .small, λ e. c .before .if3 .left (c .before .before .step-number .ensures ∙ ap stepNumber (kind-is (c .before .before .before .before .before .parse-step .result) Drain e)))
 
 take-requires : tie.Need-take-requires
-take-requires c κs = session-live (tested-session (c .before .before .before .before .before .before .before .before .image-refusal .ensures) (c .before .before .before .before .before .before .before .if1 .left))
+take-requires c κs = session-live (tested-session (c .before .before .before .before .before .before .before .before .before .image-refusal .ensures) (c .before .before .before .before .before .before .before .before .if1 .left))
 
 refused-requires-3 : tie.Need-refused-requires-3
 refused-requires-3 c κs = search needs
@@ -84,8 +91,8 @@ same-length-4 c = search needs
 
 returns-4 : tie.Need-returns-4
 returns-4 c =
-    let h = tested-session (c .before .before .before .before .before .before .before .before .before .before .before .before .before .image-refusal .ensures) (c .before .before .before .before .before .before .before .before .before .before .before .before .if1 .left) in
-    let r = line-read _ _ (c .before .before .before .before .before .before .before .before .before .before .before .read-step .ensures) (c .before .before .before .before .before .before .before .before .before .if2 .left) in
+    let h = tested-session (c .before .before .before .before .before .before .before .before .before .before .before .before .before .before .image-refusal .ensures) (c .before .before .before .before .before .before .before .before .before .before .before .before .before .if1 .left) in
+    let r = line-read _ _ (read-at (c .before .before .before .before .before .before .before .before .before .before .before)) (c .before .before .before .before .before .before .before .before .before .if2 .left) in
     line-not-taken _ _ _ _ _ h r _ _ (c .before .before .before .before .before .work-of .ensures) (c .before .before .before .before .take .ensures .0) (c .before .if4 .taken) (c .refused3 .ensures .0) (c .refused3 .ensures .1)
 
 number-requires-2 : tie.Need-number-requires-2
@@ -99,11 +106,11 @@ same-length-5 c = search needs
 
 returns-5 : tie.Need-returns-5
 returns-5 c =
-    let h = tested-session (c .before .before .before .before .before .before .before .before .before .before .before .before .before .before .image-refusal .ensures) (c .before .before .before .before .before .before .before .before .before .before .before .before .before .if1 .left) in
-    let r = line-read _ _ (c .before .before .before .before .before .before .before .before .before .before .before .before .read-step .ensures) (c .before .before .before .before .before .before .before .before .before .before .if2 .left) in
+    let h = tested-session (c .before .before .before .before .before .before .before .before .before .before .before .before .before .before .before .image-refusal .ensures) (c .before .before .before .before .before .before .before .before .before .before .before .before .before .before .if1 .left) in
+    let r = line-read _ _ (read-at (c .before .before .before .before .before .before .before .before .before .before .before .before)) (c .before .before .before .before .before .before .before .before .before .before .if2 .left) in
     let same : toZ w64 (ofZ w64 (c .before .number2 .result)) ≡ c .before .number2 .result = search needs in
     line-taken _ _ _ _ _ h r _ _ (c .before .before .before .before .before .before .work-of .ensures) (c .before .before .before .before .before .take .ensures .0) (c .before .before .if4 .left) (same ∙ c .before .number2 .ensures)
-    (c .raised .ensures ∙ ap (λ (k : ℕ). raised (c .before .before .before .before .before .before .before .before .before .before .before .before .before .before .before .before .before .before .args .t) k 1) (c .before .before .before .before .before .before .before .before .before .step-number .ensures))
+    (c .raised .ensures ∙ ap (λ (k : ℕ). raised (c .before .before .before .before .before .before .before .before .before .before .before .before .before .before .before .before .before .before .before .args .t) k 1) (c .before .before .before .before .before .before .before .before .before .step-number .ensures))
 
 pub step-by-spec : {M : Type 1} → statement M
 step-by-spec =
@@ -113,7 +120,8 @@ step-by-spec =
     refused-requires
     same-length
     returns
-    read-step-requires
+    part-to-requires
+    parse-step-requires
     cast-refused
     refused-requires-2
     same-length-2
