@@ -2,7 +2,7 @@
 use crate::lent::image_refusal;
 use lines::step::StepKind;
 use lines::step::StepLine;
-use lines::step::read_step;
+use lines::step::parse_step;
 use lines::step::step_number;
 use panel::answer::Answer;
 use panel::answer::number;
@@ -12,6 +12,7 @@ use session::drain::Counts;
 use session::drain::drain;
 use session::steps::WorkStep;
 use session::steps::take;
+use text::cut::part_to;
 ghost use mathlib.Core.Path.{_≡_};
 ghost use mathlib.Core.List.{List};
 ghost use Prim.Native.Nat.{_<_};
@@ -82,14 +83,14 @@ fn took(place: u8, counts: Counts) -> Taken
     }
 }
 
-fn step_by(image: &mut [u8], frame: &[u8], at: usize) -> Taken
-    ensures { λ r. ⌜ Takes (now (image .entry)) (lineAt (now (frame .entry)) at) r (now (image .exit)) ⌝ }
+fn step_by(image: &mut [u8], line: &[u8]) -> Taken
+    ensures { λ r. ⌜ Takes (now (image .entry)) (now (line .entry)) r (now (image .exit)) ⌝ }
 {
     let refusal = image_refusal(image);
     if refusal != 0 {
         return refused(refusal);
     }
-    let s = read_step(frame, at);
+    let s = parse_step(line);
     if s.refusal != 0 {
         return refused(s.refusal as u32);
     }
@@ -102,6 +103,12 @@ fn step_by(image: &mut [u8], frame: &[u8], at: usize) -> Taken
         return refused(n);
     }
     took(place, no_counts())
+}
+
+fn step_at(image: &mut [u8], frame: &[u8], at: usize) -> Taken
+    ensures { λ r. ⌜ Takes (now (image .entry)) (lineAt (now (frame .entry)) at) r (now (image .exit)) ⌝ }
+{
+    step_by(image, part_to(frame, at, b'\n'))
 }
 
 // The tally with the steps that a drain took.
@@ -119,7 +126,7 @@ fn drained(t: Tally, c: Counts) -> Tally
 pub extern "C" fn cg_step(image: &mut [u8], frame: &[u8], at: usize, tally: &mut Tally) -> i64
     ensures { λ r. ⌜ Steps (now (image .entry)) (lineAt (now (frame .entry)) at) (now (tally .entry)) (record { answer = r; image = now (image .exit); tally = now (tally .exit) }) ⌝ }
 {
-    let s = step_by(image, frame, at);
+    let s = step_at(image, frame, at);
     if s.place < 8 {
         raise(tally, s.place);
     } else if s.place == 8 {

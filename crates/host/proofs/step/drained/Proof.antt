@@ -8,6 +8,9 @@ use borrow.Author.Needs.{needs}
 use Rattle.host.proofs.step.drained.Statement.{statement}
 use Rattle.host.proofs.step.drained.Tie as tie
 
+in-bits : (c : tie.Start) → Fits (c .args .t)
+in-bits c = fits _ (search needs) (search needs) (search needs) (search needs) (search needs) (search needs) (search needs) (search needs)
+
 raised-requires : tie.Need-raised-requires
 raised-requires c κs = search needs
 
@@ -24,11 +27,10 @@ returns : tie.Need-returns
 returns c ts d =
     let t : Tally = c .before .before .before .before .args .t in
     let n = c .before .before .before .before .args .c in
-    let in-bits : Fits t = fits t (search needs) (search needs) (search needs) (search needs) (search needs) (search needs) (search needs) (search needs) in
     c .raised4 .ensures
     ∙ ap (λ (u : Tally). raised u 3 (n .finish)) (c .before .raised3 .ensures ∙ ap (λ (u : Tally). raised u 2 (n .moved)) (c .before .before .raised2 .ensures ∙ ap (λ (u : Tally). raised u 1 (n .realise)) (c .before .before .before .raised .ensures)))
     ∙ (λ i. raised (raised (raised (raised t 0 (d .counts .admits i)) 1 (d .counts .realises i)) 2 (d .counts .moves i)) 3 (d .counts .finishes i))
-    ∙ counted-at-once t ts in-bits (d .works)
+    ∙ counted-at-once t ts (in-bits (c .before .before .before .before)) (d .works)
 
 pub drained-spec : {M : Type 1} → statement M
 drained-spec =
