@@ -150,8 +150,11 @@ module _ (image after line : List ℕ) (c : StepLine) (h : ImageOf image (sessio
       let is : stepOf c ≡ drains = drain-form (stepOf c) p in
       record {
         one = λ l. absurd (omega arith);
-        drain = λ _. ((drain s) .took, record { counts = subst (Counted ((drain s) .took)) (sym m) (d .counts); works = drain-works (suc (weightOf s)) s },
-        λ t. served s h drains (subst (IsStep line) is (r .text)) (λ i. record { answer = a i; image = d .image i; tally = counted t ((drain s) .took) }));
+        drain = λ _. (
+          (drain s) .took,
+          record { counts = subst (Counted ((drain s) .took)) (sym m) (d .counts); works = drain-works (suc (weightOf s)) s },
+          λ t. served s h drains (subst (IsStep line) is (r .text)) (λ i. record { answer = a i; image = d .image i; tally = counted t ((drain s) .took) }),
+        );
         none = λ l. absurd (omega arith);
       }
 
