@@ -6,7 +6,6 @@ use native.Mathlib.Omega.{arith}
 use mathlib.Core.Bool.{Bool, true, false, not, cond, true≢false}
 use mathlib.Core.List.{List, [], _∷_}
 use lib.Dec.{leb}
-use lib.IntN.{ℤ}
 use lib.ListN.{length}
 use borrow.Author.Tests.{leb-true}
 use Rattle.graph.specs.KeyLists.{isNil, isKey, areKeys}
@@ -29,12 +28,13 @@ use Rattle.panel.specs.declared.answer.Answer.the-variants.{Done, Refused}
 use Rattle.panel.specs.declared.tally.Tally.{Tally}
 use Rattle.panel.specs.Answer.{numberOf}
 use Rattle.panel.specs.Tally.{raised, counted}
-use Rattle.panel.proofs.TallyLaws.{counted-at-once}
 use Rattle.valid.specs.Values.{sessionOf}
 use Rattle.live.specs.Live.{imageAfter, Serves}
 use Rattle.session.specs.declared.drain.Counts.{Counts}
-use Rattle.session.specs.Drained.{Drains}
+use Rattle.session.specs.Drained.{Counted, Drains}
+use Rattle.host.specs.declared.step.Taken.{Taken}
 use Rattle.host.specs.Entries.{ImageOf, served, stepRefused, stepServed, stepMade, Steps}
+use Rattle.host.specs.Taking.{Takes}
 use Rattle.host.proofs.Entering.{unless-refused}
 use Rattle.host.proofs.Reading.{Reader, refused-in-reading, read-whole}
 
@@ -131,16 +131,32 @@ drain-form : (f : StepForm) → stepNumber f ≡ 8 → f ≡ drains
 drain-form (work w) e = absurd (omega (arith, place-below w))
 drain-form drains e = refl
 
-module _ (image after line : List ℕ) (t : Tally) (c : StepLine) (h : ImageOf image (sessionOf image)) (r : Read line c) where
-  pub line-drained : (n : Counts) (z : ℤ) (u : Tally) → stepNumber (stepOf c) ≡ 8 → Drains image after n → z ≡ numberOf (Done 0)
-      → u ≡ raised (raised (raised (raised t 0 (n .admit)) 1 (n .realise)) 2 (n .moved)) 3 (n .finish) → Steps image line t (record { answer = z; image = after; tally = u })
-  line-drained n z u p d a q =
+-- what a line took, by its place: none, one step, or a drain's
+pub takes-none : {image line after : List ℕ} (r : Taken) → r .place ≡ 9 → ((t : Tally) → Steps image line t (record { answer = r .answer; image = after; tally = t })) → Takes image line r after
+takes-none r p f = record { one = λ l. absurd (omega arith); drain = λ e. absurd (omega arith); none = λ l. f }
+
+pub takes-one : {image line after : List ℕ} (r : Taken) (k : ℕ) → r .place ≡ k → k < 8 → ((t : Tally) → Steps image line t (record { answer = r .answer; image = after; tally = raised t k 1 })) → Takes image line r after
+takes-one {image} {line} {after} r k p b f =
+    record {
+      one = λ l t. subst (λ (m : ℕ). Steps image line t (record { answer = r .answer; image = after; tally = raised t m 1 })) (sym p) (f t);
+      drain = λ e. absurd (omega arith);
+      none = λ l. absurd (omega arith);
+    }
+
+module _ (image after line : List ℕ) (c : StepLine) (h : ImageOf image (sessionOf image)) (r : Read line c) where
+  pub line-drained : (n : Counts) (z : Taken) → stepNumber (stepOf c) ≡ 8 → Drains image after n → z .answer ≡ numberOf (Done 0) → z .place ≡ 8 → z .counts ≡ n → Takes image line z after
+  line-drained n z p d a q m =
       let s : Session = sessionOf image in
       let is : stepOf c ≡ drains = drain-form (stepOf c) p in
-      let all : u ≡ counted t ((drain s) .took) =
-      q ∙ (λ i. raised (raised (raised (raised t 0 (d .counts .admits i)) 1 (d .counts .realises i)) 2 (d .counts .moves i)) 3 (d .counts .finishes i))
-      ∙ counted-at-once t ((drain s) .took) (drain-works s) in
-      served s h drains (subst (IsStep line) is (r .text)) (λ i. record { answer = a i; image = d .image i; tally = all i })
+      record {
+        one = λ l. absurd (omega arith);
+        drain = λ _. (
+          (drain s) .took,
+          record { counts = subst (Counted ((drain s) .took)) (sym m) (d .counts); works = drain-works s },
+          λ t. served s h drains (subst (IsStep line) is (r .text)) (λ i. record { answer = a i; image = d .image i; tally = counted t ((drain s) .took) }),
+        );
+        none = λ l. absurd (omega arith);
+      }
 
   module _ (w : Step) (n : ℕ) (is : work w ≡ stepOf c) (s : Serves (step w (sessionOf image)) image after n) where
     text : IsStep line (work w)
@@ -149,22 +165,20 @@ module _ (image after line : List ℕ) (t : Tally) (c : StepLine) (h : ImageOf i
     formed : unless (stepFormTests (work w)) (sessionOf image) ≡ done (sessionOf image)
     formed = ap (λ (b : Bool). cond (not b) (refused 11) (done (sessionOf image))) (ap (λ (f : StepForm). areKeys (stepKeys f)) is ∙ r .fine)
 
-    serve : {z : ℤ} {u : Tally} → record { answer = z; image = after; tally = u } ≡ stepServed image t (w ∷ []) (step w (sessionOf image)) → Steps image line t (record { answer = z; image = after; tally = u })
-    serve e = served (sessionOf image) h (work w) text (e ∙ sym (ap (λ (x : Answer Session). stepServed image t (w ∷ []) (andThen x (step w))) formed))
+    module _ (z : Taken) where
+      serve : (t u : Tally) → record { answer = z .answer; image = after; tally = u } ≡ stepServed image t (w ∷ []) (step w (sessionOf image)) → Steps image line t (record { answer = z .answer; image = after; tally = u })
+      serve t u e = served (sessionOf image) h (work w) text (e ∙ sym (ap (λ (x : Answer Session). stepServed image t (w ∷ []) (andThen x (step w))) formed))
 
-    pub line-not-taken : {z : ℤ} {u : Tally} → (n ≡ 0 → ⊥) → z ≡ numberOf (Refused n) → u ≡ t → Steps image line t (record { answer = z; image = after; tally = u })
-    line-not-taken {z} {u} ne a q = serve (go (step w (sessionOf image)) (s .number) (s .image))
-      where
-        go : (x : Answer Session) → n ≡ codeOf x → after ≡ imageAfter x image → record { answer = z; image = after; tally = u } ≡ stepServed image t (w ∷ []) x
-        go (refused m) e y = λ i. record { answer = (a ∙ ap (λ (k : ℕ). numberOf (Refused k)) e) i; image = y i; tally = q i }
-        go (done v) e y = absurd (ne e)
+      pub line-not-taken : (n ≡ 0 → ⊥) → z .answer ≡ numberOf (Refused n) → z .place ≡ 9 → Takes image line z after
+      line-not-taken ne a p = takes-none z p (λ t. serve t t (go t (step w (sessionOf image)) (s .number) (s .image)))
+        where
+          go : (t : Tally) (x : Answer Session) → n ≡ codeOf x → after ≡ imageAfter x image → record { answer = z .answer; image = after; tally = t } ≡ stepServed image t (w ∷ []) x
+          go t (refused m) e y = λ i. record { answer = (a ∙ ap (λ (k : ℕ). numberOf (Refused k)) e) i; image = y i; tally = t }
+          go t (done v) e y = absurd (ne e)
 
-    pub line-taken : {z : ℤ} {u : Tally} → n ≡ 0 → z ≡ numberOf (Done 0) → u ≡ raised t (stepNumber (stepOf c)) 1 → Steps image line t (record { answer = z; image = after; tally = u })
-    line-taken {z} {u} o a q = serve (go (step w (sessionOf image)) refl (s .number) (s .image))
-      where
-        place : stepNumber (stepOf c) ≡ tallyPlace w
-        place = ap stepNumber (sym is)
-
-        go : (x : Answer Session) → step w (sessionOf image) ≡ x → n ≡ codeOf x → after ≡ imageAfter x image → record { answer = z; image = after; tally = u } ≡ stepServed image t (w ∷ []) x
-        go (refused m) d e y = absurd (omega (arith, step-refused w (sessionOf image) d))
-        go (done v) d e y = λ i. record { answer = a i; image = y i; tally = (q ∙ ap (λ (k : ℕ). raised t k 1) place) i }
+      pub line-taken : n ≡ 0 → z .answer ≡ numberOf (Done 0) → z .place ≡ stepNumber (stepOf c) → Takes image line z after
+      line-taken o a p = takes-one z (tallyPlace w) (p ∙ ap stepNumber (sym is)) (place-below w) (λ t. serve t (raised t (tallyPlace w) 1) (go t (step w (sessionOf image)) refl (s .number) (s .image)))
+        where
+          go : (t : Tally) (x : Answer Session) → step w (sessionOf image) ≡ x → n ≡ codeOf x → after ≡ imageAfter x image → record { answer = z .answer; image = after; tally = raised t (tallyPlace w) 1 } ≡ stepServed image t (w ∷ []) x
+          go t (refused m) d e y = absurd (omega (arith, step-refused w (sessionOf image) d))
+          go t (done v) d e y = λ i. record { answer = a i; image = y i; tally = raised t (tallyPlace w) 1 }

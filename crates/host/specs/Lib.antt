@@ -1,3 +1,4 @@
 pub mod Entries
-pub mod Tests
 pub mod Sequences
+pub mod Tests
+pub mod Taking

@@ -6,12 +6,11 @@ use crate::fields::fields2;
 use crate::fields::value_at;
 use crate::keylist::is_key;
 use graph::keys::Keys;
-use text::cut::part_to;
 ghost use mathlib.Core.Path.{_≡_};
 ghost use Prim.Native.Nat.{_≤_};
 ghost use lib.ListN.{length, drop};
 ghost use Rattle.lines.specs.Reads.{CallWordOf, CallFields, CallMade, keyOk};
-ghost use Rattle.lines.specs.Answers.{lineAt, CallRead, refusedCall};
+ghost use Rattle.lines.specs.Answers.{CallRead, refusedCall};
 
 pub enum CallKind {
     Add,
@@ -145,11 +144,10 @@ fn call_made(kind: CallKind, f: Fields) -> CallLine
     }
 }
 
-// The call line at a place of a frame buffer. The kind is decided once, by the word after `call=`.
-pub fn read_call(frame: &[u8], at: usize) -> CallLine
-    ensures { λ r. ⌜ CallRead (lineAt (now (frame .entry)) at) r ⌝ }
+// The kind is decided once, by the word after `call=`.
+pub fn parse_call(line: &[u8]) -> CallLine
+    ensures { λ r. ⌜ CallRead (now (line .entry)) r ⌝ }
 {
-    let line = part_to(frame, at, b'\n');
     let rest = after_head(line, b"call=");
     let word = value_at(rest, 0);
     let CallWord::Is(kind) = call_word(word) else {

@@ -1,4 +1,4 @@
-// The lines that a host, a scheduler and a claimant send, read out of a frame buffer.
+// The lines that a host, a scheduler and a claimant send, each parsed from its part of the frame.
 pub mod call;
 pub mod claim;
 pub mod fields;

@@ -7,12 +7,11 @@ use crate::fields::fields2;
 use crate::fields::fields3;
 use crate::fields::value_at;
 use crate::keylist::is_key;
-use text::cut::part_to;
 ghost use mathlib.Core.Path.{_≡_};
 ghost use Prim.Native.Nat.{_≤_};
 ghost use lib.ListN.{length, drop};
 ghost use Rattle.lines.specs.Reads.{StepWordOf, StepFields, StepMade, hasPlace};
-ghost use Rattle.lines.specs.Answers.{lineAt, StepRead, refusedStep, stepOf, stepNumber};
+ghost use Rattle.lines.specs.Answers.{StepRead, refusedStep, stepOf, stepNumber};
 
 pub enum StepKind {
     Admit,
@@ -157,11 +156,10 @@ fn step_made(kind: StepKind, f: Fields) -> StepLine
     }
 }
 
-// The step line at a place of a frame buffer. The kind is decided once, by the word after `step=`.
-pub fn read_step(frame: &[u8], at: usize) -> StepLine
-    ensures { λ r. ⌜ StepRead (lineAt (now (frame .entry)) at) r ⌝ }
+// The kind is decided once, by the word after `step=`.
+pub fn parse_step(line: &[u8]) -> StepLine
+    ensures { λ r. ⌜ StepRead (now (line .entry)) r ⌝ }
 {
-    let line = part_to(frame, at, b'\n');
     let rest = after_head(line, b"step=");
     let word = value_at(rest, 0);
     let StepWord::Is(kind) = step_word(word) else {

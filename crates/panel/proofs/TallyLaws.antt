@@ -1,6 +1,6 @@
 -- Laws of the tally: counting steps one by one is raising each count by the number of its kind.
 -- Assumes nothing.
-use Prim.Native.Nat.{ℕ, zero, suc, _+_, _≤_, min}
+use Prim.Native.Nat.{ℕ, zero, suc, _+_, _≤_, _<_}
 use native.Mathlib.Omega.{arith}
 use mathlib.Core.Path.{_≡_, refl, sym, ap, _∙_}
 use mathlib.Core.Bool.{Bool, true, false, cond}
@@ -16,34 +16,53 @@ use Rattle.graph.proofs.Drains.{work-cons}
 use Rattle.panel.specs.declared.tally.Tally.{Tally}
 use Rattle.panel.specs.Tally.{upBy, each, raised, counted, zeros}
 
-up-none : (c : ℕ) → upBy c 0 ≡ c
-up-none c = omega arith
+-- a tally whose counts rest where they are to
+abbrev rested : Tally → Tally
+rested t = each (λ k c. upBy c 0) t
+
+-- a tally that has no count above 4,294,967,295, as every tally in 32 bits
+abbrev pub Fits : Tally → Type 0
+Fits t = rested t ≡ t
+
+fitting : (c : ℕ) → c < 4294967296 → upBy c 0 ≡ c
+fitting c h = omega arith
+
+pub fits : (t : Tally) → t .admit < 4294967296 → t .realise < 4294967296 → t .«move_on» < 4294967296 → t .finish < 4294967296 → t .join < 4294967296 → t .split < 4294967296 → t .swap < 4294967296 → t .fuse < 4294967296 → Fits t
+fits t a r m f j s w u =
+    λ i. record {
+      admit = fitting (t .admit) a i;
+      realise = fitting (t .realise) r i;
+      «move_on» = fitting (t .«move_on») m i;
+      finish = fitting (t .finish) f i;
+      join = fitting (t .join) j i;
+      split = fitting (t .split) s i;
+      swap = fitting (t .swap) w i;
+      fuse = fitting (t .fuse) u i;
+    }
+
+-- a step that may be of the kind: raised and then rested, or the other way round
+rest-later : (b : Bool) (c : ℕ) → cond b (upBy (upBy c 0) 1) (upBy c 0) ≡ upBy (cond b (upBy c 1) c) 0
+rest-later true c = omega arith
+rest-later false c = refl
 
 -- one step that may be of the kind, and then n of it
 up-more : (b : Bool) (c n : ℕ) → upBy (cond b (upBy c 1) c) n ≡ upBy c (cond b 1 0 + n)
 up-more true c n = omega arith
 up-more false c n = omega arith
 
--- each count is raised by the number of the steps of its kind
-pub counted-kinds : (t : Tally) (ts : List Step) → counted t ts ≡ each (λ k c. upBy c (ofKind k ts)) t
-counted-kinds t [] = λ i. each (λ k c. sym (up-none c) i) t
-counted-kinds t (s ∷ ts) = counted-kinds (raised t (tallyPlace s) 1) ts ∙ (λ i. each (λ k c. up-more (eqb k (tallyPlace s)) c (ofKind k ts) i) t)
+counted-rested : (t : Tally) (ts : List Step) → counted (rested t) ts ≡ each (λ k c. upBy c (ofKind k ts)) t
+counted-rested t [] = refl
+counted-rested t (s ∷ ts) =
+    (λ i. counted (each (λ k c. rest-later (eqb k (tallyPlace s)) c i) t) ts) ∙ counted-rested (raised t (tallyPlace s) 1) ts ∙ (λ i. each (λ k c. up-more (eqb k (tallyPlace s)) c (ofKind k ts) i) t)
+
+-- each count is raised by the number of the steps of its kind, "resting at 4,294,967,295"
+pub counted-kinds : (t : Tally) (ts : List Step) → Fits t → counted t ts ≡ each (λ k c. upBy c (ofKind k ts)) t
+counted-kinds t ts h = ap (λ (u : Tally). counted u ts) (sym h) ∙ counted-rested t ts
 
 -- steps after steps
 pub counted-append : (t : Tally) (ts us : List Step) → counted t (ts ++ us) ≡ counted (counted t ts) us
 counted-append t [] us = refl
 counted-append t (s ∷ ts) us = counted-append (raised t (tallyPlace s) 1) ts us
-
--- a tally that has no count above 4,294,967,295, as every tally in 32 bits
-abbrev pub Rests : Tally → Type 0
-Rests t = each (λ k c. min c 4294967295) t ≡ t
-
-up-rests : (c n : ℕ) → upBy (min c 4294967295) n ≡ min (c + n) 4294967295
-up-rests c n = omega arith
-
--- "resting at 4,294,967,295"
-pub counted-rests : (t : Tally) (ts : List Step) → Rests t → counted t ts ≡ each (λ k c. min (c + ofKind k ts) 4294967295) t
-counted-rests t ts h = counted-kinds t ts ∙ ap (each (λ k c. upBy c (ofKind k ts))) (sym h) ∙ (λ i. each (λ k c. up-rests c (ofKind k ts) i) t)
 
 kind-most : (k : ℕ) (ts : List Step) → ofKind k ts ≤ length ts
 kind-most k [] = omega arith
@@ -54,7 +73,7 @@ up-from-zero n h = omega arith
 
 -- "With one tally, zeros at the start .., each .. number equals its count there"
 pub counted-exact : (ts : List Step) → length ts ≤ 4294967295 → counted zeros ts ≡ each (λ k c. ofKind k ts) zeros
-counted-exact ts h = counted-kinds zeros ts ∙ (λ i. each (λ k c. up-from-zero (ofKind k ts) (omega (arith, kind-most k ts)) i) zeros)
+counted-exact ts h = counted-kinds zeros ts refl ∙ (λ i. each (λ k c. up-from-zero (ofKind k ts) (omega (arith, kind-most k ts)) i) zeros)
 
 -- a step of another kind is no admit, realise, move or finish
 apart : (k : ℕ) (s : Step) → 4 ≤ k → cond (eqb k (tallyPlace s)) 1 0 + costs s ≤ 1
@@ -72,9 +91,9 @@ others k [] h = omega arith
 others k (s ∷ ts) h = omega (arith, apart k s h, others k ts h, work-cons s ts)
 
 -- of admits, realises, moves and finishes the four numbers may be added at once
-pub counted-at-once : (t : Tally) (ts : List Step) → workSteps ts ≡ length ts →
+pub counted-at-once : (t : Tally) (ts : List Step) → Fits t → workSteps ts ≡ length ts →
     raised (raised (raised (raised t 0 (ofKind 0 ts)) 1 (ofKind 1 ts)) 2 (ofKind 2 ts)) 3 (ofKind 3 ts) ≡ counted t ts
-counted-at-once t ts h = (λ i. each (λ k c. same k c i) t) ∙ sym (counted-kinds t ts)
+counted-at-once t ts r h = ap (each four) (sym r) ∙ (λ i. each (λ k c. same k c i) t) ∙ sym (counted-kinds t ts r)
   where
     four : ℕ → ℕ → ℕ
     four zero c = upBy c (ofKind 0 ts)
@@ -83,9 +102,9 @@ counted-at-once t ts h = (λ i. each (λ k c. same k c i) t) ∙ sym (counted-ki
     four (suc (suc (suc zero))) c = upBy c (ofKind 3 ts)
     four (suc (suc (suc (suc k)))) c = c
 
-    same : (k c : ℕ) → four k c ≡ upBy c (ofKind k ts)
-    same zero c = refl
-    same (suc zero) c = refl
-    same (suc (suc zero)) c = refl
-    same (suc (suc (suc zero))) c = refl
+    same : (k c : ℕ) → four k (upBy c 0) ≡ upBy c (ofKind k ts)
+    same zero c = omega arith
+    same (suc zero) c = omega arith
+    same (suc (suc zero)) c = omega arith
+    same (suc (suc (suc zero))) c = omega arith
     same (suc (suc (suc (suc k)))) c = omega (arith, others (suc (suc (suc (suc k)))) ts (omega arith))

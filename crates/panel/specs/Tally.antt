@@ -1,7 +1,7 @@
 -- The tally: document 01, "one 32-bit count for each of the eight step kinds (drain counts the steps it takes), resting at
 -- 4,294,967,295". The struct `Tally` of src/tally.rt has the counts, in the order of graph's `tallyPlace`.
 -- Assumes nothing.
-use Prim.Native.Nat.{ℕ, _+_, _-_, min}
+use Prim.Native.Nat.{ℕ, _+_, min}
 use mathlib.Core.Bool.{cond}
 use mathlib.Core.List.{List, [], _∷_}
 use lib.Dec.{eqb}
@@ -9,9 +9,9 @@ use Rattle.graph.specs.Steps.{Step}
 use Rattle.graph.specs.Runs.{tallyPlace}
 use Rattle.panel.specs.declared.tally.Tally.{Tally}
 
--- a count raised by n, or by as much as is left to 4,294,967,295, where it rests
+-- a count raised by n, resting at 4,294,967,295
 abbrev pub upBy : ℕ → ℕ → ℕ
-upBy c n = c + min n (4294967295 - c)
+upBy c n = min (c + n) 4294967295
 
 -- each count changed by what a function says for its place
 abbrev pub each : (ℕ → ℕ → ℕ) → Tally → Tally

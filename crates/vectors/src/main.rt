@@ -4,9 +4,9 @@
 // head (the three numbers); a claim as a result line (the line's number, the label).
 use graph::keys::Keys;
 use lines::call::CallKind;
-use lines::call::read_call;
-use lines::claim::read_claim;
-use lines::step::read_step;
+use lines::call::parse_call;
+use lines::claim::parse_claim;
+use lines::step::parse_step;
 use lines::step::step_number;
 use print::lines::head_len;
 use print::lines::node_len;
@@ -17,8 +17,6 @@ use print::lines::put_result;
 use print::lines::result_len;
 use text::cut::part_to;
 use text::cut::starts_with;
-ghost use Prim.Native.Nat.{_≤_};
-ghost use lib.ListN.{length};
 
 fn send(out: &[u8], n: usize) {
     if n <= out.len() {
@@ -66,66 +64,64 @@ fn call_number(kind: CallKind) -> u32 {
     }
 }
 
-fn show_call(frame: &[u8], at: usize, line: u32) {
-    let c = read_call(frame, at);
+fn show_call(line: &[u8], number: u32) {
+    let c = parse_call(line);
     let refusal = c.refusal;
     if refusal != 0 {
-        show_refusal(line, refusal);
+        show_refusal(number, refusal);
         return;
     }
     let to = c.to;
-    show_result(line, c.x, to);
+    show_result(number, c.x, to);
     let kind = c.kind;
     show_node(call_number(kind), c.y, to);
 }
 
-fn show_step(frame: &[u8], at: usize, line: u32) {
-    let s = read_step(frame, at);
+fn show_step(line: &[u8], number: u32) {
+    let s = parse_step(line);
     let refusal = s.refusal;
     if refusal != 0 {
-        show_refusal(line, refusal);
+        show_refusal(number, refusal);
         return;
     }
-    show_result(line, step_number(s) as u32, Keys::none());
+    show_result(number, step_number(s) as u32, Keys::none());
     show_head(s.at, s.unit, s.after);
 }
 
-fn show_claim(frame: &[u8], at: usize, line: u32) {
-    let c = read_claim(frame, at);
+fn show_claim(line: &[u8], number: u32) {
+    let c = parse_claim(line);
     let refusal = c.refusal;
     if refusal != 0 {
-        show_refusal(line, refusal);
+        show_refusal(number, refusal);
         return;
     }
-    show_result(line, c.label, Keys::none());
+    show_result(number, c.label, Keys::none());
 }
 
-fn show(frame: &[u8], at: usize, line: u32)
-    requires { ⌜ at ≤ length (now frame) ⌝ }
-{
-    let rest = &frame[at..];
-    if starts_with(rest, b"step=") {
-        show_step(frame, at, line);
+fn show(line: &[u8], number: u32) {
+    if starts_with(line, b"step=") {
+        show_step(line, number);
         return;
     }
-    if starts_with(rest, b"claim=") {
-        show_claim(frame, at, line);
+    if starts_with(line, b"claim=") {
+        show_claim(line, number);
         return;
     }
-    show_call(frame, at, line);
+    show_call(line, number);
 }
 
 fn show_all(frame: &[u8]) {
     let mut at = 0;
-    let mut line: u32 = 1;
+    let mut number: u32 = 1;
     while at < frame.len() {
-        show(frame, at, line);
-        let end = at + part_to(frame, at, b'\n').len();
+        let line = part_to(frame, at, b'\n');
+        show(line, number);
+        let end = at + line.len();
         if frame.len() <= end {
             return;
         }
         at = end + 1;
-        line = std::num::wrapping_add_u32(line, 1);
+        number = std::num::wrapping_add_u32(number, 1);
     }
 }
 

@@ -9,28 +9,28 @@ use Rattle.vectors.proofs.show_all.Statement.{statement}
 use Rattle.vectors.proofs.show_all.Tie as tie
 
 abbrev Inv-loop : tie.InvT-loop
-Inv-loop frame at₀ line₀ at line = at ≤ length frame
+Inv-loop frame at₀ number₀ at number = at ≤ length frame
 
 abbrev μ-loop : tie.MeasureT-loop
-μ-loop frame at₀ line₀ at line = length frame - at
+μ-loop frame at₀ number₀ at number = length frame - at
 
 -- the line ends inside the frame
-within : (c : tie.After-part-to Inv-loop μ-loop) → c .before .before .before .loop .at + length (c .part-to .result .now) ≤ length (c .before .before .before .before .before .args .frame .now)
+within : (c : tie.After-part-to Inv-loop μ-loop) → c .before .before .loop .at + length (c .part-to .result .now) ≤ length (c .before .before .before .before .args .frame .now)
 within c =
-    let l = c .before .before .before in
+    let l = c .before .before in
     rw (c .part-to .ensures) (part 10 (l .before .before .args .frame .now) (l .loop .at) (l .loop .inv) .within)
 
 loop-holds : tie.Need-loop-holds Inv-loop μ-loop
 loop-holds c = search needs
 
-show-requires : tie.Need-show-requires Inv-loop μ-loop
-show-requires c κs = search needs
-
 part-to-requires : tie.Need-part-to-requires Inv-loop μ-loop
 part-to-requires c κs = search needs
 
+show-requires : tie.Need-show-requires Inv-loop μ-loop
+show-requires c κs = search needs
+
 add-end : tie.Need-add-end Inv-loop μ-loop
-add-end c = omega (arith, within c)
+add-end c = omega (arith, within (c .before))
 
 returns : tie.Need-returns Inv-loop μ-loop
 returns c = search needs
@@ -57,8 +57,8 @@ show-all-spec =
     Inv-loop
     μ-loop
     loop-holds
-    show-requires
     part-to-requires
+    show-requires
     add-end
     returns
     add-at

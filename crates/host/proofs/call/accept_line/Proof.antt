@@ -15,22 +15,22 @@ same-length c = search needs
 returns : tie.Need-returns
 returns c = tested-refused (c .before .image-refusal .ensures) (c .if1 .taken)
 
-read-call-requires : tie.Need-read-call-requires
-read-call-requires c κs = search needs
+parse-call-requires : tie.Need-parse-call-requires
+parse-call-requires c κs = search needs
 
-cast-t10 : tie.Need-cast-t10
-cast-t10 c = search needs
+cast-t9 : tie.Need-cast-t9
+cast-t9 c = search needs
 
 same-length-2 : tie.Need-same-length-2
 same-length-2 c = search needs
 
 returns-2 : tie.Need-returns-2
-returns-2 c = line-refused _ _ _ (tested-session (c .before .before .before .before .before .image-refusal .ensures) (c .before .before .before .before .if1 .left)) (c .before .before .before .read-call .ensures) (c .before .if2 .taken)
+returns-2 c = line-refused _ _ _ (tested-session (c .before .before .before .before .before .image-refusal .ensures) (c .before .before .before .before .if1 .left)) (c .before .before .before .parse-call .ensures) (c .before .if2 .taken)
 
 accept-requires : tie.Need-accept-requires
 accept-requires c κs =
     let h = tested-session (c .before .before .before .before .before .image-refusal .ensures) (c .before .before .before .before .if1 .left) in
-    (session-live h, line-read _ _ (c .before .before .before .read-call .ensures) (c .before .if2 .left) .good)
+    (session-live h, line-read _ _ (c .before .before .before .parse-call .ensures) (c .before .if2 .left) .good)
 
 same-length-3 : tie.Need-same-length-3
 same-length-3 c = search needs
@@ -38,14 +38,14 @@ same-length-3 c = search needs
 returns-3 : tie.Need-returns-3
 returns-3 c =
     let h = tested-session (c .before .before .before .before .before .before .before .before .before .image-refusal .ensures) (c .before .before .before .before .before .before .before .before .if1 .left) in
-    let r = line-read _ _ (c .before .before .before .before .before .before .before .read-call .ensures) (c .before .before .before .before .before .if2 .left) in
+    let r = line-read _ _ (c .before .before .before .before .before .before .before .parse-call .ensures) (c .before .before .before .before .before .if2 .left) in
     not-accepted _ _ _ _ _ h r (c .before .before .before .accept .ensures .0) (c .if3 .taken)
 
 last-requires : tie.Need-last-requires
 last-requires c κs = c .before .before .before .before .accept .ensures .1 .proper
 
-cast-t16 : tie.Need-cast-t16
-cast-t16 c = search needs
+cast-t15 : tie.Need-cast-t15
+cast-t15 c = search needs
 
 same-length-4 : tie.Need-same-length-4
 same-length-4 c = search needs
@@ -53,7 +53,7 @@ same-length-4 c = search needs
 returns-4 : tie.Need-returns-4
 returns-4 c =
     let h = tested-session (c .before .before .before .before .before .before .before .before .before .before .before .image-refusal .ensures) (c .before .before .before .before .before .before .before .before .before .before .if1 .left) in
-    let r = line-read _ _ (c .before .before .before .before .before .before .before .before .before .read-call .ensures) (c .before .before .before .before .before .before .before .if2 .left) in
+    let r = line-read _ _ (c .before .before .before .before .before .before .before .before .before .parse-call .ensures) (c .before .before .before .before .before .before .before .if2 .left) in
     is-accepted _ _ _ _ _ h r (c .before .before .before .before .before .accept .ensures .0) _ (c .before .before .if3 .left) (c .last .ensures)
 
 pub accept-line-spec : {M : Type 1} → statement M
@@ -63,14 +63,14 @@ accept-line-spec =
     image-refusal-requires
     same-length
     returns
-    read-call-requires
-    cast-t10
+    parse-call-requires
+    cast-t9
     same-length-2
     returns-2
     accept-requires
     same-length-3
     returns-3
     last-requires
-    cast-t16
+    cast-t15
     same-length-4
     returns-4)

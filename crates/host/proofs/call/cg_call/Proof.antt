@@ -10,6 +10,9 @@ use borrow.Author.Needs.{needs}
 use Rattle.host.proofs.call.cg_call.Statement.{statement}
 use Rattle.host.proofs.call.cg_call.Tie as tie
 
+part-to-requires : tie.Need-part-to-requires
+part-to-requires c κs = search needs
+
 accept-line-requires : tie.Need-accept-line-requires
 accept-line-requires c κs = search needs
 
@@ -23,7 +26,7 @@ returns : tie.Need-returns
 returns c =
     let same : toZ w64 (ofZ w64 (c .number .result)) ≡ c .number .result = search needs in
     let after : List ℕ = _ in
-    entered-as (λ i. record { answer = (same ∙ c .number .ensures) i; image = after }) (c .before .before .before .accept-line .ensures)
+    entered-as (λ i. record { answer = (same ∙ c .number .ensures) i; image = after }) (rw (c .before .before .before .before .part-to .ensures) at (c .before .before .before .accept-line .ensures))
 
 pub cg-call-spec : {M : Type 1} → statement M
-cg-call-spec = tie.close (tie.spec accept-line-requires number-requires same-length returns)
+cg-call-spec = tie.close (tie.spec part-to-requires accept-line-requires number-requires same-length returns)

@@ -15,29 +15,29 @@ same-length c = search needs
 returns : tie.Need-returns
 returns c = tested-refused (c .before .image-refusal .ensures) (c .if1 .taken)
 
-read-claim-requires : tie.Need-read-claim-requires
-read-claim-requires c κs = search needs
+parse-claim-requires : tie.Need-parse-claim-requires
+parse-claim-requires c κs = search needs
 
-cast-t15 : tie.Need-cast-t15
-cast-t15 c = search needs
+cast-t14 : tie.Need-cast-t14
+cast-t14 c = search needs
 
 same-length-2 : tie.Need-same-length-2
 same-length-2 c = search needs
 
 returns-2 : tie.Need-returns-2
-returns-2 c = line-refused _ _ _ (tested-session (c .before .before .before .before .before .image-refusal .ensures) (c .before .before .before .before .if1 .left)) _ (c .before .before .before .read-claim .ensures) (c .before .if2 .taken)
+returns-2 c = line-refused _ _ _ (tested-session (c .before .before .before .before .before .image-refusal .ensures) (c .before .before .before .before .if1 .left)) _ (c .before .before .before .parse-claim .ensures) (c .before .if2 .taken)
 
 find-requires : tie.Need-find-requires
 find-requires c κs = session-live (tested-session (c .before .before .before .before .before .image-refusal .ensures) (c .before .before .before .before .if1 .left))
 
-cast-t18 : tie.Need-cast-t18
-cast-t18 c = search needs
+cast-t17 : tie.Need-cast-t17
+cast-t17 c = search needs
 
 same-length-3 : tie.Need-same-length-3
 same-length-3 c = search needs
 
 returns-3 : tie.Need-returns-3
-returns-3 c = not-found _ _ _ (tested-session (c .before .before .before .before .before .before .before .before .before .image-refusal .ensures) (c .before .before .before .before .before .before .before .before .if1 .left)) _ (line-read _ _ (c .before .before .before .before .before .before .before .read-claim .ensures) (c .before .before .before .before .before .if2 .left)) _ (c .before .before .before .find .ensures) (c .before .if3 .taken)
+returns-3 c = not-found _ _ _ (tested-session (c .before .before .before .before .before .before .before .before .before .image-refusal .ensures) (c .before .before .before .before .before .before .before .before .if1 .left)) _ (line-read _ _ (c .before .before .before .before .before .before .before .parse-claim .ensures) (c .before .before .before .before .before .if2 .left)) _ (c .before .before .before .find .ensures) (c .before .if3 .taken)
 
 cast-label : tie.Need-cast-label
 cast-label c = search needs
@@ -49,7 +49,7 @@ same-length-4 : tie.Need-same-length-4
 same-length-4 c = search needs
 
 returns-4 : tie.Need-returns-4
-returns-4 c = no-room _ _ _ (tested-session (c .before .before .before .before .before .before .before .before .before .before .before .before .before .image-refusal .ensures) (c .before .before .before .before .before .before .before .before .before .before .before .before .if1 .left)) _ (line-read _ _ (c .before .before .before .before .before .before .before .before .before .before .before .read-claim .ensures) (c .before .before .before .before .before .before .before .before .before .if2 .left)) _ (c .before .before .before .before .before .before .before .find .ensures) (c .before .before .before .before .before .if3 .left) _ (c .before .result-len .ensures) (c .if4 .taken)
+returns-4 c = no-room _ _ _ (tested-session (c .before .before .before .before .before .before .before .before .before .before .before .before .before .image-refusal .ensures) (c .before .before .before .before .before .before .before .before .before .before .before .before .if1 .left)) _ (line-read _ _ (c .before .before .before .before .before .before .before .before .before .before .before .parse-claim .ensures) (c .before .before .before .before .before .before .before .before .before .if2 .left)) _ (c .before .before .before .before .before .before .before .find .ensures) (c .before .before .before .before .before .if3 .left) _ (c .before .result-len .ensures) (c .if4 .taken)
 
 put-result-requires : tie.Need-put-result-requires
 put-result-requires c κs = search needs
@@ -57,8 +57,8 @@ put-result-requires c κs = search needs
 remove-requires : tie.Need-remove-requires
 remove-requires c κs = (session-live (tested-session (c .before .before .before .before .before .before .before .before .before .before .before .before .before .before .before .before .before .before .image-refusal .ensures) (c .before .before .before .before .before .before .before .before .before .before .before .before .before .before .before .before .before .if1 .left)), claimable (c .before .before .before .before .before .before .before .before .before .before .before .before .find .ensures) (c .before .before .before .before .before .before .before .before .before .before .if3 .left))
 
-cast-t25 : tie.Need-cast-t25
-cast-t25 c = search needs
+cast-t24 : tie.Need-cast-t24
+cast-t24 c = search needs
 
 same-length-5 : tie.Need-same-length-5
 same-length-5 c = search needs
@@ -67,7 +67,7 @@ same-length-6 : tie.Need-same-length-6
 same-length-6 c = search needs
 
 returns-5 : tie.Need-returns-5
-returns-5 c = is-claimed _ _ _ (tested-session (c .before .before .before .before .before .before .before .before .before .before .before .before .before .before .before .before .before .before .before .before .before .image-refusal .ensures) (c .before .before .before .before .before .before .before .before .before .before .before .before .before .before .before .before .before .before .before .before .if1 .left)) _ (line-read _ _ (c .before .before .before .before .before .before .before .before .before .before .before .before .before .before .before .before .before .before .before .read-claim .ensures) (c .before .before .before .before .before .before .before .before .before .before .before .before .before .before .before .before .before .if2 .left)) _ (c .before .before .before .before .before .before .before .before .before .before .before .before .before .before .before .find .ensures) (c .before .before .before .before .before .before .before .before .before .before .before .before .before .if3 .left) _ (c .before .before .before .before .before .before .before .before .before .result-len .ensures) _ _ _ (c .before .before .before .before .before .before .before .before .if4 .left) (c .before .before .before .before .before .before .put-result .ensures) (c .before .before .remove .ensures)
+returns-5 c = is-claimed _ _ _ (tested-session (c .before .before .before .before .before .before .before .before .before .before .before .before .before .before .before .before .before .before .before .before .before .image-refusal .ensures) (c .before .before .before .before .before .before .before .before .before .before .before .before .before .before .before .before .before .before .before .before .if1 .left)) _ (line-read _ _ (c .before .before .before .before .before .before .before .before .before .before .before .before .before .before .before .before .before .before .before .parse-claim .ensures) (c .before .before .before .before .before .before .before .before .before .before .before .before .before .before .before .before .before .if2 .left)) _ (c .before .before .before .before .before .before .before .before .before .before .before .before .before .before .before .find .ensures) (c .before .before .before .before .before .before .before .before .before .before .before .before .before .if3 .left) _ (c .before .before .before .before .before .before .before .before .before .result-len .ensures) _ _ _ (c .before .before .before .before .before .before .before .before .if4 .left) (c .before .before .before .before .before .before .put-result .ensures) (c .before .before .remove .ensures)
 
 pub claim-line-spec : {M : Type 1} → statement M
 claim-line-spec =
@@ -76,12 +76,12 @@ claim-line-spec =
     image-refusal-requires
     same-length
     returns
-    read-claim-requires
-    cast-t15
+    parse-claim-requires
+    cast-t14
     same-length-2
     returns-2
     find-requires
-    cast-t18
+    cast-t17
     same-length-3
     returns-3
     cast-label
@@ -90,7 +90,7 @@ claim-line-spec =
     returns-4
     put-result-requires
     remove-requires
-    cast-t25
+    cast-t24
     same-length-5
     same-length-6
     returns-5)

@@ -1,15 +1,11 @@
--- Each answer is a case of `Steps`.
+-- Each answer is a case of `Takes`.
 -- Assumes nothing.
-use mathlib.Core.Path.{_≡_, sym, ap, _∙_}
-use Prim.Native.Nat.{ℕ}
-use mathlib.Core.List.{List}
-use mir.Syntax.{w64}
-use mir.Val.{toZ, ofZ}
+use mathlib.Core.Path.{sym, ap, _∙_}
+use denote.Ref.{now}
 use Rattle.lines.specs.Answers.{stepNumber}
 use Rattle.lines.specs.declared.step.StepKind.the-variants.{Drain}
-use Rattle.panel.specs.Tally.{raised}
 use Rattle.host.proofs.Entering.{entered-as, tested-refused, tested-session, session-live}
-use Rattle.host.proofs.Stepping.{line-refused, line-read, kind-is, line-drained, line-not-taken, line-taken}
+use Rattle.host.proofs.Stepping.{line-refused, line-read, kind-is, takes-none, line-drained, line-not-taken, line-taken}
 use borrow.Author.Needs.{needs}
 use Rattle.host.proofs.step.step_by.Statement.{statement}
 use Rattle.host.proofs.step.step_by.Tie as tie
@@ -25,11 +21,10 @@ same-length c = search needs
 
 returns : tie.Need-returns
 returns c =
-    let after : List ℕ = _ in
-    entered-as (λ i. record { answer = c .refused .ensures .0 i; image = after; tally = c .refused .ensures .1 i }) (tested-refused (c .before .before .image-refusal .ensures) (c .before .if1 .taken))
+    takes-none (c .refused .result) (c .refused .ensures .1) (λ t. entered-as (λ i. record { answer = c .refused .ensures .0 i; image = now (c .before .before .before .before .before .before .args .image); tally = t }) (tested-refused (c .before .before .image-refusal .ensures) (c .before .if1 .taken)))
 
-read-step-requires : tie.Need-read-step-requires
-read-step-requires c κs = search needs
+parse-step-requires : tie.Need-parse-step-requires
+parse-step-requires c κs = search needs
 
 cast-refused : tie.Need-cast-refused
 cast-refused c = search needs
@@ -42,39 +37,36 @@ same-length-2 c = search needs
 
 returns-2 : tie.Need-returns-2
 returns-2 c =
-    let h = tested-session (c .before .before .before .before .before .before .image-refusal .ensures) (c .before .before .before .before .before .if1 .left) in
-    let after : List ℕ = _ in
-    entered-as (λ i. record { answer = c .refused2 .ensures .0 i; image = after; tally = c .refused2 .ensures .1 i }) (line-refused _ _ _ _ h (c .before .before .before .before .read-step .ensures) (c .before .before .if2 .taken))
+    takes-none (c .refused2 .result) (c .refused2 .ensures .1) (λ t. entered-as (λ i. record { answer = c .refused2 .ensures .0 i; image = now (c .before .before .before .before .before .before .before .before .before .before .args .image); tally = t })
+    (line-refused _ _ _ _ (tested-session (c .before .before .before .before .before .before .image-refusal .ensures) (c .before .before .before .before .before .if1 .left)) (c .before .before .before .before .parse-step .ensures) (c .before .before .if2 .taken)))
 
 step-number-requires : tie.Need-step-number-requires
 step-number-requires c κs = search needs
 
 drain-requires : tie.Need-drain-requires
-drain-requires c κs = session-live (tested-session (c .before .before .before .before .before .before .before .image-refusal .ensures) (c .before .before .before .before .before .before .if1 .left))
+drain-requires c κs =
+    session-live (tested-session (c .before .before .before .before .before .before .before .image-refusal .ensures) (c .before .before .before .before .before .before .if1 .left))
 
-number-requires : tie.Need-number-requires
-number-requires c κs = search needs
-
-drained-requires : tie.Need-drained-requires
-drained-requires c κs = search needs
+took-requires : tie.Need-took-requires
+took-requires c κs = search needs
 
 same-length-3 : tie.Need-same-length-3
 same-length-3 c = search needs
 
 returns-3 : tie.Need-returns-3
 returns-3 c =
-    let h = tested-session (c .before .before .before .before .before .before .before .before .before .before .before .before .image-refusal .ensures) (c .before .before .before .before .before .before .before .before .before .before .before .if1 .left) in
-    let r = line-read _ _ (c .before .before .before .before .before .before .before .before .before .before .read-step .ensures) (c .before .before .before .before .before .before .before .before .if2 .left) in
-    let same : toZ w64 (ofZ w64 (c .before .number .result)) ≡ c .before .number .result = search needs in
-    line-drained _ _ _ _ _ h r _ _ _ (sym (c .before .before .before .before .before .before .before .step-number .ensures) ∙ c .before .before .before .before .before .before .if3 .taken) (c .before .before .before .before .drain .ensures) (same ∙ c .before .number .ensures) (c .drained .ensures)
+    let h = tested-session (c .before .before .before .before .before .before .before .before .before .before .before .image-refusal .ensures) (c .before .before .before .before .before .before .before .before .before .before .if1 .left) in
+    let r = line-read _ _ (c .before .before .before .before .before .before .before .before .before .parse-step .ensures) (c .before .before .before .before .before .before .before .if2 .left) in
+    line-drained _ _ _ _ h r _ _ (sym (c .before .before .before .before .before .before .step-number .ensures) ∙ c .before .before .before .before .before .if3 .taken) (c .before .before .before .drain .ensures) (c .took .ensures .0) (c .took .ensures .1) (c .took .ensures .2)
 
 work-of-requires : tie.Need-work-of-requires
 work-of-requires c κs =
-    let r = line-read _ _ (c .before .before .before .before .before .read-step .ensures) (c .before .before .before .if2 .left) in
-    (r .small, λ e. c .before .if3 .left (c .before .before .step-number .ensures ∙ ap stepNumber (kind-is (c .before .before .before .before .before .read-step .result) Drain e)))
+    let r = line-read _ _ (c .before .before .before .before .before .parse-step .ensures) (c .before .before .before .if2 .left) in
+    (r .small, λ e. c .before .if3 .left (c .before .before .step-number .ensures ∙ ap stepNumber (kind-is (c .before .before .before .before .before .parse-step .result) Drain e)))
 
 take-requires : tie.Need-take-requires
-take-requires c κs = session-live (tested-session (c .before .before .before .before .before .before .before .before .image-refusal .ensures) (c .before .before .before .before .before .before .before .if1 .left))
+take-requires c κs =
+    session-live (tested-session (c .before .before .before .before .before .before .before .before .image-refusal .ensures) (c .before .before .before .before .before .before .before .if1 .left))
 
 refused-requires-3 : tie.Need-refused-requires-3
 refused-requires-3 c κs = search needs
@@ -85,14 +77,14 @@ same-length-4 c = search needs
 returns-4 : tie.Need-returns-4
 returns-4 c =
     let h = tested-session (c .before .before .before .before .before .before .before .before .before .before .before .before .before .image-refusal .ensures) (c .before .before .before .before .before .before .before .before .before .before .before .before .if1 .left) in
-    let r = line-read _ _ (c .before .before .before .before .before .before .before .before .before .before .before .read-step .ensures) (c .before .before .before .before .before .before .before .before .before .if2 .left) in
-    line-not-taken _ _ _ _ _ h r _ _ (c .before .before .before .before .before .work-of .ensures) (c .before .before .before .before .take .ensures .0) (c .before .if4 .taken) (c .refused3 .ensures .0) (c .refused3 .ensures .1)
+    let r = line-read _ _ (c .before .before .before .before .before .before .before .before .before .before .before .parse-step .ensures) (c .before .before .before .before .before .before .before .before .before .if2 .left) in
+    line-not-taken _ _ _ _ h r _ _ (c .before .before .before .before .before .work-of .ensures) (c .before .before .before .before .take .ensures .0) (c .refused3 .result) (c .before .if4 .taken) (c .refused3 .ensures .0) (c .refused3 .ensures .1)
 
-number-requires-2 : tie.Need-number-requires-2
-number-requires-2 c κs = search needs
+no-counts-requires : tie.Need-no-counts-requires
+no-counts-requires c κs = search needs
 
-raised-requires : tie.Need-raised-requires
-raised-requires c κs = search needs
+took-requires-2 : tie.Need-took-requires-2
+took-requires-2 c κs = search needs
 
 same-length-5 : tie.Need-same-length-5
 same-length-5 c = search needs
@@ -100,10 +92,8 @@ same-length-5 c = search needs
 returns-5 : tie.Need-returns-5
 returns-5 c =
     let h = tested-session (c .before .before .before .before .before .before .before .before .before .before .before .before .before .before .image-refusal .ensures) (c .before .before .before .before .before .before .before .before .before .before .before .before .before .if1 .left) in
-    let r = line-read _ _ (c .before .before .before .before .before .before .before .before .before .before .before .before .read-step .ensures) (c .before .before .before .before .before .before .before .before .before .before .if2 .left) in
-    let same : toZ w64 (ofZ w64 (c .before .number2 .result)) ≡ c .before .number2 .result = search needs in
-    line-taken _ _ _ _ _ h r _ _ (c .before .before .before .before .before .before .work-of .ensures) (c .before .before .before .before .before .take .ensures .0) (c .before .before .if4 .left) (same ∙ c .before .number2 .ensures)
-    (c .raised .ensures ∙ ap (λ (k : ℕ). raised (c .before .before .before .before .before .before .before .before .before .before .before .before .before .before .before .before .before .before .args .t) k 1) (c .before .before .before .before .before .before .before .before .before .step-number .ensures))
+    let r = line-read _ _ (c .before .before .before .before .before .before .before .before .before .before .before .before .parse-step .ensures) (c .before .before .before .before .before .before .before .before .before .before .if2 .left) in
+    line-taken _ _ _ _ h r _ _ (c .before .before .before .before .before .before .work-of .ensures) (c .before .before .before .before .before .take .ensures .0) (c .took2 .result) (c .before .before .if4 .left) (c .took2 .ensures .0) (c .took2 .ensures .1 ∙ c .before .before .before .before .before .before .before .before .before .step-number .ensures)
 
 pub step-by-spec : {M : Type 1} → statement M
 step-by-spec =
@@ -113,15 +103,14 @@ step-by-spec =
     refused-requires
     same-length
     returns
-    read-step-requires
+    parse-step-requires
     cast-refused
     refused-requires-2
     same-length-2
     returns-2
     step-number-requires
     drain-requires
-    number-requires
-    drained-requires
+    took-requires
     same-length-3
     returns-3
     work-of-requires
@@ -129,7 +118,7 @@ step-by-spec =
     refused-requires-3
     same-length-4
     returns-4
-    number-requires-2
-    raised-requires
+    no-counts-requires
+    took-requires-2
     same-length-5
     returns-5)

@@ -1,4 +1,4 @@
--- `lines::step::read_step` meets its contract. Where the line does not come apart, no form has its text; else the form is what was read.
+-- `lines::step::parse_step` meets its contract. Where the line does not come apart, no form has its text; else the form is what was read.
 -- Assumes nothing.
 use mathlib.Core.Path.{_≡_, ap}
 use native.Mathlib.Omega.{arith}
@@ -6,24 +6,21 @@ use borrow.Author.Needs.{needs}
 use lib.ListN.{length}
 use Rattle.text.specs.Text.{ascii}
 use Rattle.text.proofs.Splits.{part}
-use Rattle.lines.specs.Answers.{lineAt, stepAnswer, refusedStep}
+use Rattle.lines.specs.Answers.{stepAnswer, refusedStep}
 use Rattle.lines.specs.Reads.{AfterHead}
 use Rattle.lines.proofs.Steps.{steps, step-forms}
 use Rattle.lines.proofs.Words.{reads-no-word, reads-no-fields, reads-form}
-use Rattle.lines.proofs.step.read_step.Statement.{statement}
-use Rattle.lines.proofs.step.read_step.Tie as tie
+use Rattle.lines.proofs.step.parse_step.Statement.{statement}
+use Rattle.lines.proofs.step.parse_step.Tie as tie
 
-head-at : (c : tie.After-after-head) → AfterHead (lineAt (c .before .before .before .before .args .frame .now) (c .before .before .before .before .args .at)) (steps .head) (c .after-head .result .now)
+head-at : (c : tie.After-after-head) → AfterHead (c .before .before .before .args .line .now) (steps .head) (c .after-head .result .now)
 unfolding steps ascii
-head-at c = rw (c .before .before .part-to .ensures) at (c .after-head .ensures)
+head-at c = c .after-head .ensures
 
 -- the word is this kind's
 word-at : (c : tie.After-kind) → c .before .before .before .value-at .result .now ≡ steps .word (c .kind .given .0 .0)
 unfolding steps
 word-at c = rw (c .kind .given .1) at (c .before .before .step-word .ensures)
-
-part-to-requires : tie.Need-part-to-requires
-part-to-requires c κs = search needs
 
 slice-aggregate-after-head : tie.Need-slice-aggregate-after-head
 slice-aggregate-after-head c = search needs
@@ -74,11 +71,10 @@ returns-3 c =
     let m = c .before .before in
     reads-no-fields step-forms stepAnswer (refusedStep 10) _ _ _ _ (head-at (m .before .before .before .before .before .before)) (m .before .before .before .before .before .value-at .ensures) (m .before .before .kind .given .0 .0) (word-at (m .before .before)) (m .step-fields .result) (m .step-fields .ensures) (c .before .if1 .left) (c .refused-step2 .ensures)
 
-pub read-step-spec : {M : Type 1} → statement M
-read-step-spec =
+pub parse-step-spec : {M : Type 1} → statement M
+parse-step-spec =
     tie.close
     (tie.spec
-    part-to-requires
     slice-aggregate-after-head
     after-head-requires
     value-at-requires

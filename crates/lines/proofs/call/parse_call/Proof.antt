@@ -1,4 +1,4 @@
--- `lines::call::read_call` meets its contract. Where the line does not come apart, no form has its text; else the form is what was read.
+-- `lines::call::parse_call` meets its contract. Where the line does not come apart, no form has its text; else the form is what was read.
 -- Assumes nothing.
 use mathlib.Core.Path.{_≡_, ap}
 use native.Mathlib.Omega.{arith}
@@ -6,24 +6,21 @@ use borrow.Author.Needs.{needs}
 use lib.ListN.{length}
 use Rattle.text.specs.Text.{ascii}
 use Rattle.text.proofs.Splits.{part}
-use Rattle.lines.specs.Answers.{lineAt, callAnswer, refusedCall}
+use Rattle.lines.specs.Answers.{callAnswer, refusedCall}
 use Rattle.lines.specs.Reads.{AfterHead}
 use Rattle.lines.proofs.Calls.{calls, call-forms}
 use Rattle.lines.proofs.Words.{reads-no-word, reads-no-fields, reads-form}
-use Rattle.lines.proofs.call.read_call.Statement.{statement}
-use Rattle.lines.proofs.call.read_call.Tie as tie
+use Rattle.lines.proofs.call.parse_call.Statement.{statement}
+use Rattle.lines.proofs.call.parse_call.Tie as tie
 
-head-at : (c : tie.After-after-head) → AfterHead (lineAt (c .before .before .before .before .args .frame .now) (c .before .before .before .before .args .at)) (calls .head) (c .after-head .result .now)
+head-at : (c : tie.After-after-head) → AfterHead (c .before .before .before .args .line .now) (calls .head) (c .after-head .result .now)
 unfolding calls ascii
-head-at c = rw (c .before .before .part-to .ensures) at (c .after-head .ensures)
+head-at c = c .after-head .ensures
 
 -- the word is this kind's
 word-at : (c : tie.After-kind) → c .before .before .before .value-at .result .now ≡ calls .word (c .kind .given .0 .0)
 unfolding calls
 word-at c = rw (c .kind .given .1) at (c .before .before .call-word .ensures)
-
-part-to-requires : tie.Need-part-to-requires
-part-to-requires c κs = search needs
 
 slice-aggregate-after-head : tie.Need-slice-aggregate-after-head
 slice-aggregate-after-head c = search needs
@@ -74,11 +71,10 @@ returns-3 c =
     let m = c .before .before in
     reads-no-fields call-forms callAnswer (refusedCall 10) _ _ _ _ (head-at (m .before .before .before .before .before .before)) (m .before .before .before .before .before .value-at .ensures) (m .before .before .kind .given .0 .0) (word-at (m .before .before)) (m .call-fields .result) (m .call-fields .ensures) (c .before .if1 .left) (c .refused-call2 .ensures)
 
-pub read-call-spec : {M : Type 1} → statement M
-read-call-spec =
+pub parse-call-spec : {M : Type 1} → statement M
+parse-call-spec =
     tie.close
     (tie.spec
-    part-to-requires
     slice-aggregate-after-head
     after-head-requires
     value-at-requires

@@ -1,14 +1,11 @@
--- `lines::claim::read_claim` meets its contract: the head, a number, and nothing after it.
+-- `lines::claim::parse_claim` meets its contract: the head, a number, and nothing after it.
 -- Assumes nothing.
 use mathlib.Core.Path.{refl}
 use borrow.Author.Needs.{needs}
 use Rattle.text.specs.Text.{ascii}
 use Rattle.lines.proofs.Claims.{claim-never, claim-is}
-use Rattle.lines.proofs.claim.read_claim.Statement.{statement}
-use Rattle.lines.proofs.claim.read_claim.Tie as tie
-
-part-to-requires : tie.Need-part-to-requires
-part-to-requires c κs = search needs
+use Rattle.lines.proofs.claim.parse_claim.Statement.{statement}
+use Rattle.lines.proofs.claim.parse_claim.Tie as tie
 
 slice-aggregate-after-head : tie.Need-slice-aggregate-after-head
 slice-aggregate-after-head c = search needs
@@ -29,19 +26,18 @@ returns : tie.Need-returns
 unfolding ascii
 returns c =
     let n = c .before .before in
-    rw (← n .before .before .before .part-to .ensures) (claim-never _ _ (n .before .after-head .ensures) _ (rw (c .enum-told .given .1) at (n .read-number .ensures)) refl)
+    claim-never _ _ (n .before .after-head .ensures) _ (rw (c .enum-told .given .1) at (n .read-number .ensures)) refl
 
 returns-2 : tie.Need-returns-2
 unfolding ascii
 returns-2 c =
     let n = c .before .before .before in
-    rw (← n .before .before .before .part-to .ensures) (claim-is _ _ (n .before .after-head .ensures) _ _ (rw (c .before .label .given .1) at (n .read-number .ensures)) (search needs) refl)
+    claim-is _ _ (n .before .after-head .ensures) _ _ (rw (c .before .label .given .1) at (n .read-number .ensures)) (search needs) refl
 
-pub read-claim-spec : {M : Type 1} → statement M
-read-claim-spec =
+pub parse-claim-spec : {M : Type 1} → statement M
+parse-claim-spec =
     tie.close
     (tie.spec
-    part-to-requires
     slice-aggregate-after-head
     after-head-requires
     read-number-requires
