@@ -5,9 +5,9 @@ use Prim.Native.Nat.{ℕ, _≤_, _<_}
 use native.Mathlib.Omega.{arith}
 use mathlib.Core.Bool.{Bool, true, false, not, cond, true≢false}
 use mathlib.Core.List.{List, [], _∷_}
-use lib.Dec.{leb}
+use lib.Dec.{leb, ltb, eqb}
 use lib.ListN.{length}
-use borrow.Author.Tests.{leb-true}
+use borrow.Author.Tests.{leb-true, ltb-true, ltb-false, eqb-true, eqb-false}
 use Rattle.graph.specs.KeyLists.{isNil, isKey, areKeys}
 use Rattle.graph.specs.Refusals.{Answer, refused, done, andThen, numberOf as codeOf, firstOf, unless}
 use Rattle.graph.specs.Sessions.{Session}
@@ -182,3 +182,15 @@ module _ (image after line : List ℕ) (c : StepLine) (h : ImageOf image (sessio
           go : (t : Tally) (x : Answer Session) → step w (sessionOf image) ≡ x → n ≡ codeOf x → after ≡ imageAfter x image → record { answer = z .answer; image = after; tally = raised t (tallyPlace w) 1 } ≡ stepServed image t (w ∷ []) x
           go t (refused m) d e y = absurd (omega (arith, step-refused w (sessionOf image) d))
           go t (done v) d e y = λ i. record { answer = a i; image = y i; tally = raised t (tallyPlace w) 1 }
+
+-- whatever tally is lent, some tally is left
+pub takes-steps : {image line after : List ℕ} {r : Taken} → Takes image line r after → (t : Tally) → (u : Tally) × Steps image line t (record { answer = r .answer; image = after; tally = u })
+takes-steps {image} {line} {after} {r} k t = go (ltb (r .place) 8) refl (eqb (r .place) 8) refl
+  where
+    go : (a : Bool) → ltb (r .place) 8 ≡ a → (b : Bool) → eqb (r .place) 8 ≡ b → (u : Tally) × Steps image line t (record { answer = r .answer; image = after; tally = u })
+    go true p b q = (raised t (r .place) 1, k .one (ltb-true _ _ p) t)
+    go false p true q = let d = k .drain (eqb-true _ _ q) in (counted t (d .0), d .2 t)
+    go false p false q =
+        let low : 8 ≤ r .place = ltb-false _ _ p in
+        let other : r .place ≡ 8 → ⊥ = eqb-false _ _ q in
+        (t, k .none (omega arith) t)

@@ -83,6 +83,7 @@ fn took(place: u8, counts: Counts) -> Taken
     }
 }
 
+// Takes what a step line asks for.
 fn step_by(image: &mut [u8], line: &[u8]) -> Taken
     ensures { λ r. ⌜ Takes (now (image .entry)) (now (line .entry)) r (now (image .exit)) ⌝ }
 {
@@ -105,7 +106,8 @@ fn step_by(image: &mut [u8], line: &[u8]) -> Taken
     took(place, no_counts())
 }
 
-fn step_at(image: &mut [u8], frame: &[u8], at: usize) -> Taken
+// The same of the line at a place of the frame. A tally is lent to `cg_step` alone.
+pub fn step_at(image: &mut [u8], frame: &[u8], at: usize) -> Taken
     ensures { λ r. ⌜ Takes (now (image .entry)) (lineAt (now (frame .entry)) at) r (now (image .exit)) ⌝ }
 {
     step_by(image, part_to(frame, at, b'\n'))

@@ -16,7 +16,7 @@ use Rattle.graph.proofs.Drains.{work-cons}
 use Rattle.panel.specs.declared.tally.Tally.{Tally}
 use Rattle.panel.specs.Tally.{upBy, each, raised, counted, zeros}
 
--- a tally whose counts rest where they are to
+-- the tally with every count cut off at 4,294,967,295
 abbrev rested : Tally → Tally
 rested t = each (λ k c. upBy c 0) t
 

@@ -2,8 +2,7 @@
 use host::call::cg_call;
 use host::claim::cg_claim;
 use host::list::cg_list;
-use host::step::step_by;
-use panel::tally::Tally;
+use host::step::step_at;
 use print::lines::put_refusal;
 use text::cut::part_to;
 use text::cut::starts_with;
@@ -16,18 +15,6 @@ ghost use Rattle.lines.specs.Answers.{lineAt};
 ghost use Rattle.panel.specs.Answer.{refusalIn};
 ghost use Rattle.program.specs.Lines.{lengthIn};
 ghost use Rattle.program.specs.Frames.{AnswerPrinted, Served, Ended};
-
-// Nothing that is printed shows a tally, so each step is lent a fresh one.
-const ZEROS: Tally = Tally {
-    admit: 0,
-    realise: 0,
-    move_on: 0,
-    finish: 0,
-    join: 0,
-    split: 0,
-    swap: 0,
-    fuse: 0,
-};
 
 // The refusal that an answer of the host is, or 0.
 fn refusal_in(answer: i64) -> u64
@@ -69,11 +56,12 @@ fn serve_call(image: &mut [u8], frame: &[u8], at: usize, line: u64, out: &mut [u
     put_answer(out, line, answer, 0)
 }
 
+// Nothing that is printed shows a tally, so none is lent.
 fn serve_step(image: &mut [u8], frame: &[u8], at: usize, line: u64, out: &mut [u8]) -> usize
     requires { ⌜ (128 ≤ length (now out)) × (startsWith (ascii "step=") (lineAt (now frame) at) ≡ true) ⌝ }
     ensures { λ r. ⌜ Served (now (image .entry)) (lineAt (now (frame .entry)) at) line (now (image .exit)) (now (out .exit)) r ⌝ }
 {
-    let s = step_by(image, frame, at, ZEROS);
+    let s = step_at(image, frame, at);
     put_answer(out, line, s.answer, 0)
 }
 

@@ -164,7 +164,7 @@ module _ (es : List Sent) (h : Runs opening es) where
   bounded = omega (arith, d .bound, d .labels, size)
 
   tallied : OneTally zeros es → lastTally zeros es ≡ each (λ k c. upBy c (ofKind k (to .steps))) zeros
-  tallied o = to .tally zeros o ∙ counted-kinds zeros (to .steps)
+  tallied o = to .tally zeros o ∙ counted-kinds zeros (to .steps) refl
 
   small : workSteps (to .steps) ≤ 4784055
   small = omega (arith, bounded, size, v .labels)

@@ -3,13 +3,15 @@
 use mathlib.Core.Path.{_≡_}
 use mir.Syntax.{w64}
 use mir.Val.{toZ, ofZ}
+use Rattle.panel.specs.Tally.{zeros}
+use Rattle.host.proofs.Stepping.{takes-steps}
 use Rattle.program.proofs.Serving.{step-served}
 use borrow.Author.Needs.{needs}
 use Rattle.program.proofs.serve.serve_step.Statement.{statement}
 use Rattle.program.proofs.serve.serve_step.Tie as tie
 
-step-by-requires : tie.Need-step-by-requires
-step-by-requires c κs = search needs
+step-at-requires : tie.Need-step-at-requires
+step-at-requires c κs = search needs
 
 put-answer-requires : tie.Need-put-answer-requires
 put-answer-requires c κs = search needs
@@ -22,9 +24,9 @@ same-length-2 c = search needs
 
 returns : tie.Need-returns
 returns c =
-    let same : toZ w64 (ofZ w64 (c .before .before .before .before .before .before .before .step-by .result .answer)) ≡ c .before .before .before .before .before .before .before .step-by .result .answer = search needs in
-    step-served same (c .before .before .before .before .before .before .before .before .before .before .before .before .pre .1) (c .before .before .before .before .before .before .before .step-by .ensures) (c .before .before .put-answer .ensures)
+    let same : toZ w64 (ofZ w64 (c .before .before .before .before .before .before .before .step-at .result .answer)) ≡ c .before .before .before .before .before .before .before .step-at .result .answer = search needs in
+    step-served same (c .before .before .before .before .before .before .before .before .before .before .before .before .pre .1) (takes-steps (c .before .before .before .before .before .before .before .step-at .ensures) zeros .1) (c .before .before .put-answer .ensures)
 
 pub serve-step-spec : {M : Type 1} → statement M
 serve-step-spec =
-    tie.close (tie.spec step-by-requires put-answer-requires same-length same-length-2 returns)
+    tie.close (tie.spec step-at-requires put-answer-requires same-length same-length-2 returns)
