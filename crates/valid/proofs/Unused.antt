@@ -6,9 +6,11 @@ use native.Mathlib.Omega.{arith}
 use native.Mathlib.Decide.{decLt}
 use mathlib.Core.Bool.{true, false, true≢false}
 use mathlib.Core.List.{List, _∷_, _++_}
-use lib.ListN.{length, getD, set, take, drop, replicate, length-set, length-replicate, getD-replicate, length-take, replicate-append-replicate, List·getD-eq-default}
-use lib.Seq.{getD-take, getD-drop, getD-set-same, getD-set-other, ext-getD}
+use lib.ListN.{length, getD, take, drop, replicate, length-replicate, getD-replicate, length-take, length-drop, replicate-append-replicate, List·getD-eq-default}
+use lib.Seq.{getD-take, getD-drop, ext-getD}
 use Rattle.graph.specs.Sessions.{fresh}
+use Rattle.text.specs.Text.{pasted}
+use Rattle.records.specs.declared.head.Head.{Head}
 use Rattle.records.specs.Bytes.{allZero}
 use Rattle.records.specs.Records.{encodeHead}
 use Rattle.records.proofs.Zeros.{zeros, all-zeros}
@@ -39,21 +41,23 @@ module _ (s : List ℕ) where
 pub refuses : {P : Type 0} → (P → ⊥) → Decides P false
 refuses f = record { sound = λ e. absurd (true≢false (sym e)); complete = λ p. absurd (f p) }
 
--- OPENING
-fresh-bytes : encode fresh ≡ 1 ∷ replicate 4111 0
-unfolding encode imageOf encodeHead
-fresh-bytes =
-    ap (λ (l : List ℕ). encodeHead (record { nodes = 0; ops = 0; results = 0; last = 0 }) ++ (replicate 1024 0 ++ l)) (replicate-append-replicate 2048 1024 0)
-    ∙ ap (λ (l : List ℕ). encodeHead (record { nodes = 0; ops = 0; results = 0; last = 0 }) ++ l) (replicate-append-replicate 1024 3072 0)
-    ∙ ap (λ (l : List ℕ). 1 ∷ l) (replicate-append-replicate 15 4096 0)
+-- OPENING: the head of no nodes, operations and results, and zeros
+abbrev pub freshHead : Head
+freshHead = record { nodes = 0; ops = 0; results = 0; last = 0 }
 
-pub opened : (s t : List ℕ) → length s ≡ 4112 → Cleared 0 4112 s t → set t 0 1 ≡ encode fresh
+fresh-bytes : encode fresh ≡ encodeHead freshHead ++ replicate 4096 0
+unfolding encode imageOf
+fresh-bytes =
+    ap (λ (l : List ℕ). encodeHead freshHead ++ (replicate 1024 0 ++ l)) (replicate-append-replicate 2048 1024 0)
+    ∙ ap (λ (l : List ℕ). encodeHead freshHead ++ l) (replicate-append-replicate 1024 3072 0)
+
+pub opened : (s t : List ℕ) → length s ≡ 4112 → Cleared 16 4112 s t → pasted t 0 (encodeHead freshHead) ≡ encode fresh
+unfolding pasted encodeHead
 opened s t h c =
-    ext-getD 0 (set t 0 1) (1 ∷ replicate 4111 0) (length-set t 0 1 ∙ c .size ∙ h ∙ ap suc (sym (length-replicate {A = ℕ} 4111 0))) go
+    ap (λ (l : List ℕ). encodeHead freshHead ++ l) (ext-getD 0 (drop 16 t) (replicate 4096 0) (omega (arith, length-drop 16 t, c .size, length-replicate {A = ℕ} 4096 0)) go)
     ∙ sym fresh-bytes
   where
-    go : (i : ℕ) → i < length (set t 0 1) → getD (set t 0 1) i 0 ≡ getD (1 ∷ replicate 4111 0) i 0
-    go zero l = getD-set-same t 0 1 0 (omega (arith, c .size))
-    go (suc i) l =
-        let k : suc i < 4112 = omega (arith, c .size, length-set t 0 1) in
-        getD-set-other t 0 (suc i) 1 0 (λ e. omega arith) ∙ c .zeros (suc i) (omega arith) k ∙ sym (getD-replicate 4111 i 0 0 (omega arith))
+    go : (i : ℕ) → i < length (drop 16 t) → getD (drop 16 t) i 0 ≡ getD (replicate 4096 0) i 0
+    go i l =
+        let k : i < 4096 = omega (arith, length-drop 16 t, c .size) in
+        getD-drop 16 t i 0 ∙ c .zeros (16 + i) (omega arith) (omega arith) ∙ sym (getD-replicate 4096 i 0 0 k)

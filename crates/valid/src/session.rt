@@ -6,6 +6,9 @@ use crate::rows::results_ok;
 use crate::spaces::is_canonical;
 use crate::spaces::is_sound;
 use image::shift::clear;
+use records::head::Head;
+use records::head::head_bytes;
+use text::put::put_bytes;
 ghost use Rattle.valid.specs.Exact.{Exact, Opened};
 
 // Whether the bytes are the image of a valid session: where they are not, that is refusal 2 (a wrong length is refusal 1).
@@ -37,7 +40,13 @@ pub fn open(image: &mut [u8]) -> bool
     if image.len() != 4112 {
         return false;
     }
-    clear(image, 0, 4112);
-    image[0] = 1;
+    clear(image, 16, 4112);
+    let head = head_bytes(Head {
+        nodes: 0,
+        ops: 0,
+        results: 0,
+        last: 0,
+    });
+    put_bytes(image, 0, &head);
     true
 }
