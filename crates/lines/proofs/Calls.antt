@@ -1,26 +1,27 @@
 -- Call lines: their grammar, their forms, and the answer to each form.
 -- Assumes nothing.
-use Prim.Native.Nat.{ℕ, _<_, _≤_}
-use mathlib.Core.Path.{_≡_, refl, sym, ap, _∙_}
+use Prim.Native.Nat.{ℕ, _<_, _≤_, _^_}
+use mathlib.Core.Path.{_≡_, refl, sym, ap, subst, _∙_}
 use mathlib.Core.Bool.{Bool, true, false, cond, false≢true, _&&_}
-use mathlib.Core.List.{List, _++_}
+use mathlib.Core.List.{List, [], _∷_, _++_}
+use mathlib.Core.Logic.{inl, inr}
 use native.Mathlib.Omega.{arith}
 use borrow.Author.Tests.{le-leb, lt-leb}
 use lib.Dec.{eqb, leb}
 use lib.ListN.{length, getD}
 use Rattle.graph.specs.Calls.{Call, add, map, link, unlink, sum, top, pick, near, operandsOf, targetsOf, areWords}
-use Rattle.graph.specs.KeyLists.{areKeys, rising}
+use Rattle.graph.specs.KeyLists.{isKey, areKeys, rising}
 use Rattle.graph.specs.Packed.{listed, packed}
 use Rattle.text.specs.Text.{ascii}
 use Rattle.text.proofs.Splits.{cleanTest, clean-by}
 use Rattle.lines.specs.Forms.{callText, callNumbers}
-use Rattle.lines.specs.Answers.{callLine, refusedCall, callRead, callAnswer, callForm}
-use Rattle.lines.specs.Reads.{KeysOf, Tailed, Spare, callWord, callLiterals, callListed, keyOk, CallMade}
+use Rattle.lines.specs.Answers.{Reads, callLine, refusedCall, callRead, callAnswer, callForm}
+use Rattle.lines.specs.Reads.{Below, KeysOf, Held, Tailed, Spare, ValuesOf, callWord, callLiterals, callListed, CallAfter, Links, Starts, callMade}
 use Rattle.lines.specs.declared.call.CallKind.{CallKind}
 use Rattle.lines.specs.declared.call.CallKind.the-variants.{Add, Map, Link, Unlink, Sum, Top, Pick, Near}
 use Rattle.lines.specs.declared.call.CallLine.{CallLine}
-use Rattle.lines.specs.declared.fields.Fields.{Fields}
-use Rattle.lines.proofs.KeyLists.{rising-keys}
+use Rattle.lines.specs.declared.keylist.KeyList.{KeyList}
+use Rattle.lines.proofs.KeyLists.{rising-keys, below-words}
 use Rattle.lines.proofs.Words.{KindOf, Grammar, Parts, PartsOf, Made, Forms, unique}
 
 -- ---- the grammar
@@ -113,90 +114,126 @@ call-forms =
 pub call-unique : (f g : Call) → callText f ≡ callText g → f ≡ g
 call-unique = unique call-forms
 
--- ---- the answer
-
--- the form's own tests, in their order
-tested : (f : Call) (a b : Bool) → areWords (callNumbers f) ≡ true → areKeys (operandsOf f ++ targetsOf f) ≡ a → leb (length (targetsOf f)) 8 && rising (targetsOf f) ≡ b
-    → callAnswer f ≡ cond a (cond b (callRead f) (refusedCall 12)) (refusedCall 11)
-tested f true true w ea eb = rw (w, ea, eb)
-tested f true false w ea eb = rw (w, ea, eb)
-tested f false b w ea eb = rw (w, ea)
-
--- the call that these numbers and targets are
-record Formed (k : CallKind) (x y : ℕ) (ts : List ℕ) : Type 0 where
-  keys : areKeys (operandsOf (callForm k x y ts) ++ targetsOf (callForm k x y ts)) ≡ keyOk k x && areKeys ts
-  targets : targetsOf (callForm k x y ts) ≡ ts
-  value : callRead (callForm k x y ts) ≡ callLine k x y ts
-
-formed : (k : CallKind) (x y z : ℕ) (ts : List ℕ) → Tailed (callListed k) ts → Spare (callLiterals k) x y z → Formed k x y ts
-formed Add x y z ts t s = record { keys = rw t; targets = sym t; value = rw (t, s .0) }
-formed Map x y z ts t s = record { keys = refl; targets = refl; value = refl }
-formed Link x y z ts t s = record { keys = refl; targets = refl; value = rw (s .0) }
-formed Unlink x y z ts t s = record { keys = refl; targets = refl; value = rw (s .0) }
-formed Sum x y z ts t s = record { keys = refl; targets = refl; value = rw (s .0) }
-formed Top x y z ts t s = record { keys = refl; targets = refl; value = rw (s .0) }
-formed Pick x y z ts t s = record { keys = refl; targets = refl; value = rw (s .0) }
-formed Near x y z ts t s = record { keys = refl; targets = refl; value = refl }
-
 -- a call's value by its parts
+value-of : (k : CallKind) (x y z : ℕ) (ts : List ℕ) → Tailed (callListed k) ts → Spare (callLiterals k) x y z → callRead (callForm k x y ts) ≡ callLine k x y ts
+value-of Add x y z ts t s = rw (t, s .0)
+value-of Map x y z ts t s = refl
+value-of Link x y z ts t s = rw (s .0)
+value-of Unlink x y z ts t s = rw (s .0)
+value-of Sum x y z ts t s = rw (s .0)
+value-of Top x y z ts t s = rw (s .0)
+value-of Pick x y z ts t s = rw (s .0)
+value-of Near x y z ts t s = refl
+
 pub call-value : (f : Call) → callRead f ≡ callLine (callRead f .kind) (callRead f .x) (callRead f .y) (targetsOf f)
 unfolding calls
 call-value f =
     let p = parts f in
-    ap callRead (sym (p .back)) ∙ formed (callRead f .kind) (callRead f .x) (callRead f .y) 0 (targetsOf f) (p .unused .1) (p .unused .0) .value
+    ap callRead (sym (p .back)) ∙ value-of (callRead f .kind) (callRead f .x) (callRead f .y) 0 (targetsOf f) (p .unused .1) (p .unused .0)
 
-module _ (k : CallKind) (f : Fields) (r : CallLine) where
-  -- the answer by its two tests, whatever their outcome
-  made-by : (a b : Bool) → ((ts : List ℕ) → KeysOf ts (f .to) → keyOk k (f .x) && areKeys ts ≡ a)
-      → ((ts : List ℕ) → KeysOf ts (f .to) → a ≡ true → leb (length ts) 8 && rising ts ≡ b)
-      → ((ts : List ℕ) → KeysOf ts (f .to) → a ≡ true → b ≡ true → r ≡ callLine k (f .x) (f .y) ts)
-      → (a ≡ true → b ≡ false → r ≡ refusedCall 12) → (a ≡ false → r ≡ refusedCall 11) → CallMade k f r
-  made-by true true ea eb e0 e12 e11 ts p t s w =
-      let m = formed k (f .x) (f .y) (f .z) ts t s in
-      e0 ts p refl refl ∙ sym (tested (callForm k (f .x) (f .y) ts) true true w (m .keys ∙ ea ts p) (rw (m .targets) (eb ts p refl)) ∙ m .value)
-  made-by true false ea eb e0 e12 e11 ts p t s w =
-      let m = formed k (f .x) (f .y) (f .z) ts t s in
-      e12 refl refl ∙ sym (tested (callForm k (f .x) (f .y) ts) true false w (m .keys ∙ ea ts p) (rw (m .targets) (eb ts p refl)))
-  made-by false b ea eb e0 e12 e11 ts p t s w =
-      let m = formed k (f .x) (f .y) (f .z) ts t s in
-      e11 refl ∙ sym (tested (callForm k (f .x) (f .y) ts) false _ w (m .keys ∙ ea ts p) refl)
+-- ---- the answer
 
-  pub made-key : keyOk k (f .x) ≡ false → r ≡ refusedCall 11 → CallMade k f r
-  made-key e h = made-by false false (λ ts p. rw e) (λ ts p z. absurd (false≢true z)) (λ ts p z. absurd (false≢true z)) (λ z. absurd (false≢true z)) (λ z. h)
+-- the form's own tests, in their order
+by-tests : (f : Call) (a b : Bool) → areWords (callNumbers f) ≡ true → areKeys (operandsOf f ++ targetsOf f) ≡ a → leb (length (targetsOf f)) 8 && rising (targetsOf f) ≡ b
+    → callAnswer f ≡ cond a (cond b (callRead f) (refusedCall 12)) (refusedCall 11)
+by-tests f true true w ea eb = rw (w, ea, eb)
+by-tests f true false w ea eb = rw (w, ea, eb)
+by-tests f false b w ea eb = rw (w, ea)
 
-  module _ (key : keyOk k (f .x) ≡ true) where
-    pub made-targets : f .to .keys ≡ false → r ≡ refusedCall 11 → CallMade k f r
-    made-targets e h = made-by false false (λ ts p. rw (key, ← p .keys, e)) (λ ts p z. absurd (false≢true z)) (λ ts p z. absurd (false≢true z)) (λ z. absurd (false≢true z)) (λ z. h)
+-- the answer to a call of 32-bit numbers
+answered : (f : Call) → Below (callNumbers f) → callAnswer f ≡ cond (areKeys (operandsOf f ++ targetsOf f)) (cond (leb (length (targetsOf f)) 8 && rising (targetsOf f)) (callRead f) (refusedCall 12)) (refusedCall 11)
+answered f w = by-tests f (areKeys (operandsOf f ++ targetsOf f)) (leb (length (targetsOf f)) 8 && rising (targetsOf f)) (below-words (callNumbers f) w) refl refl
 
-    module _ (keys : f .to .keys ≡ true) where
-      all : (ts : List ℕ) → KeysOf ts (f .to) → keyOk k (f .x) && areKeys ts ≡ true
-      all ts p = rw (key, ← p .keys, keys)
+-- what an answer by targets is, where there is a key before them
+abbrev keyed : Bool → CallKind → ℕ → ℕ → List ℕ → CallLine
+keyed b k x y ts = cond (b && areKeys ts) (cond (leb (length ts) 8 && rising ts) (callLine k x y ts) (refusedCall 12)) (refusedCall 11)
 
-      unsorted : ((ts : List ℕ) → KeysOf ts (f .to) → leb (length ts) 8 && rising ts ≡ false) → r ≡ refusedCall 12 → CallMade k f r
-      unsorted e h =
-          made-by true false all (λ ts p z. e ts p) (λ ts p z y. absurd (false≢true y)) (λ z y. h) (λ z. absurd (false≢true (sym z)))
+pub add-answer : (value : ℕ) → value < 2 ^ 32 → callLine Add value 0 [] ≡ callAnswer (add value)
+add-answer value h = sym (answered (add value) (h, tt))
 
-      pub made-many : 8 < f .to .count → r ≡ refusedCall 12 → CallMade k f r
-      made-many e = unsorted (λ ts p. rw (lt-leb (length ts) 8 (omega (arith, p .count))))
+pub map-answer : (a b : ℕ) (ts : List ℕ) → a < 2 ^ 32 → b < 2 ^ 32 → Below ts → callMade Map a b ts ≡ callAnswer (map a b ts)
+map-answer a b ts ha hb h = sym (answered (map a b ts) (ha, (hb, h)))
 
-      rising-is : (ts : List ℕ) → KeysOf ts (f .to) → rising ts ≡ f .to .rising
-      rising-is ts p = rising-keys ts (sym (p .keys) ∙ keys) ∙ sym (p .rising)
+module _ (key start : ℕ) (ts : List ℕ) (hk : key < 2 ^ 32) (hs : start < 2 ^ 32) (h : Below ts) where
+  near-by : (b : Bool) → isKey key ≡ b → keyed b Near key start ts ≡ callAnswer (near key start ts)
+  near-by b e = ap (λ (x : Bool). keyed x Near key start ts) (sym e) ∙ sym (answered (near key start ts) (hs, (hk, h)))
 
-      module _ (few : f .to .count ≤ 8) where
-        short : (ts : List ℕ) → KeysOf ts (f .to) → leb (length ts) 8 ≡ true
-        short ts p = le-leb (length ts) 8 (omega (arith, p .count))
+  pub near-answer : isKey key ≡ true → callMade Near key start ts ≡ callAnswer (near key start ts)
+  near-answer = near-by true
 
-        pub made-unsorted : f .to .rising ≡ false → r ≡ refusedCall 12 → CallMade k f r
-        made-unsorted e = unsorted (λ ts p. rw (short ts p, rising-is ts p, e))
+  pub near-refused : isKey key ≡ false → refusedCall 11 ≡ callAnswer (near key start ts)
+  near-refused = near-by false
 
-        pub made-call : f .to .rising ≡ true → r ≡ record { refusal = 0; kind = k; x = f .x; y = f .y; to = record { count = f .to .count; key = f .to .key } } → CallMade k f r
-        unfolding packed
-        made-call e h =
-            made-by true true all (λ ts p z. rw (short ts p, rising-is ts p, e))
-            (λ ts p z y.
-            let n : f .to .count ≡ length ts = omega (arith, p .count) in
-            let l = p .held (sym (p .keys) ∙ keys) (omega arith) in
-            h ∙ (λ i. record { refusal = 0; kind = k; x = f .x; y = f .y; to = record { count = n i; key = l i } }))
-            (λ z y. absurd (false≢true (sym y))) (λ z. absurd (false≢true (sym z)))
+-- what holds of each of the kinds with a key, or with a start, holds of such a kind
+links : (P : CallKind → Type 0) → P Link → P Unlink → (k : CallKind) → Links k → P k
+links P l u k (inl e) = subst P (sym e) l
+links P l u k (inr e) = subst P (sym e) u
 
--- ---- what an answer with refusal 0 holds
+starts : (P : CallKind → Type 0) → P Sum → P Top → P Pick → (k : CallKind) → Starts k → P k
+starts P s t p k (inl e) = subst P (sym e) s
+starts P s t p k (inr (inl e)) = subst P (sym e) t
+starts P s t p k (inr (inr e)) = subst P (sym e) p
+
+-- after a word, by the one literal of these kinds
+abbrev OneField : List ℕ → List ℕ → CallLine → CallKind → Type 0
+OneField literal l r k = Reads (ValuesOf (literal ∷ []) true l) (λ v. callAnswer (callForm k (v .x) (v .y) (v .to))) (refusedCall 10) r → CallAfter k l r
+
+module _ (k : CallKind) (is : Links k) where
+  pub link-after : {l : List ℕ} {r : CallLine} → OneField (ascii " key=") l r k
+  link-after {l} {r} = links (OneField (ascii " key=") l r) (λ h. h) (λ h. h) k is
+
+  module _ (key : ℕ) (ts : List ℕ) (hk : key < 2 ^ 32) (h : Below ts) where
+    link-by : (b : Bool) → isKey key ≡ b → keyed b k key 0 ts ≡ callAnswer (callForm k key 0 ts)
+    link-by b e =
+        ap (λ (x : Bool). keyed x k key 0 ts) (sym e)
+        ∙ links (λ (j : CallKind). keyed (isKey key) j key 0 ts ≡ callAnswer (callForm j key 0 ts)) (sym (answered (link key ts) (hk, h))) (sym (answered (unlink key ts) (hk, h))) k is
+
+    pub link-answer : isKey key ≡ true → callMade k key 0 ts ≡ callAnswer (callForm k key 0 ts)
+    link-answer = link-by true
+
+    pub link-refused : isKey key ≡ false → refusedCall 11 ≡ callAnswer (callForm k key 0 ts)
+    link-refused = link-by false
+
+module _ (k : CallKind) (is : Starts k) where
+  pub start-after : {l : List ℕ} {r : CallLine} → OneField (ascii " start=") l r k
+  start-after {l} {r} = starts (OneField (ascii " start=") l r) (λ h. h) (λ h. h) (λ h. h) k is
+
+  pub start-answer : (start : ℕ) (ts : List ℕ) → start < 2 ^ 32 → Below ts → callMade k start 0 ts ≡ callAnswer (callForm k start 0 ts)
+  start-answer start ts hs h =
+      starts (λ (j : CallKind). callMade j start 0 ts ≡ callAnswer (callForm j start 0 ts))
+      (sym (answered (sum start ts) (hs, h))) (sym (answered (top start ts) (hs, h))) (sym (answered (pick start ts) (hs, h))) k is
+
+-- ---- the answer by the targets
+
+module _ (k : CallKind) (x y : ℕ) (list : KeyList) (key : List ℕ) (ts : List ℕ) (p : KeysOf ts list) (h : Held ts key) where
+  by-keys : (a b : Bool) {r : CallLine} → list .keys ≡ a → (a ≡ true → leb (length ts) 8 && rising ts ≡ b)
+      → r ≡ cond a (cond b (callLine k x y ts) (refusedCall 12)) (refusedCall 11) → r ≡ callMade k x y ts
+  by-keys true b e f q = q ∙ sym (rw (← p .keys, e, f refl))
+  by-keys false b e f q = q ∙ sym (rw (← p .keys, e))
+
+  pub made-targets : {r : CallLine} → list .keys ≡ false → r ≡ refusedCall 11 → r ≡ callMade k x y ts
+  made-targets e = by-keys false false e (λ z. absurd (false≢true z))
+
+  module _ (keys : list .keys ≡ true) where
+    unsorted : {r : CallLine} → leb (length ts) 8 && rising ts ≡ false → r ≡ refusedCall 12 → r ≡ callMade k x y ts
+    unsorted e = by-keys true false keys (λ z. e)
+
+    pub made-many : {r : CallLine} → 8 < list .count → r ≡ refusedCall 12 → r ≡ callMade k x y ts
+    made-many e = unsorted (rw (lt-leb (length ts) 8 (omega (arith, p .count))))
+
+    rising-is : rising ts ≡ list .rising
+    rising-is = rising-keys ts (sym (p .keys) ∙ keys) ∙ sym (p .rising)
+
+    module _ (few : list .count ≤ 8) where
+      short : leb (length ts) 8 ≡ true
+      short = le-leb (length ts) 8 (omega (arith, p .count))
+
+      pub made-unsorted : {r : CallLine} → list .rising ≡ false → r ≡ refusedCall 12 → r ≡ callMade k x y ts
+      made-unsorted e = unsorted (rw (short, rising-is, e))
+
+      pub made-call : list .rising ≡ true → record { refusal = 0; kind = k; x = x; y = y; to = record { count = list .count; key = key } } ≡ callMade k x y ts
+      unfolding packed
+      made-call e =
+          let n : list .count ≡ length ts = omega (arith, p .count) in
+          let l = h (sym (p .keys) ∙ keys) (omega arith) in
+          by-keys true true keys (λ z. rw (short, rising-is, e)) (λ i. record { refusal = 0; kind = k; x = x; y = y; to = record { count = n i; key = l i } })

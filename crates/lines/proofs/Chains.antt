@@ -1,8 +1,8 @@
 -- A field, and what stands after it.
 -- Assumes nothing.
-use Prim.Native.Nat.{ℕ, _+_, _<_, _≤_}
-use mathlib.Core.Path.{_≡_, refl, sym, ap, _∙_}
-use mathlib.Core.Bool.{Bool, true, false, false≢true}
+use Prim.Native.Nat.{ℕ, _+_, _<_, _≤_, _^_}
+use mathlib.Core.Path.{_≡_, refl, sym, ap, subst, _∙_}
+use mathlib.Core.Bool.{Bool, true, false}
 use mathlib.Core.List.{List, [], _∷_, _++_, append-nil}
 use native.Mathlib.Omega.{arith}
 use lib.ListN.{length, drop, length-drop, drop-of-length-le}
@@ -12,11 +12,13 @@ use Rattle.text.specs.declared.cut.Place.the-variants.{At, Missing}
 use Rattle.text.specs.declared.number.Number.the-variants.{Is as NumberIs, Not as NumberNot}
 use Rattle.text.proofs.Splits.{Part, part, part-is, cancel, decimal-clean, same-number}
 use Rattle.text.proofs.Lists.{commas-clean}
-use Rattle.lines.specs.Reads.{KeysOf, ListOf, FieldOf, TailOf, FieldsOf, tailText, fieldsText, Spare, Literals}
+use Rattle.lines.specs.Forms.{targets}
+use Rattle.lines.specs.Answers.{Reads, form, other}
+use Rattle.lines.specs.Reads.{Below, KeysOf, Held, TargetsOf, FieldOf, tailText, fieldsText, Spare, Literals, Values, ValuesOf}
 use Rattle.lines.specs.declared.fields.Field.the-variants.{Is, Not}
-use Rattle.lines.specs.declared.fields.Fields.{Fields}
 use Rattle.lines.specs.declared.keylist.KeyList.{KeyList}
-use Rattle.lines.proofs.KeyLists.{outcome-yes, outcome-no}
+use Rattle.lines.specs.declared.keylist.Targets.{Targets}
+use Rattle.lines.specs.declared.keylist.Targets.the-variants.{Are, Not as AreNot}
 
 -- ---- a number after a literal
 
@@ -42,43 +44,26 @@ module _ (s : List ℕ) (at : ℕ) (literal : List ℕ) where
       value .gap,
     )
 
--- ---- the tail
+-- ---- the targets
 
-module _ (s : List ℕ) (at : ℕ) (k : KeyList) where
-  pub tail-more : (listed : Bool) → listed ≡ false → at < length s → k .ok ≡ false → TailOf listed (drop at s) k
-  tail-more true l h e = absurd (false≢true (sym l))
-  tail-more false l h e = outcome-no _ e (λ ts b eq. omega (arith, ap length eq, length-drop at s))
-
-  pub tail-end : (listed : Bool) → listed ≡ false → length s ≤ at → k .ok ≡ true → KeysOf [] k → TailOf listed (drop at s) k
-  tail-end true l h e p = absurd (false≢true (sym l))
-  tail-end false l h e p = outcome-yes _ e ([], tt, drop-of-length-le s h, p, refl)
-
-  pub tail-missing : (listed : Bool) → listed ≡ true → PlaceOf s at (ascii " to=") Missing → k .ok ≡ false → TailOf listed (drop at s) k
-  tail-missing true l p e = outcome-no _ e (λ ts b eq. p (commas ts) eq)
-  tail-missing false l p e = absurd (false≢true l)
+module _ (s : List ℕ) (at : ℕ) where
+  pub targets-missing : PlaceOf s at (ascii " to=") Missing → (ts : List ℕ) → Below ts → drop at s ≡ targets ts → ⊥
+  targets-missing p ts b eq = p (commas ts) eq
 
   module _ (n : ℕ) (p : PlaceOf s at (ascii " to=") (At n)) where
-    list : Part 32 s n
-    list = part 32 s n (p .0)
-
     -- a list of numbers holds no space
-    whole : (ts : List ℕ) → drop at s ≡ ascii " to=" ++ commas ts → upTo 32 (drop n s) ≡ commas ts
+    whole : (ts : List ℕ) → drop at s ≡ targets ts → upTo 32 (drop n s) ≡ commas ts
     whole ts e =
         part-is 32 (drop n s) (commas ts) [] (cancel (ascii " to=") (drop n s) (commas ts) (sym (p .1) ∙ e) ∙ sym (append-nil (commas ts))) (commas-clean 32 (omega arith) ts) tt
 
-    pub tail-parted : (listed : Bool) → listed ≡ true → n + length (upTo 32 (drop n s)) < length s → k .ok ≡ false → TailOf listed (drop at s) k
-    tail-parted true l h e =
-        outcome-no _ e (λ ts b eq. omega (arith, p .0, length-drop n s, ap length (whole ts eq), ap length (cancel (ascii " to=") (drop n s) (commas ts) (sym (p .1) ∙ eq))))
-    tail-parted false l h e = absurd (false≢true l)
+    pub targets-parted : n + length (upTo 32 (drop n s)) < length s → (ts : List ℕ) → Below ts → drop at s ≡ targets ts → ⊥
+    targets-parted h ts b eq = omega (arith, p .0, length-drop n s, ap length (whole ts eq), ap length (cancel (ascii " to=") (drop n s) (commas ts) (sym (p .1) ∙ eq)))
 
-    pub tail-list : (listed : Bool) → listed ≡ true → length s ≤ n + length (upTo 32 (drop n s)) → ListOf (upTo 32 (drop n s)) k → TailOf listed (drop at s) k
-    tail-list true l h o =
-        let all : drop n s ≡ upTo 32 (drop n s) = list .text ∙ ap (λ (r : List ℕ). upTo 32 (drop n s) ++ r) (drop-of-length-le s h) ∙ append-nil (upTo 32 (drop n s)) in
-        record {
-          yes = λ e. let t = o .yes e in (t .0, t .1, p .1 ∙ ap (λ (r : List ℕ). ascii " to=" ++ r) (all ∙ t .2), t .3, tt);
-          no = λ e ts b eq. o .no e ts b (whole ts eq);
-        }
-    tail-list false l h o = absurd (false≢true l)
+    pub targets-list : length s ≤ n + length (upTo 32 (drop n s)) → (answer : Targets) (key : List ℕ) → TargetsOf commas (upTo 32 (drop n s)) answer key → TargetsOf targets (drop at s) answer key
+    targets-list h (Are k) key t =
+        let all : drop n s ≡ upTo 32 (drop n s) = part 32 s n (p .0) .text ∙ ap (λ (r : List ℕ). upTo 32 (drop n s) ++ r) (drop-of-length-le s h) ∙ append-nil (upTo 32 (drop n s)) in
+        (t .0, t .1, p .1 ∙ ap (λ (r : List ℕ). ascii " to=" ++ r) (all ∙ t .2), t .3, t .4)
+    targets-list h AreNot key never = λ ts b eq. never ts b (whole ts eq)
 
 -- ---- numbers one after another
 
@@ -96,37 +81,57 @@ pub literals-after : (a : List ℕ) (others : List (List ℕ)) → Literals (a �
 literals-after [] others h = absurd h
 literals-after (c ∷ cs) others h = h .1
 
-pub no-fields-after : (listed : Bool) (s : List ℕ) (at : ℕ) (r : Fields) → TailOf listed (drop at s) (r .to) → r .ok ≡ r .to .ok → r .x ≡ 0 → r .y ≡ 0 → r .z ≡ 0 → FieldsOf [] listed (drop at s) r
-no-fields-after listed s at r o ok ex ey ez =
-    record {
-      yes = λ e. let t = o .yes (sym ok ∙ e) in (t .0, t .1, t .2, t .3, t .4, (ex, ey, ez));
-      no = λ e x y z ts hx hy hz b eq. o .no (sym ok ∙ e) ts b eq;
-    }
+-- ---- the answer, by what was read of the fields: each law goes from the fields after one to the fields with it
 
-module _ (a : List ℕ) (more : List (List ℕ)) (gaps : Literals more) (listed : Bool) (s : List ℕ) (at : ℕ) where
-  pub no-field : (r : Fields) → r .ok ≡ false → FieldOf s at a Not → FieldsOf (a ∷ more) listed (drop at s) r
-  no-field r ok f = outcome-no _ ok (λ x y z ts hx hy hz b e. f x _ hx (fields-gap more gaps listed y z 0 ts) e)
+-- a number before the others
+abbrev before : ℕ → Values → Values
+before x v = record { x = x; y = v .x; z = v .y; to = v .to }
 
-  -- what is read of the rest, with the number before it; the rest has at most two numbers
-  pub chain : (x n : ℕ) (q r : Fields) → FieldOf s at a (Is x n) → FieldsOf more listed (drop n s) q
-      → (Spare more (q .x) (q .y) (q .z) → q .z ≡ 0)
-      → r .ok ≡ q .ok → r .x ≡ x → r .y ≡ q .x → r .z ≡ q .y → r .to ≡ q .to
-      → FieldsOf (a ∷ more) listed (drop at s) r
-  chain x n q r f o last ok ex ey ez et =
-      record {
-        yes = λ e.
-            let t = o .yes (sym ok ∙ e) in
-            let z = last (t .5) in (
-              t .0,
-              t .1,
-              f .1 ∙ ap (λ (l : List ℕ). a ++ (decimal x ++ l)) (t .2 ∙ ap (λ (k : ℕ). fieldsText more listed (q .x) (q .y) k (t .0)) z) ∙ rw (ex, ey, ez),
-              rw et (t .3),
-              t .4,
-              rw (ey, ez, ← z) (t .5),
-            );
-        no = λ e x′ y′ z′ ts hx hy hz b eq.
-            o .no (sym ok ∙ e) y′ z′ 0 ts hy hz (omega arith) b
-            (same-number 32 (omega arith) x x′ (drop n s) (fieldsText more listed y′ z′ 0 ts)
-            (cancel a (decimal x ++ drop n s) (decimal x′ ++ fieldsText more listed y′ z′ 0 ts) (sym (f .1) ∙ eq))
-            (f .2) (fields-gap more gaps listed y′ z′ 0 ts) .1);
-      }
+abbrev pub only : List ℕ → Values
+only ts = record { x = 0; y = 0; z = 0; to = ts }
+
+module _ {R : Type 0} {ten r : R} (s : List ℕ) (at : ℕ) (answer : Values → R) where
+  -- the line's end
+  pub end-not : at < length s → r ≡ ten → Reads (ValuesOf [] false (drop at s)) answer ten r
+  end-not h = other (λ v i. omega (arith, ap length (i .same), length-drop at s))
+
+  pub end-is : length s ≤ at → r ≡ answer (only []) → Reads (ValuesOf [] false (drop at s)) answer ten r
+  end-is h = form (only []) (record { small = (omega arith, omega arith, omega arith, tt); spare = (refl, refl, refl); tailed = refl; same = drop-of-length-le s h })
+
+  pub targets-not : ((ts : List ℕ) → Below ts → drop at s ≡ targets ts → ⊥) → r ≡ ten → Reads (ValuesOf [] true (drop at s)) answer ten r
+  targets-not never = other (λ v i. never (v .to) (i .small .3) (i .same))
+
+  pub targets-are : {k : KeyList} {key : List ℕ} → TargetsOf targets (drop at s) (Are k) key → ((ts : List ℕ) → Below ts → KeysOf ts k → Held ts key → r ≡ answer (only ts))
+      → Reads (ValuesOf [] true (drop at s)) answer ten r
+  targets-are t made =
+      form (only (t .0)) (record { small = (omega arith, omega arith, omega arith, t .1); spare = (refl, refl, refl); tailed = tt; same = t .2 }) (made (t .0) (t .1) (t .3) (t .4))
+
+  -- a field, and those after it
+  module _ {listed : Bool} (a : List ℕ) (more : List (List ℕ)) (gaps : Literals more) where
+    pub field-not : FieldOf s at a Not → r ≡ ten → Reads (ValuesOf (a ∷ more) listed (drop at s)) answer ten r
+    field-not f = other (λ v i. f (v .x) (fieldsText more listed (v .y) (v .z) 0 (v .to)) (i .small .0) (fields-gap more gaps listed (v .y) (v .z) 0 (v .to)) (i .same))
+
+    -- there are at most two after it
+    pub field-then : (x n : ℕ) → FieldOf s at a (Is x n) → x < 2 ^ 32 → ((k l m : ℕ) → Spare more k l m → m ≡ 0)
+        → Reads (ValuesOf more listed (drop n s)) (λ v. answer (before x v)) ten r → Reads (ValuesOf (a ∷ more) listed (drop at s)) answer ten r
+    field-then x n f hx few (form v i e) =
+        let z : v .z ≡ 0 = few (v .x) (v .y) (v .z) (i .spare) in
+        form (before x v)
+        (record {
+          small = (hx, i .small .0, i .small .1, i .small .3);
+          spare = subst (Spare more (v .x) (v .y)) z (i .spare);
+          tailed = i .tailed;
+          same = f .1 ∙ ap (λ (l : List ℕ). a ++ (decimal x ++ l)) (i .same ∙ ap (λ (k : ℕ). fieldsText more listed (v .x) (v .y) k (v .to)) z);
+        })
+        e
+    field-then x n f hx few (other never e) =
+        other (λ v i. never (record { x = v .y; y = v .z; z = 0; to = v .to })
+        (record {
+          small = (i .small .1, i .small .2, omega arith, i .small .3);
+          spare = i .spare;
+          tailed = i .tailed;
+          same = same-number 32 (omega arith) x (v .x) (drop n s) (fieldsText more listed (v .y) (v .z) 0 (v .to))
+              (cancel a (decimal x ++ drop n s) (decimal (v .x) ++ fieldsText more listed (v .y) (v .z) 0 (v .to)) (sym (f .1) ∙ i .same))
+              (f .2) (fields-gap more gaps listed (v .y) (v .z) 0 (v .to)) .1;
+        }))
+        e

@@ -2,7 +2,7 @@
 -- Assumes nothing.
 use Prim.Native.Nat.{ℕ, suc, _+_, _<_, _≤_, _^_, min}
 use mathlib.Core.Path.{_≡_, refl, sym, ap, _∙_}
-use mathlib.Core.Bool.{Bool, true, false, false≢true, _&&_, and-true, and-assoc}
+use mathlib.Core.Bool.{Bool, true, _&&_, and-true, and-assoc}
 use mathlib.Core.List.{List, [], _∷_, _++_, append-nil}
 use native.Mathlib.Omega.{arith}
 use native.Mathlib.Numerals.{add-one}
@@ -21,14 +21,9 @@ use Rattle.graph.specs.Packed.{packed}
 use Rattle.graph.specs.declared.keys.Keys.{Keys}
 use Rattle.graph.proofs.KeyLaws.{packed-more}
 use Rattle.graph.proofs.Answers.{and-left, and-right}
-use Rattle.lines.specs.Reads.{Outcome, Below, lastOr, KeysOf}
+use Rattle.lines.specs.Reads.{Below, lastOr, KeysOf, Held, TargetsOf}
 use Rattle.lines.specs.declared.keylist.KeyList.{KeyList}
-
-pub outcome-yes : (b : Bool) {Y N : Type 0} → b ≡ true → Y → Outcome b Y N
-outcome-yes b e y = record { yes = λ _. y; no = λ f. absurd (false≢true (sym f ∙ e)) }
-
-pub outcome-no : (b : Bool) {Y N : Type 0} → b ≡ false → N → Outcome b Y N
-outcome-no b e n = record { yes = λ f. absurd (false≢true (sym e ∙ f)); no = λ _. n }
+use Rattle.lines.specs.declared.keylist.Targets.the-variants.{Are}
 
 -- ---- one number more
 
@@ -49,22 +44,26 @@ pub keys-more : (ts : List ℕ) (v : ℕ) (k r : KeyList) → KeysOf ts k
     → r .last ≡ v
     → r .keys ≡ k .keys && isKey v
     → r .rising ≡ k .rising && ltb (k .last) v
-    → (k .count < 8 → v ≤ 64 → r .key ≡ set (k .key) (k .count) v)
     → KeysOf (ts ++ v ∷ []) r
-keys-more ts v k r p en el ek ei es =
+keys-more ts v k r p en el ek ei =
     let len : length (ts ++ v ∷ []) ≡ length ts + 1 = length-append ts (v ∷ []) in
     record {
       count = omega (arith, p .count);
       last = el ∙ sym (lastOr-snoc 0 ts v);
       keys = ek ∙ ap (λ (b : Bool). b && isKey v) (p .keys) ∙ sym (areKeys-snoc ts v);
       rising = ei ∙ cc (p .rising, p .last, above-snoc 0 ts v);
-      held = λ a l.
-          let ab : areKeys ts && isKey v ≡ true = sym (areKeys-snoc ts v) ∙ a in
-          let v64 = leb-true v 64 (and-right (leb 1 v) (leb v 64) (and-right (areKeys ts) (isKey v) ab)) in
-          let n : k .count ≡ length ts = omega (arith, p .count) in
-          let h : k .key ≡ packed ts .key = p .held (and-left (areKeys ts) (isKey v) ab) (omega arith) in
-          es (omega arith) v64 ∙ cc (ap (λ (q : Keys). q .key) (packed-more ts v (omega arith)));
     }
+
+pub held-more : (ts : List ℕ) (v : ℕ) (k : KeyList) (key key′ : List ℕ) → KeysOf ts k → Held ts key
+    → (k .count < 8 → v ≤ 64 → key′ ≡ set key (k .count) v)
+    → Held (ts ++ v ∷ []) key′
+held-more ts v k key key′ p held es a l =
+    let len : length (ts ++ v ∷ []) ≡ length ts + 1 = length-append ts (v ∷ []) in
+    let ab : areKeys ts && isKey v ≡ true = sym (areKeys-snoc ts v) ∙ a in
+    let v64 = leb-true v 64 (and-right (leb 1 v) (leb v 64) (and-right (areKeys ts) (isKey v) ab)) in
+    let n : k .count ≡ length ts = omega (arith, p .count) in
+    let h : key ≡ packed ts .key = held (and-left (areKeys ts) (isKey v) ab) (omega arith) in
+    es (omega arith) v64 ∙ cc (ap (λ (q : Keys). q .key) (packed-more ts v (omega arith)))
 
 -- ---- a list read number by number
 
@@ -81,25 +80,25 @@ pub record Rest (l : List ℕ) : Type 0 where
   pub text : l ≡ decimal first ++ further others
 
 -- the list up to `at` is read, and what is left holds a number, if all of `s` is a list
-pub record Listing (s : List ℕ) (k : KeyList) (at : ℕ) : Type 0 where
+pub record Listing (s : List ℕ) (k : KeyList) (key : List ℕ) (at : ℕ) : Type 0 where
   pub within : at ≤ length s
-  pub ok : k .ok ≡ true
   pub read : List ℕ
   pub below : Below read
   pub text : s ≡ passed read ++ drop at s
   pub kept : KeysOf read k
+  pub held : Held read key
   pub rest : (us : List ℕ) → Below us → s ≡ commas us → Rest (drop at s)
 
-pub listing-none : (s : List ℕ) (k : KeyList) → (length s ≡ 0 → ⊥) → k .ok ≡ true → KeysOf [] k → Listing s k 0
+pub listing-none : (s : List ℕ) (k : KeyList) (key : List ℕ) → (length s ≡ 0 → ⊥) → KeysOf [] k → Held [] key → Listing s k key 0
 unfolding passed commas
-listing-none s k ne ok p =
-    record { within = omega arith; ok = ok; read = []; below = tt; text = refl; kept = p; rest = rest }
+listing-none s k key ne p h =
+    record { within = omega arith; read = []; below = tt; text = refl; kept = p; held = h; rest = rest }
   where
     rest : (us : List ℕ) → Below us → s ≡ commas us → Rest s
     rest [] b e = absurd (ne (ap length e))
     rest (u ∷ us) b e = record { first = u; others = us; small = b .0; below = b .1; text = e }
 
-module _ (s : List ℕ) (k : KeyList) (at : ℕ) (g : Listing s k at) where
+module _ (s : List ℕ) (k : KeyList) (key : List ℕ) (at : ℕ) (g : Listing s k key at) where
   here : Part 44 s at
   here = part 44 s at (g .within)
 
@@ -111,28 +110,29 @@ module _ (s : List ℕ) (k : KeyList) (at : ℕ) (g : Listing s k at) where
       let t = g .rest us b e in
       q (t .first) (t .small) (part-is 44 (drop at s) (decimal (t .first)) (further (t .others)) (t .text) (decimal-clean 44 (omega arith) (t .first)) (further-gap (t .others)))
 
-  module _ (v : ℕ) (k′ : KeyList) (small : v < 2 ^ 32) (q : upTo 44 (drop at s) ≡ decimal v) (ok′ : k′ .ok ≡ k .ok) (p : KeysOf (g .read ++ v ∷ []) k′) where
+  module _ (v : ℕ) (k′ : KeyList) (key′ : List ℕ) (small : v < 2 ^ 32) (q : upTo 44 (drop at s) ≡ decimal v) (p : KeysOf (g .read ++ v ∷ []) k′) (h : Held (g .read ++ v ∷ []) key′) where
     number : drop at s ≡ decimal v ++ drop (at + length (upTo 44 (drop at s))) s
     number = here .text ∙ ap (λ (r : List ℕ). r ++ drop (at + length (upTo 44 (drop at s))) s) q
 
-    pub list-ends : length s ≤ at + length (upTo 44 (drop at s)) → (ts : List ℕ) × Below ts × (s ≡ commas ts) × KeysOf ts k′
-    list-ends h = (
+    pub list-ends : length s ≤ at + length (upTo 44 (drop at s)) → TargetsOf commas s (Are k′) key′
+    list-ends end = (
       g .read ++ v ∷ [],
       below-snoc (g .read) v (g .below) small,
-      g .text ∙ ap (λ (r : List ℕ). passed (g .read) ++ r) (number ∙ ap (λ (r : List ℕ). decimal v ++ r) (drop-of-length-le s h) ∙ append-nil (decimal v)) ∙ passed-last (g .read) v,
+      g .text ∙ ap (λ (r : List ℕ). passed (g .read) ++ r) (number ∙ ap (λ (r : List ℕ). decimal v ++ r) (drop-of-length-le s end) ∙ append-nil (decimal v)) ∙ passed-last (g .read) v,
       p,
+      h,
     )
 
-    pub list-again : at + length (upTo 44 (drop at s)) < length s → Listing s k′ (at + length (upTo 44 (drop at s)) + 1)
+    pub list-again : at + length (upTo 44 (drop at s)) < length s → Listing s k′ key′ (at + length (upTo 44 (drop at s)) + 1)
     unfolding further
-    list-again h =
+    list-again more =
         record {
           within = omega arith;
-          ok = ok′ ∙ g .ok;
           read = g .read ++ v ∷ [];
           below = below-snoc (g .read) v (g .below) small;
           text = g .text ∙ ap (λ (r : List ℕ). passed (g .read) ++ r) (number ∙ ap (λ (r : List ℕ). decimal v ++ r) comma) ∙ passed-next (g .read) v left;
           kept = p;
+          held = h;
           rest = λ us b e. let t = g .rest us b e in next (t .others) (t .below)
               (same-number 44 (omega arith) v (t .first) (44 ∷ left) (further (t .others))
               (ap (λ (r : List ℕ). decimal v ++ r) (sym comma) ∙ sym number ∙ t .text) refl (further-gap (t .others)) .1);
@@ -144,7 +144,7 @@ module _ (s : List ℕ) (k : KeyList) (at : ℕ) (g : Listing s k at) where
         comma : drop (at + length (upTo 44 (drop at s))) s ≡ 44 ∷ left
         comma =
             let j = at + length (upTo 44 (drop at s)) in
-            let d : drop j s ≡ getD s j 0 ∷ drop (suc j) s = drop-cons s j 0 h in
+            let d : drop j s ≡ getD s j 0 ∷ drop (suc j) s = drop-cons s j 0 more in
             let z : getD s j 0 ≡ 44 = rw d at (here .gap) in
             d ∙ rw (z, add-one)
 

@@ -1,23 +1,22 @@
 -- Step lines: their grammar, their forms, and the answer to each form.
 -- Assumes nothing.
-use Prim.Native.Nat.{ℕ, _+_}
-use mathlib.Core.Path.{_≡_, refl, sym, ap, _∙_}
-use mathlib.Core.Bool.{Bool, true, false, cond, false≢true, and-true}
+use Prim.Native.Nat.{ℕ, _+_, _<_}
+use mathlib.Core.Path.{_≡_, refl, sym, ap, subst, _∙_}
+use mathlib.Core.Bool.{Bool, true, false, cond, and-true}
 use mathlib.Core.List.{List, []}
 use native.Mathlib.Omega.{arith}
 use lib.Dec.{eqb}
-use lib.ListN.{getD}
+use lib.ListN.{length, getD}
 use Rattle.graph.specs.Steps.{admit, realise, move, finish, join, split, swap, fuse}
 use Rattle.text.specs.Text.{ascii}
 use Rattle.text.proofs.Splits.{cleanTest, clean-by}
 use Rattle.graph.specs.KeyLists.{isKey, areKeys}
 use Rattle.lines.specs.Forms.{StepForm, work, drain, stepText, stepNumbers, stepKeys}
-use Rattle.lines.specs.Answers.{stepLine, refusedStep, stepRead, stepAnswer, stepForm, stepOf}
-use Rattle.lines.specs.Reads.{Spare, stepWord, stepLiterals, hasPlace, StepMade}
+use Rattle.lines.specs.Answers.{Reads, stepLine, refusedStep, stepRead, stepAnswer, stepForm, stepOf}
+use Rattle.lines.specs.Reads.{Spare, ValuesOf, stepWord, stepLiterals, StepAfter, stepMade}
 use Rattle.lines.specs.declared.step.StepKind.{StepKind}
 use Rattle.lines.specs.declared.step.StepKind.the-variants.{Admit, Realise, Move, Finish, Join, Split, Swap, Fuse, Drain}
 use Rattle.lines.specs.declared.step.StepLine.{StepLine}
-use Rattle.lines.specs.declared.fields.Fields.{Fields}
 use Rattle.lines.proofs.Words.{KindOf, Grammar, Parts, PartsOf, Made, Forms, unique}
 
 -- ---- the grammar
@@ -123,6 +122,22 @@ step-forms =
 pub step-unique : (f g : StepForm) → stepText f ≡ stepText g → f ≡ g
 step-unique = unique step-forms
 
+-- a step's value by its parts
+value-of : (k : StepKind) (x y z : ℕ) → Spare (stepLiterals k) x y z → stepRead (stepForm k x y z) ≡ stepLine k x y z
+value-of Admit x y z s = rw (s .0, s .1, s .2)
+value-of Realise x y z s = rw (s .0, s .1)
+value-of Move x y z s = rw (s .0, s .1)
+value-of Finish x y z s = rw (s .0, s .1)
+value-of Join x y z s = rw (s .0)
+value-of Split x y z s = refl
+value-of Swap x y z s = rw (s .0)
+value-of Fuse x y z s = rw (s .0)
+value-of Drain x y z s = rw (s .0, s .1, s .2)
+
+pub step-value : (f : StepForm) → stepRead f ≡ stepLine (stepRead f .kind) (stepRead f .at) (stepRead f .unit) (stepRead f .after)
+unfolding steps
+step-value f = ap stepRead (sym (step-back f)) ∙ value-of (stepRead f .kind) (stepRead f .at) (stepRead f .unit) (stepRead f .after) (parts f .unused .0)
+
 -- ---- the answer
 
 -- the form's own test
@@ -130,35 +145,36 @@ tested : (f : StepForm) (a : Bool) → areKeys (stepKeys f) ≡ a → stepAnswer
 tested f true e = rw e
 tested f false e = rw e
 
--- the step that these numbers are
-record Formed (k : StepKind) (x y z : ℕ) : Type 0 where
-  key : hasPlace k ≡ true → areKeys (stepKeys (stepForm k x y z)) ≡ isKey x
-  free : hasPlace k ≡ false → areKeys (stepKeys (stepForm k x y z)) ≡ true
-  value : stepRead (stepForm k x y z) ≡ stepLine k x y z
+-- the key of a step that names a node
+place-of : (k : StepKind) (x y z : ℕ) → 0 < length (stepLiterals k) → areKeys (stepKeys (stepForm k x y z)) ≡ isKey x
+place-of Admit x y z h = absurd (omega arith)
+place-of Realise x y z h = and-true (isKey x)
+place-of Move x y z h = and-true (isKey x)
+place-of Finish x y z h = and-true (isKey x)
+place-of Join x y z h = and-true (isKey x)
+place-of Split x y z h = and-true (isKey x)
+place-of Swap x y z h = and-true (isKey x)
+place-of Fuse x y z h = and-true (isKey x)
+place-of Drain x y z h = absurd (omega arith)
 
-formed : (k : StepKind) (x y z : ℕ) → Spare (stepLiterals k) x y z → Formed k x y z
-formed Admit x y z s = record { key = λ h. absurd (false≢true h); free = λ h. refl; value = rw (s .0, s .1, s .2) }
-formed Realise x y z s = record { key = λ h. and-true (isKey x); free = λ h. absurd (false≢true (sym h)); value = rw (s .0, s .1) }
-formed Move x y z s = record { key = λ h. and-true (isKey x); free = λ h. absurd (false≢true (sym h)); value = rw (s .0, s .1) }
-formed Finish x y z s = record { key = λ h. and-true (isKey x); free = λ h. absurd (false≢true (sym h)); value = rw (s .0, s .1) }
-formed Join x y z s = record { key = λ h. and-true (isKey x); free = λ h. absurd (false≢true (sym h)); value = rw (s .0) }
-formed Split x y z s = record { key = λ h. and-true (isKey x); free = λ h. absurd (false≢true (sym h)); value = refl }
-formed Swap x y z s = record { key = λ h. and-true (isKey x); free = λ h. absurd (false≢true (sym h)); value = rw (s .0) }
-formed Fuse x y z s = record { key = λ h. and-true (isKey x); free = λ h. absurd (false≢true (sym h)); value = rw (s .0) }
-formed Drain x y z s = record { key = λ h. absurd (false≢true h); free = λ h. refl; value = rw (s .0, s .1, s .2) }
+pub place-answer : (k : StepKind) (literals : List (List ℕ)) (x y z : ℕ) → stepLiterals k ≡ literals → 0 < length literals → Spare literals x y z → stepMade k x y z ≡ stepAnswer (stepForm k x y z)
+place-answer k literals x y z e h s =
+    sym (tested (stepForm k x y z) (isKey x) (place-of k x y z (omega (arith, ap length e)))
+    ∙ ap (λ (l : StepLine). cond (isKey x) l (refusedStep 11)) (value-of k x y z (subst (λ (ls : List (List ℕ)). Spare ls x y z) (sym e) s)))
 
--- a step's value by its parts
-pub step-value : (f : StepForm) → stepRead f ≡ stepLine (stepRead f .kind) (stepRead f .at) (stepRead f .unit) (stepRead f .after)
-unfolding steps
-step-value f = ap stepRead (sym (step-back f)) ∙ formed (stepRead f .kind) (stepRead f .at) (stepRead f .unit) (stepRead f .after) (parts f .unused .0) .value
+pub word-answer : (k : StepKind) → stepLiterals k ≡ [] → stepLine k 0 0 0 ≡ stepAnswer (stepForm k 0 0 0)
+word-answer Admit e = refl
+word-answer Drain e = refl
+word-answer Realise e = absurd (omega (arith, ap length e))
+word-answer Move e = absurd (omega (arith, ap length e))
+word-answer Finish e = absurd (omega (arith, ap length e))
+word-answer Join e = absurd (omega (arith, ap length e))
+word-answer Split e = absurd (omega (arith, ap length e))
+word-answer Swap e = absurd (omega (arith, ap length e))
+word-answer Fuse e = absurd (omega (arith, ap length e))
 
-module _ (k : StepKind) (f : Fields) (r : StepLine) where
-  pub made-place : (b : Bool) → hasPlace k ≡ true → isKey (f .x) ≡ b → r ≡ cond b (stepLine k (f .x) (f .y) (f .z)) (refusedStep 11) → StepMade k f r
-  made-place b h e q s =
-      let m = formed k (f .x) (f .y) (f .z) s in
-      q ∙ sym (tested (stepForm k (f .x) (f .y) (f .z)) b (m .key h ∙ e) ∙ ap (λ (l : StepLine). cond b l (refusedStep 11)) (m .value))
-
-  pub made-free : hasPlace k ≡ false → r ≡ stepLine k (f .x) (f .y) (f .z) → StepMade k f r
-  made-free h q s =
-      let m = formed k (f .x) (f .y) (f .z) s in
-      q ∙ sym (tested (stepForm k (f .x) (f .y) (f .z)) true (m .free h) ∙ m .value)
+-- after a word, by the literals of its kind
+pub by-literals : (k : StepKind) (literals : List (List ℕ)) (l : List ℕ) (r : StepLine) → stepLiterals k ≡ literals
+    → Reads (ValuesOf literals false l) (λ v. stepAnswer (stepForm k (v .x) (v .y) (v .z))) (refusedStep 10) r → StepAfter k l r
+by-literals k literals l r e h =
+    subst (λ (x : List (List ℕ)). Reads (ValuesOf x false l) (λ v. stepAnswer (stepForm k (v .x) (v .y) (v .z))) (refusedStep 10) r) (sym e) h

@@ -1,36 +1,24 @@
 -- A line that begins with a head and a word, which decides the fields that follow.
 -- Assumes nothing.
-use Prim.Native.Nat.{ℕ, _<_, _^_}
+use Prim.Native.Nat.{ℕ, _+_, _<_, _^_}
 use mathlib.Core.Path.{_≡_, refl, sym, ap, subst, _∙_}
 use mathlib.Core.Bool.{Bool, true, false, false≢true}
 use mathlib.Core.List.{List, [], _∷_, _++_}
 use native.Mathlib.Omega.{arith}
-use lib.ListN.{length, drop, length-append}
+use lib.ListN.{length, drop}
 use Rattle.text.specs.Text.{upTo, decimal, ascii, commas}
-use Rattle.text.specs.Reads.{Gap}
-use Rattle.text.proofs.Splits.{Clean, split, part-is, cancel, same-number}
+use Rattle.text.specs.Reads.{PlaceOf, Gap}
+use Rattle.text.specs.declared.cut.Place.the-variants.{At, Missing}
+use Rattle.text.proofs.Splits.{Clean, part, part-is, cancel, same-number}
 use Rattle.text.proofs.Lists.{commas-inj}
-use Rattle.graph.specs.Calls.{areWords}
 use Rattle.lines.specs.Answers.{TextOf, Reads, form, other}
-use Rattle.lines.specs.Reads.{Below, KeysOf, AfterHead, found, missing, FieldsOf, tailText, Tailed, fieldsText, Spare, Literals}
-use Rattle.lines.specs.declared.fields.Fields.{Fields}
+use Rattle.lines.specs.Reads.{Below, tailText, Tailed, fieldsText, Spare, Literals, Values, ValuesOf}
 use Rattle.lines.proofs.KeyLists.{words-below, below-words}
 use Rattle.lines.proofs.Chains.{fields-gap}
 
 -- a test that is not true
 pub unlike : (b : Bool) {P : Type 0} → (P → b ≡ true) → b ≡ false → P → ⊥
 unlike b t f p = false≢true (sym f ∙ t p)
-
--- ---- what follows the head
-
-module _ {line head rest : List ℕ} where
-  pub rest-is : AfterHead line head rest → length line < 256 → (x : List ℕ) → line ≡ head ++ x → rest ≡ x
-  rest-is (found s e) short x q = cancel head rest x (sym e ∙ q)
-  rest-is (missing n e) short x q = absurd (n x short q)
-
-  pub head-found : AfterHead line head rest → 0 < length rest → (length line < 256) × (line ≡ head ++ rest)
-  head-found (found s e) h = (s, e)
-  head-found (missing n e) h = absurd (omega (arith, ap length e))
 
 -- ---- the lines of several kinds: a head, a word for each kind, and the fields after it
 
@@ -74,9 +62,9 @@ fieldsIn G p = fieldsText (G .literals (p .kind)) (G .listed (p .kind)) (p .x) (
 abbrev pub textIn : {K : Type 0} → Grammar K → Parts K → List ℕ
 textIn G p = G .head ++ (G .word (p .kind) ++ fieldsIn G p)
 
--- the line is no such text of at most 255 bytes
-abbrev Never : {K : Type 0} → Grammar K → List ℕ → Type 0
-Never {K} G line = length line < 256 → (p : Parts K) → Small p → line ≡ textIn G p → ⊥
+-- what stands after a word of this kind
+abbrev pub partsWith : {K : Type 0} → K → Values → Parts K
+partsWith k v = record { kind = k; x = v .x; y = v .y; z = v .z; to = v .to }
 
 module _ {K : Type 0} (G : Grammar K) where
   apart : (j k : K) → G .word j ≡ G .word k → j ≡ k
@@ -88,23 +76,25 @@ module _ {K : Type 0} (G : Grammar K) where
   pub word-in : (p : Parts K) (l : List ℕ) → l ≡ G .word (p .kind) ++ fieldsIn G p → upTo 32 l ≡ G .word (p .kind)
   word-in p l e = part-is 32 l (G .word (p .kind)) (fieldsIn G p) e (G .kinds (p .kind) .clean) (gap-in p)
 
-  module _ (line rest word : List ℕ) (h : AfterHead line (G .head) rest) (v : word ≡ upTo 32 rest) where
-    no-word : ((k : K) → word ≡ G .word k → ⊥) → Never G line
-    no-word n short p s e = n (p .kind) (v ∙ word-in p rest (rest-is h short (G .word (p .kind) ++ fieldsIn G p) e))
+  -- the line's word, and what stands after it
+  module _ (line : List ℕ) (n : ℕ) (h : PlaceOf line 0 (G .head) (At n)) (word : List ℕ) (v : word ≡ upTo 32 (drop n line)) where
+    rest-in : (p : Parts K) → line ≡ textIn G p → drop n line ≡ G .word (p .kind) ++ fieldsIn G p
+    rest-in p e = cancel (G .head) (drop n line) (G .word (p .kind) ++ fieldsIn G p) (sym (h .1) ∙ e)
+
+    word-is : (p : Parts K) → line ≡ textIn G p → word ≡ G .word (p .kind)
+    word-is p e = v ∙ word-in p (drop n line) (rest-in p e)
 
     module _ (k : K) (w : word ≡ G .word k) where
-      after-word : rest ≡ G .word k ++ drop (length word) rest
-      after-word = subst (λ (l : List ℕ). rest ≡ l ++ drop (length l) rest) (sym v) (split 32 rest .0) ∙ ap (λ (l : List ℕ). l ++ drop (length word) rest) w
+      after-word : drop n line ≡ G .word k ++ drop (n + length word) line
+      after-word =
+          subst (λ (l : List ℕ). drop n line ≡ l ++ drop (n + length l) line) (sym v) (part 32 line n (h .0) .text) ∙ ap (λ (l : List ℕ). l ++ drop (n + length word) line) w
 
-      headed : (length line < 256) × (line ≡ G .head ++ rest)
-      headed = head-found h (omega (arith, G .kinds k .some, ap length after-word, length-append (G .word k) (drop (length word) rest)))
-
-      no-fields : (r : Fields) → FieldsOf (G .literals k) (G .listed k) (drop (length word) rest) r → r .ok ≡ false → Never G line
-      no-fields r o bad short p s e =
-          let q : rest ≡ G .word (p .kind) ++ fieldsIn G p = rest-is h short (G .word (p .kind) ++ fieldsIn G p) e in
-          let same : p .kind ≡ k = apart (p .kind) k (sym (word-in p rest q) ∙ sym v ∙ w) in
-          let q′ : rest ≡ G .word k ++ fieldsIn G (withKind k p) = subst (λ (j : K). rest ≡ G .word j ++ fieldsIn G (withKind j p)) same q in
-          o .no bad (p .x) (p .y) (p .z) (p .to) (s .0) (s .1) (s .2) (s .3) (cancel (G .word k) (drop (length word) rest) (fieldsIn G (withKind k p)) (sym after-word ∙ q′))
+      -- the fields of a line that has this word
+      fields-are : (p : Parts K) → line ≡ textIn G p → (p .kind ≡ k) × (drop (n + length word) line ≡ fieldsIn G (withKind k p))
+      fields-are p e =
+          let same : p .kind ≡ k = apart (p .kind) k (sym (word-is p e) ∙ w) in
+          let q : drop n line ≡ G .word k ++ fieldsIn G (withKind k p) = subst (λ (j : K). drop n line ≡ G .word j ++ fieldsIn G (withKind j p)) same (rest-in p e) in
+          (same, cancel (G .word k) (drop (n + length word) line) (fieldsIn G (withKind k p)) (sym after-word ∙ q))
 
 -- ---- the text determines the kind, the numbers and the targets
 
@@ -170,30 +160,31 @@ module _ {K F : Type 0} {G : Grammar K} {text numbers : F → List ℕ} {formOf 
       ∙ ap formOf (parts-inj G (partsOf f) (partsOf g) (L .parts f .unused) (L .parts g .unused) (sym (text-of f) ∙ e ∙ text-of g))
       ∙ L .parts g .back
 
-  -- the answer, by the word after the head and the fields after the word
-  module _ {R : Type 0} (answer : F → R) (ten r : R) (line rest word : List ℕ) (h : AfterHead line (G .head) rest) (v : word ≡ upTo 32 rest) where
+  -- the answer, by the word after the head and what stands after the word
+  module _ {R : Type 0} (answer : F → R) (ten r : R) (line : List ℕ) where
     abbrev Read : Type 0
     Read = Reads (TextOf text numbers line) answer ten r
 
-    no-form : Never G line → r ≡ ten → Read
-    no-form n = other (λ f i. n (i .short) (partsOf f) (L .parts f .small (words-below (numbers f) (i .fits))) (i .same ∙ text-of f))
+    pub reads-long : 255 < length line → r ≡ ten → Read
+    reads-long l = other (λ f i. omega (arith, i .short))
 
-    pub reads-no-word : ((k : K) → word ≡ G .word k → ⊥) → r ≡ ten → Read
-    reads-no-word n = no-form (no-word G line rest word h v n)
+    pub reads-no-head : PlaceOf line 0 (G .head) Missing → r ≡ ten → Read
+    reads-no-head p = other (λ f i. p (G .word (partsOf f .kind) ++ fieldsIn G (partsOf f)) (i .same ∙ text-of f))
 
-    module _ (k : K) (w : word ≡ G .word k) (f : Fields) (o : FieldsOf (G .literals k) (G .listed k) (drop (length word) rest) f) where
-      pub reads-no-fields : f .ok ≡ false → r ≡ ten → Read
-      reads-no-fields bad = no-form (no-fields G line rest word h v k w f o bad)
+    module _ (short : length line < 256) (n : ℕ) (h : PlaceOf line 0 (G .head) (At n)) (word : List ℕ) (v : word ≡ upTo 32 (drop n line)) where
+      pub reads-no-word : ((k : K) → word ≡ G .word k → ⊥) → r ≡ ten → Read
+      reads-no-word never = other (λ f i. never (partsOf f .kind) (word-is G line n h word v (partsOf f) (i .same ∙ text-of f)))
 
-      abbrev partsWith : List ℕ → Parts K
-      partsWith ts = record { kind = k; x = f .x; y = f .y; z = f .z; to = ts }
-
-      pub reads-form : f .ok ≡ true → f .x < 2 ^ 32 → f .y < 2 ^ 32 → f .z < 2 ^ 32
-          → ((ts : List ℕ) → KeysOf ts (f .to) → Unused G (partsWith ts) → areWords (numbers (formOf (partsWith ts))) ≡ true → r ≡ answer (formOf (partsWith ts))) → Read
-      reads-form good hx hy hz made =
-          let t = o .yes good in
-          let p : Parts K = partsWith (t .0) in
-          let e = headed G line rest word h v k w in
-          let same : line ≡ textIn G p = e .1 ∙ ap (λ (l : List ℕ). G .head ++ l) (after-word G line rest word h v k w ∙ ap (λ (l : List ℕ). G .word k ++ l) (t .2)) in
-          let fits = below-words (numbers (formOf p)) (L .made p .fits (hx, hy, hz, t .1)) in
-          form (formOf p) (record { short = e .0; fits = fits; same = same ∙ L .made p .same }) (made (t .0) (t .3) (t .5, t .4) fits)
+      pub reads-after : (k : K) → word ≡ G .word k → Reads (ValuesOf (G .literals k) (G .listed k) (drop (n + length word) line)) (λ v. answer (formOf (partsWith k v))) ten r → Read
+      reads-after k w (form x i e) =
+          let p : Parts K = partsWith k x in
+          let same : line ≡ textIn G p = h .1 ∙ ap (λ (l : List ℕ). G .head ++ l) (after-word G line n h word v k w ∙ ap (λ (l : List ℕ). G .word k ++ l) (i .same)) in
+          form (formOf p) (record { short = short; fits = below-words (numbers (formOf p)) (L .made p .fits (i .small)); same = same ∙ L .made p .same }) e
+      reads-after k w (other never e) =
+          other (λ f i.
+          let p : Parts K = partsOf f in
+          let s = L .parts f .small (words-below (numbers f) (i .fits)) in
+          let a = fields-are G line n h word v k w p (i .same ∙ text-of f) in
+          let u : Unused G (withKind k p) = subst (λ (j : K). Unused G (withKind j p)) (a .0) (L .parts f .unused) in
+          never (record { x = p .x; y = p .y; z = p .z; to = p .to }) (record { small = s; spare = u .0; tailed = u .1; same = a .1 }))
+          e

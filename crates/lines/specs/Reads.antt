@@ -1,17 +1,17 @@
--- What the parts of the readers answer: a field, a list of keys, a first word, and the fields after it.
+-- What the parts of the readers answer: a field, the targets, a first word, and what follows it.
 -- Assumes nothing.
 use Prim.Native.Nat.{ℕ, _<_, _≤_, _^_, min}
-use mathlib.Core.Bool.{Bool, true, false}
+use mathlib.Core.Bool.{Bool, true, false, cond, _&&_}
 use mathlib.Core.List.{List, [], _∷_, _++_}
+use mathlib.Core.Logic.{_⊎_}
 use mathlib.Core.Path.{_≡_}
+use lib.Dec.{leb}
 use lib.ListN.{length, drop}
 use Rattle.text.specs.Text.{ascii, decimal, commas}
 use Rattle.text.specs.Reads.{Gap}
-use Rattle.graph.specs.Calls.{areWords}
-use Rattle.graph.specs.KeyLists.{isKey, areKeys, above}
+use Rattle.graph.specs.KeyLists.{isKey, areKeys, above, rising}
 use Rattle.graph.specs.Packed.{packed}
-use Rattle.lines.specs.Forms.{callNumbers}
-use Rattle.lines.specs.Answers.{callForm, callAnswer, stepForm, stepAnswer}
+use Rattle.lines.specs.Answers.{Reads, callLine, refusedCall, callForm, callAnswer, stepLine, refusedStep, stepForm, stepAnswer}
 use Rattle.lines.specs.declared.call.CallKind.{CallKind}
 use Rattle.lines.specs.declared.call.CallKind.the-variants.{Add, Map, Link, Unlink, Sum, Top, Pick, Near}
 use Rattle.lines.specs.declared.call.CallLine.{CallLine}
@@ -19,18 +19,14 @@ use Rattle.lines.specs.declared.call.CallWord.{CallWord}
 use Rattle.lines.specs.declared.call.CallWord.the-variants.{Is as CallIs, Not as CallNot}
 use Rattle.lines.specs.declared.fields.Field.{Field}
 use Rattle.lines.specs.declared.fields.Field.the-variants.{Is, Not}
-use Rattle.lines.specs.declared.fields.Fields.{Fields}
 use Rattle.lines.specs.declared.keylist.KeyList.{KeyList}
+use Rattle.lines.specs.declared.keylist.Targets.{Targets}
+use Rattle.lines.specs.declared.keylist.Targets.the-variants.{Are, Not as AreNot}
 use Rattle.lines.specs.declared.step.StepKind.{StepKind}
 use Rattle.lines.specs.declared.step.StepKind.the-variants.{Admit, Realise, Move, Finish, Join, Split, Swap, Fuse, Drain}
 use Rattle.lines.specs.declared.step.StepLine.{StepLine}
 use Rattle.lines.specs.declared.step.StepWord.{StepWord}
 use Rattle.lines.specs.declared.step.StepWord.the-variants.{Is as StepIs, Not as StepNot}
-
--- Y where the reader says that it read, N where it says that it did not
-pub record Outcome (ok : Bool) (Y N : Type 0) : Type 0 where
-  pub yes : ok ≡ true → Y
-  pub no : ok ≡ false → N
 
 -- 32-bit numbers
 abbrev pub Below : List ℕ → Type 0
@@ -43,27 +39,21 @@ abbrev pub lastOr : ℕ → List ℕ → ℕ
 lastOr d [] = d
 lastOr d (t ∷ ts) = lastOr t ts
 
--- what is kept of the list ts
+-- what is known of the list ts
 pub record KeysOf (ts : List ℕ) (k : KeyList) : Type 0 where
   pub count : k .count ≡ min (length ts) 9
   pub last : k .last ≡ lastOr 0 ts
   pub keys : k .keys ≡ areKeys ts
   pub rising : k .rising ≡ above 0 ts
-  pub held : areKeys ts ≡ true → length ts ≤ 8 → k .key ≡ packed ts .key
 
--- the bytes are the list of some 32-bit numbers, of which `k` keeps what `KeysOf` says; or they are no such list
-abbrev pub ListOf : List ℕ → KeyList → Type 0
-ListOf s k =
-    Outcome (k .ok)
-    ((ts : List ℕ) × Below ts × (s ≡ commas ts) × KeysOf ts k)
-    ((ts : List ℕ) → Below ts → s ≡ commas ts → ⊥)
+-- the array holds the list, where it is one of at most eight keys
+abbrev pub Held : List ℕ → List ℕ → Type 0
+Held ts key = areKeys ts ≡ true → length ts ≤ 8 → key ≡ packed ts .key
 
--- ---- a head
-
--- the line has at most 255 bytes, and is the head and the rest; or it is no such line, and the rest is empty
-pub data AfterHead (line head rest : List ℕ) : Type 0 where
-  found : length line < 256 → line ≡ head ++ rest → AfterHead line head rest
-  missing : ((x : List ℕ) → length line < 256 → line ≡ head ++ x → ⊥) → rest ≡ [] → AfterHead line head rest
+-- `Are k`: the bytes are the text of some 32-bit numbers, of which k is known and which the array holds. `Not`: of none
+abbrev pub TargetsOf : (List ℕ → List ℕ) → List ℕ → Targets → List ℕ → Type 0
+TargetsOf text l (Are k) key = (ts : List ℕ) × Below ts × (l ≡ text ts) × KeysOf ts k × Held ts key
+TargetsOf text l AreNot key = (ts : List ℕ) → Below ts → l ≡ text ts → ⊥
 
 -- ---- a field
 
@@ -72,7 +62,7 @@ abbrev pub FieldOf : List ℕ → ℕ → List ℕ → Field → Type 0
 FieldOf s at literal (Is v n) = (n ≤ length s) × (drop at s ≡ literal ++ (decimal v ++ drop n s)) × Gap 32 (drop n s)
 FieldOf s at literal Not = (v : ℕ) (x : List ℕ) → v < 2 ^ 32 → Gap 32 x → drop at s ≡ literal ++ (decimal v ++ x) → ⊥
 
--- ---- the fields after a word
+-- ---- what follows a word
 
 -- what ends a line: the targets, or nothing
 abbrev pub tailText : Bool → List ℕ → List ℕ
@@ -83,12 +73,6 @@ tailText false ts = []
 abbrev pub Tailed : Bool → List ℕ → Type 0
 Tailed true ts = Unit {0}
 Tailed false ts = ts ≡ []
-
-abbrev pub TailOf : Bool → List ℕ → KeyList → Type 0
-TailOf listed l k =
-    Outcome (k .ok)
-    ((ts : List ℕ) × Below ts × (l ≡ tailText listed ts) × KeysOf ts k × Tailed listed ts)
-    ((ts : List ℕ) → Below ts → l ≡ tailText listed ts → ⊥)
 
 -- literals with a number after each, and the tail
 abbrev pub fieldsText : List (List ℕ) → Bool → ℕ → ℕ → ℕ → List ℕ → List ℕ
@@ -106,12 +90,19 @@ abbrev pub Spare : List (List ℕ) → ℕ → ℕ → ℕ → Type 0
 Spare [] x y z = (x ≡ 0) × (y ≡ 0) × (z ≡ 0)
 Spare (a ∷ others) x y z = Spare others y z 0
 
--- the bytes are the text of these numbers and of some targets; or of none
-abbrev pub FieldsOf : List (List ℕ) → Bool → List ℕ → Fields → Type 0
-FieldsOf literals listed l r =
-    Outcome (r .ok)
-    ((ts : List ℕ) × Below ts × (l ≡ fieldsText literals listed (r .x) (r .y) (r .z) ts) × KeysOf ts (r .to) × Tailed listed ts × Spare literals (r .x) (r .y) (r .z))
-    ((x y z : ℕ) (ts : List ℕ) → x < 2 ^ 32 → y < 2 ^ 32 → z < 2 ^ 32 → Below ts → l ≡ fieldsText literals listed x y z ts → ⊥)
+-- the numbers in the line's order, and the targets
+pub record Values : Type 0 where
+  pub x : ℕ
+  pub y : ℕ
+  pub z : ℕ
+  pub to : List ℕ
+
+-- the bytes are the text of these 32-bit numbers and targets; what there is no literal for is zero, or empty
+pub record ValuesOf (literals : List (List ℕ)) (listed : Bool) (l : List ℕ) (v : Values) : Type 0 where
+  pub small : (v .x < 2 ^ 32) × (v .y < 2 ^ 32) × (v .z < 2 ^ 32) × Below (v .to)
+  pub spare : Spare literals (v .x) (v .y) (v .z)
+  pub tailed : Tailed listed (v .to)
+  pub same : l ≡ fieldsText literals listed (v .x) (v .y) (v .z) (v .to)
 
 -- ---- calls
 
@@ -149,25 +140,20 @@ callListed Top = true
 callListed Pick = true
 callListed Near = true
 
-abbrev pub CallFields : CallKind → List ℕ → Fields → Type 0
-CallFields kind l r = FieldsOf (callLiterals kind) (callListed kind) l r
+-- the bytes after a word of this kind are the text of some numbers and targets, and r answers their call; or of none, and r is 10
+abbrev pub CallAfter : CallKind → List ℕ → CallLine → Type 0
+CallAfter kind l r = Reads (ValuesOf (callLiterals kind) (callListed kind) l) (λ v. callAnswer (callForm kind (v .x) (v .y) (v .to))) (refusedCall 10) r
 
--- the number after `key=`, where the kind has one, is a key
-abbrev pub keyOk : CallKind → ℕ → Bool
-keyOk Add x = true
-keyOk Map x = true
-keyOk Link x = isKey x
-keyOk Unlink x = isKey x
-keyOk Sum x = true
-keyOk Top x = true
-keyOk Pick x = true
-keyOk Near x = isKey x
+-- the calls with a key and targets, and those with a start and targets
+abbrev pub Links : CallKind → Type 0
+Links kind = (kind ≡ Link) ⊎ (kind ≡ Unlink)
 
--- the answer to the call that these fields are, whatever targets they hold
-abbrev pub CallMade : CallKind → Fields → CallLine → Type 0
-CallMade kind f r =
-    (ts : List ℕ) → KeysOf ts (f .to) → Tailed (callListed kind) ts → Spare (callLiterals kind) (f .x) (f .y) (f .z)
-    → areWords (callNumbers (callForm kind (f .x) (f .y) ts)) ≡ true → r ≡ callAnswer (callForm kind (f .x) (f .y) ts)
+abbrev pub Starts : CallKind → Type 0
+Starts kind = (kind ≡ Sum) ⊎ ((kind ≡ Top) ⊎ (kind ≡ Pick))
+
+-- the answer to a call whose key is one, by its targets: 11, then 12, else the call
+abbrev pub callMade : CallKind → ℕ → ℕ → List ℕ → CallLine
+callMade kind x y ts = cond (areKeys ts) (cond (leb (length ts) 8 && rising ts) (callLine kind x y ts) (refusedCall 12)) (refusedCall 11)
 
 -- ---- steps
 
@@ -197,20 +183,10 @@ stepLiterals Swap = ascii " at=" ∷ ascii " unit=" ∷ []
 stepLiterals Fuse = ascii " at=" ∷ ascii " unit=" ∷ []
 stepLiterals Drain = []
 
-abbrev pub StepFields : StepKind → List ℕ → Fields → Type 0
-StepFields kind l r = FieldsOf (stepLiterals kind) false l r
+-- the bytes after a word of this kind are the text of some numbers, and r answers their step; or of none, and r is 10
+abbrev pub StepAfter : StepKind → List ℕ → StepLine → Type 0
+StepAfter kind l r = Reads (ValuesOf (stepLiterals kind) false l) (λ v. stepAnswer (stepForm kind (v .x) (v .y) (v .z))) (refusedStep 10) r
 
-abbrev pub hasPlace : StepKind → Bool
-hasPlace Admit = false
-hasPlace Realise = true
-hasPlace Move = true
-hasPlace Finish = true
-hasPlace Join = true
-hasPlace Split = true
-hasPlace Swap = true
-hasPlace Fuse = true
-hasPlace Drain = false
-
--- the answer to the step that these fields are
-abbrev pub StepMade : StepKind → Fields → StepLine → Type 0
-StepMade kind f r = Spare (stepLiterals kind) (f .x) (f .y) (f .z) → r ≡ stepAnswer (stepForm kind (f .x) (f .y) (f .z))
+-- the answer to a step that names a node: 11, else the step
+abbrev pub stepMade : StepKind → ℕ → ℕ → ℕ → StepLine
+stepMade kind x y z = cond (isKey x) (stepLine kind x y z) (refusedStep 11)

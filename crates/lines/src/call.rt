@@ -1,16 +1,22 @@
 // Call lines.
-use crate::fields::Fields;
-use crate::fields::after_head;
-use crate::fields::fields1;
-use crate::fields::fields2;
+use crate::fields::Field;
+use crate::fields::number_field;
+use crate::fields::targets_field;
+use crate::fields::too_long;
 use crate::fields::value_at;
+use crate::keylist::KeyList;
+use crate::keylist::Targets;
 use crate::keylist::is_key;
 use graph::keys::Keys;
+use text::cut::Place;
+use text::cut::past;
 ghost use mathlib.Core.Path.{_≡_};
-ghost use Prim.Native.Nat.{_≤_};
+ghost use mathlib.Core.List.{List};
+ghost use Prim.Native.Nat.{ℕ, _≤_};
 ghost use lib.ListN.{length, drop};
-ghost use Rattle.lines.specs.Reads.{CallWordOf, CallFields, CallMade, keyOk};
 ghost use Rattle.lines.specs.Answers.{CallRead, refusedCall};
+ghost use Rattle.lines.specs.Reads.{KeysOf, Held, CallWordOf, callMade, Links, Starts, CallAfter};
+ghost use Rattle.lines.specs.declared.call.CallKind.the-variants.{Add, Map, Near};
 
 pub enum CallKind {
     Add,
@@ -81,66 +87,145 @@ fn call_word(word: &[u8]) -> CallWord
     CallWord::Not
 }
 
-// The fields of a call of this kind, from the place after its word.
-fn call_fields(kind: CallKind, line: &[u8], at: usize) -> Fields
-    requires { ⌜ at ≤ length (now line) ⌝ }
-    ensures { λ r. ⌜ CallFields kind (drop at (now (line .entry))) r ⌝ }
+// The answer to a call that came apart, whose key is one: 11 for a target that is none, then 12, else the call.
+fn call_made(kind: CallKind, x: u32, y: u32, list: KeyList, key: [u8; 8]) -> CallLine
+    ensures { λ r. ⌜ ((ts : List ℕ) → KeysOf ts list → Held ts key → r ≡ callMade kind x y ts) ⌝ }
 {
-    match kind {
-        CallKind::Add => fields1(line, at, b" value=", false),
-        CallKind::Map => fields2(line, at, b" a=", b" b=", true),
-        CallKind::Link => fields1(line, at, b" key=", true),
-        CallKind::Unlink => fields1(line, at, b" key=", true),
-        CallKind::Sum => fields1(line, at, b" start=", true),
-        CallKind::Top => fields1(line, at, b" start=", true),
-        CallKind::Pick => fields1(line, at, b" start=", true),
-        CallKind::Near => fields2(line, at, b" key=", b" start=", true),
-    }
-}
-
-// Whether the number after `key=`, if the kind has one, is a key.
-fn key_ok(kind: CallKind, x: u32) -> bool
-    ensures { λ r. ⌜ r ≡ keyOk kind x ⌝ }
-{
-    match kind {
-        CallKind::Add => true,
-        CallKind::Map => true,
-        CallKind::Link => is_key(x),
-        CallKind::Unlink => is_key(x),
-        CallKind::Sum => true,
-        CallKind::Top => true,
-        CallKind::Pick => true,
-        CallKind::Near => is_key(x),
-    }
-}
-
-// The answer to a line that came apart: refusal 11, then 12, else the call.
-fn call_made(kind: CallKind, f: Fields) -> CallLine
-    ensures { λ r. ⌜ CallMade kind f r ⌝ }
-{
-    let to = f.to;
-    if !key_ok(kind, f.x) {
+    if !list.keys {
         return refused_call(11);
     }
-    if !to.keys {
-        return refused_call(11);
-    }
-    if 8 < to.count {
+    if 8 < list.count {
         return refused_call(12);
     }
-    if !to.rising {
+    if !list.rising {
         return refused_call(12);
     }
-    let key = to.key;
     CallLine {
         refusal: 0,
         kind: kind,
-        x: f.x,
-        y: f.y,
+        x: x,
+        y: y,
         to: Keys {
-            count: to.count,
+            count: list.count,
             key: key,
         },
+    }
+}
+
+// ` value=`, and nothing after it.
+fn add_call(line: &[u8], at: usize) -> CallLine
+    requires { ⌜ at ≤ length (now line) ⌝ }
+    ensures { λ r. ⌜ CallAfter Add (drop at (now (line .entry))) r ⌝ }
+{
+    let Field::Is(value, n) = number_field(line, at, b" value=") else {
+        return refused_call(10);
+    };
+    if n < line.len() {
+        return refused_call(10);
+    }
+    CallLine {
+        refusal: 0,
+        kind: CallKind::Add,
+        x: value,
+        y: 0,
+        to: Keys::none(),
+    }
+}
+
+// ` a=`, ` b=` and the targets.
+fn map_call(line: &[u8], at: usize) -> CallLine
+    requires { ⌜ at ≤ length (now line) ⌝ }
+    ensures { λ r. ⌜ CallAfter Map (drop at (now (line .entry))) r ⌝ }
+{
+    let Field::Is(a, n) = number_field(line, at, b" a=") else {
+        return refused_call(10);
+    };
+    let Field::Is(b, m) = number_field(line, n, b" b=") else {
+        return refused_call(10);
+    };
+    let to = targets_field(line, m);
+    let answer = to.answer;
+    let Targets::Are(list) = answer else {
+        return refused_call(10);
+    };
+    let keys = to.key;
+    call_made(CallKind::Map, a, b, list, keys)
+}
+
+// ` key=` and the targets: link and unlink.
+fn link_call(kind: CallKind, line: &[u8], at: usize) -> CallLine
+    requires { ⌜ (at ≤ length (now line)) × Links kind ⌝ }
+    ensures { λ r. ⌜ CallAfter kind (drop at (now (line .entry))) r ⌝ }
+{
+    let Field::Is(key, n) = number_field(line, at, b" key=") else {
+        return refused_call(10);
+    };
+    let to = targets_field(line, n);
+    let answer = to.answer;
+    let Targets::Are(list) = answer else {
+        return refused_call(10);
+    };
+    if !is_key(key) {
+        return refused_call(11);
+    }
+    let keys = to.key;
+    call_made(kind, key, 0, list, keys)
+}
+
+// ` start=` and the targets: sum, top and pick.
+fn start_call(kind: CallKind, line: &[u8], at: usize) -> CallLine
+    requires { ⌜ (at ≤ length (now line)) × Starts kind ⌝ }
+    ensures { λ r. ⌜ CallAfter kind (drop at (now (line .entry))) r ⌝ }
+{
+    let Field::Is(start, n) = number_field(line, at, b" start=") else {
+        return refused_call(10);
+    };
+    let to = targets_field(line, n);
+    let answer = to.answer;
+    let Targets::Are(list) = answer else {
+        return refused_call(10);
+    };
+    let keys = to.key;
+    call_made(kind, start, 0, list, keys)
+}
+
+// ` key=`, ` start=` and the targets.
+fn near_call(line: &[u8], at: usize) -> CallLine
+    requires { ⌜ at ≤ length (now line) ⌝ }
+    ensures { λ r. ⌜ CallAfter Near (drop at (now (line .entry))) r ⌝ }
+{
+    let Field::Is(key, n) = number_field(line, at, b" key=") else {
+        return refused_call(10);
+    };
+    let Field::Is(start, m) = number_field(line, n, b" start=") else {
+        return refused_call(10);
+    };
+    let to = targets_field(line, m);
+    let answer = to.answer;
+    let Targets::Are(list) = answer else {
+        return refused_call(10);
+    };
+    if !is_key(key) {
+        return refused_call(11);
+    }
+    let keys = to.key;
+    call_made(CallKind::Near, key, start, list, keys)
+}
+
+// What follows the word of a call of this kind.
+fn call_after(kind: CallKind, line: &[u8], at: usize) -> CallLine
+    requires { ⌜ at ≤ length (now line) ⌝ }
+    ensures { λ r. ⌜ CallAfter kind (drop at (now (line .entry))) r ⌝ }
+{
+    match kind {
+        CallKind::Add => add_call(line, at),
+        CallKind::Map => map_call(line, at),
+        CallKind::Link => link_call(kind, line, at),
+        CallKind::Unlink => link_call(kind, line, at),
+        CallKind::Sum => start_call(kind, line, at),
+        CallKind::Top => start_call(kind, line, at),
+        CallKind::Pick => start_call(kind, line, at),
+        CallKind::Near => near_call(line, at),
     }
 }
 
@@ -148,14 +233,15 @@ fn call_made(kind: CallKind, f: Fields) -> CallLine
 pub fn parse_call(line: &[u8]) -> CallLine
     ensures { λ r. ⌜ CallRead (now (line .entry)) r ⌝ }
 {
-    let rest = after_head(line, b"call=");
-    let word = value_at(rest, 0);
+    if too_long(line) {
+        return refused_call(10);
+    }
+    let Place::At(from) = past(line, 0, b"call=") else {
+        return refused_call(10);
+    };
+    let word = value_at(line, from);
     let CallWord::Is(kind) = call_word(word) else {
         return refused_call(10);
     };
-    let fields = call_fields(kind, rest, word.len());
-    if fields.ok {
-        return call_made(kind, fields);
-    }
-    refused_call(10)
+    call_after(kind, line, from + word.len())
 }

@@ -1,8 +1,9 @@
 // Claim lines.
-use crate::fields::after_head;
-use text::number::Number;
-use text::number::read_number;
-ghost use Rattle.lines.specs.Answers.{ClaimRead};
+use crate::fields::Field;
+use crate::fields::number_field;
+use crate::fields::too_long;
+ghost use mathlib.Core.Path.{_≡_};
+ghost use Rattle.lines.specs.Answers.{ClaimRead, refusedClaim};
 
 // A claim line as it was read: the refusal, or 0, and the label.
 pub struct ClaimLine {
@@ -10,16 +11,28 @@ pub struct ClaimLine {
     pub label: u32,
 }
 
-// The head, the label, and nothing after it.
+fn refused_claim(refusal: u8) -> ClaimLine
+    ensures { λ r. ⌜ r ≡ refusedClaim refusal ⌝ }
+{
+    ClaimLine {
+        refusal: refusal,
+        label: 0,
+    }
+}
+
+// The label, and nothing after it.
 pub fn parse_claim(line: &[u8]) -> ClaimLine
     ensures { λ r. ⌜ ClaimRead (now (line .entry)) r ⌝ }
 {
-    let Number::Is(label) = read_number(after_head(line, b"claim=")) else {
-        return ClaimLine {
-            refusal: 10,
-            label: 0,
-        };
+    if too_long(line) {
+        return refused_claim(10);
+    }
+    let Field::Is(label, n) = number_field(line, 0, b"claim=") else {
+        return refused_claim(10);
     };
+    if n < line.len() {
+        return refused_claim(10);
+    }
     ClaimLine {
         refusal: 0,
         label: label,

@@ -4,21 +4,42 @@ use text::number::Number;
 use text::number::read_number;
 ghost use mathlib.Core.Path.{_≡_};
 ghost use mathlib.Core.List.{List, [], _∷_, _++_};
-ghost use mathlib.Core.Bool.{true, false, _&&_};
+ghost use mathlib.Core.Bool.{_&&_};
 ghost use Prim.Native.Nat.{ℕ, _≤_, _<_};
 ghost use lib.ListN.{set};
 ghost use Rattle.graph.specs.KeyLists.{isKey};
-ghost use Rattle.lines.specs.Reads.{KeysOf, ListOf};
+ghost use Rattle.text.specs.Text.{commas};
+ghost use Rattle.lines.specs.Reads.{KeysOf, TargetsOf};
+ghost use Rattle.lines.specs.declared.keylist.Targets.the-variants.{Not};
 
-// The numbers fed so far: how many (9 for more than eight), the keys where they are at most eight, the last number, whether all are
-// keys, and whether they rise strictly. `ok` is false where the bytes are no list of numbers.
+// What is known of the numbers so far: how many (9 for more than eight), the last, whether all are keys, and whether they
+// rise strictly.
 pub struct KeyList {
-    pub ok: bool,
     pub count: u8,
-    pub key: [u8; 8],
     pub last: u32,
     pub keys: bool,
     pub rising: bool,
+}
+
+// Whether bytes are a list of numbers.
+pub enum Targets {
+    Are(KeyList),
+    Not,
+}
+
+// The answer, and the keys where they are at most eight. They stand beside it: no covered enum holds an array.
+pub struct TargetsRead {
+    pub answer: Targets,
+    pub key: [u8; 8],
+}
+
+pub fn no_targets() -> TargetsRead
+    ensures { λ r. ⌜ r .answer ≡ Not ⌝ }
+{
+    TargetsRead {
+        answer: Targets::Not,
+        key: [0u8; 8],
+    }
 }
 
 // 1 to 64.
@@ -53,47 +74,27 @@ fn store(key: [u8; 8], n: u8, v: u32) -> [u8; 8]
 impl KeyList {
     // No number yet.
     pub fn none() -> Self
-        ensures { λ r. ⌜ (r .ok ≡ true) × KeysOf [] r ⌝ }
+        ensures { λ r. ⌜ KeysOf [] r ⌝ }
     {
         KeyList {
-            ok: true,
             count: 0,
-            key: [0u8; 8],
             last: 0,
             keys: true,
             rising: true,
         }
     }
 
-    // No list of numbers.
-    pub fn broken() -> Self
-        ensures { λ r. ⌜ r .ok ≡ false ⌝ }
-    {
-        KeyList {
-            ok: false,
-            count: 0,
-            key: [0u8; 8],
-            last: 0,
-            keys: true,
-            rising: true,
-        }
-    }
-
-    // The list with one number more.
+    // With one number more.
     pub fn with(self, v: u32) -> Self
-        ensures { λ r. ⌜ (r .ok ≡ self .ok) × ((ts : List ℕ) → KeysOf ts self → KeysOf (ts ++ v ∷ []) r) ⌝ }
+        ensures { λ r. ⌜ ((ts : List ℕ) → KeysOf ts self → KeysOf (ts ++ v ∷ []) r) ⌝ }
     {
         let n = self.count;
         let last = self.last;
-        let key = self.key;
-        let stored = store(key, n, v);
         let keys = and(self.keys, is_key(v));
         let rising = and(self.rising, last < v);
         let more = if n < 9 { n + 1 } else { n };
         KeyList {
-            ok: self.ok,
             count: more,
-            key: stored,
             last: v,
             keys: keys,
             rising: rising,
@@ -102,24 +103,32 @@ impl KeyList {
 }
 
 // The numbers that the whole of `s` holds, parted by commas; none where it is empty.
-pub fn read_keys(s: &[u8]) -> KeyList
-    ensures { λ r. ⌜ ListOf (now (s .entry)) r ⌝ }
+pub fn read_keys(s: &[u8]) -> TargetsRead
+    ensures { λ r. ⌜ TargetsOf commas (now (s .entry)) (r .answer) (r .key) ⌝ }
 {
     let mut k = KeyList::none();
+    let mut key = [0u8; 8];
     if s.len() == 0 {
-        return k;
+        return TargetsRead {
+            answer: Targets::Are(k),
+            key: key,
+        };
     }
     let mut at = 0;
     loop {
         let part = part_to(s, at, b',');
         let Number::Is(v) = read_number(part) else {
-            return KeyList::broken();
+            return no_targets();
         };
+        let stored = store(key, k.count, v);
+        key = stored;
         k = k.with(v);
-        at = at + part.len();
-        if s.len() <= at {
-            return k;
+        at = at + part.len() + 1;
+        if s.len() < at {
+            return TargetsRead {
+                answer: Targets::Are(k),
+                key: key,
+            };
         }
-        at = at + 1;
     }
 }

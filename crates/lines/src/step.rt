@@ -1,17 +1,19 @@
 // Step lines.
-use crate::fields::Fields;
-use crate::fields::after_head;
-use crate::fields::fields0;
-use crate::fields::fields1;
-use crate::fields::fields2;
-use crate::fields::fields3;
+use crate::fields::Field;
+use crate::fields::number_field;
+use crate::fields::too_long;
 use crate::fields::value_at;
 use crate::keylist::is_key;
+use text::cut::Place;
+use text::cut::past;
 ghost use mathlib.Core.Path.{_≡_};
+ghost use mathlib.Core.List.{[], _∷_};
 ghost use Prim.Native.Nat.{_≤_};
 ghost use lib.ListN.{length, drop};
-ghost use Rattle.lines.specs.Reads.{StepWordOf, StepFields, StepMade, hasPlace};
+ghost use Rattle.text.specs.Text.{ascii};
 ghost use Rattle.lines.specs.Answers.{StepRead, refusedStep, stepOf, stepNumber};
+ghost use Rattle.lines.specs.Reads.{StepWordOf, stepLiterals, stepMade, StepAfter};
+ghost use Rattle.lines.specs.declared.step.StepKind.the-variants.{Split};
 
 pub enum StepKind {
     Admit,
@@ -103,56 +105,105 @@ fn step_word(word: &[u8]) -> StepWord
     StepWord::Not
 }
 
-// The fields of a step of this kind, from the place after its word.
-fn step_fields(kind: StepKind, line: &[u8], at: usize) -> Fields
-    requires { ⌜ at ≤ length (now line) ⌝ }
-    ensures { λ r. ⌜ StepFields kind (drop at (now (line .entry))) r ⌝ }
+// The answer to a step that came apart and names a node: refusal 11, else the step.
+fn step_made(kind: StepKind, at: u32, unit: u32, after: u32) -> StepLine
+    ensures { λ r. ⌜ r ≡ stepMade kind at unit after ⌝ }
 {
-    match kind {
-        StepKind::Admit => fields0(line, at, false),
-        StepKind::Realise => fields1(line, at, b" at=", false),
-        StepKind::Move => fields1(line, at, b" at=", false),
-        StepKind::Finish => fields1(line, at, b" at=", false),
-        StepKind::Join => fields2(line, at, b" at=", b" unit=", false),
-        StepKind::Split => fields3(line, at, b" at=", b" unit=", b" after=", false),
-        StepKind::Swap => fields2(line, at, b" at=", b" unit=", false),
-        StepKind::Fuse => fields2(line, at, b" at=", b" unit=", false),
-        StepKind::Drain => fields0(line, at, false),
-    }
-}
-
-// Whether a step of this kind names a node's key.
-fn has_place(kind: StepKind) -> bool
-    ensures { λ r. ⌜ r ≡ hasPlace kind ⌝ }
-{
-    match kind {
-        StepKind::Admit => false,
-        StepKind::Realise => true,
-        StepKind::Move => true,
-        StepKind::Finish => true,
-        StepKind::Join => true,
-        StepKind::Split => true,
-        StepKind::Swap => true,
-        StepKind::Fuse => true,
-        StepKind::Drain => false,
-    }
-}
-
-// The answer to a line that came apart: refusal 11, else the step.
-fn step_made(kind: StepKind, f: Fields) -> StepLine
-    ensures { λ r. ⌜ StepMade kind f r ⌝ }
-{
-    if has_place(kind) {
-        if !is_key(f.x) {
-            return refused_step(11);
-        }
+    if !is_key(at) {
+        return refused_step(11);
     }
     StepLine {
         refusal: 0,
         kind: kind,
-        at: f.x,
-        unit: f.y,
-        after: f.z,
+        at: at,
+        unit: unit,
+        after: after,
+    }
+}
+
+// Nothing after the word: admit and drain.
+fn word_step(kind: StepKind, line: &[u8], at: usize) -> StepLine
+    requires { ⌜ (at ≤ length (now line)) × (stepLiterals kind ≡ []) ⌝ }
+    ensures { λ r. ⌜ StepAfter kind (drop at (now (line .entry))) r ⌝ }
+{
+    if at < line.len() {
+        return refused_step(10);
+    }
+    StepLine {
+        refusal: 0,
+        kind: kind,
+        at: 0,
+        unit: 0,
+        after: 0,
+    }
+}
+
+// ` at=`: realise, move and finish.
+fn place_step(kind: StepKind, line: &[u8], at: usize) -> StepLine
+    requires { ⌜ (at ≤ length (now line)) × (stepLiterals kind ≡ ascii " at=" ∷ []) ⌝ }
+    ensures { λ r. ⌜ StepAfter kind (drop at (now (line .entry))) r ⌝ }
+{
+    let Field::Is(place, n) = number_field(line, at, b" at=") else {
+        return refused_step(10);
+    };
+    if n < line.len() {
+        return refused_step(10);
+    }
+    step_made(kind, place, 0, 0)
+}
+
+// ` at=` and ` unit=`: join, swap and fuse.
+fn unit_step(kind: StepKind, line: &[u8], at: usize) -> StepLine
+    requires { ⌜ (at ≤ length (now line)) × (stepLiterals kind ≡ ascii " at=" ∷ ascii " unit=" ∷ []) ⌝ }
+    ensures { λ r. ⌜ StepAfter kind (drop at (now (line .entry))) r ⌝ }
+{
+    let Field::Is(place, n) = number_field(line, at, b" at=") else {
+        return refused_step(10);
+    };
+    let Field::Is(unit, m) = number_field(line, n, b" unit=") else {
+        return refused_step(10);
+    };
+    if m < line.len() {
+        return refused_step(10);
+    }
+    step_made(kind, place, unit, 0)
+}
+
+// ` at=`, ` unit=` and ` after=`.
+fn split_step(line: &[u8], at: usize) -> StepLine
+    requires { ⌜ at ≤ length (now line) ⌝ }
+    ensures { λ r. ⌜ StepAfter Split (drop at (now (line .entry))) r ⌝ }
+{
+    let Field::Is(place, n) = number_field(line, at, b" at=") else {
+        return refused_step(10);
+    };
+    let Field::Is(unit, m) = number_field(line, n, b" unit=") else {
+        return refused_step(10);
+    };
+    let Field::Is(after, k) = number_field(line, m, b" after=") else {
+        return refused_step(10);
+    };
+    if k < line.len() {
+        return refused_step(10);
+    }
+    step_made(StepKind::Split, place, unit, after)
+}
+
+// What follows the word of a step of this kind.
+fn step_after(kind: StepKind, line: &[u8], at: usize) -> StepLine
+    requires { ⌜ at ≤ length (now line) ⌝ }
+    ensures { λ r. ⌜ StepAfter kind (drop at (now (line .entry))) r ⌝ }
+{
+    match kind {
+        StepKind::Admit => word_step(kind, line, at),
+        StepKind::Realise => place_step(kind, line, at),
+        StepKind::Move => place_step(kind, line, at),
+        StepKind::Finish => place_step(kind, line, at),
+        StepKind::Join => unit_step(kind, line, at),
+        StepKind::Split => split_step(line, at),
+        StepKind::Swap => unit_step(kind, line, at),
+        StepKind::Fuse => unit_step(kind, line, at),
+        StepKind::Drain => word_step(kind, line, at),
     }
 }
 
@@ -160,14 +211,15 @@ fn step_made(kind: StepKind, f: Fields) -> StepLine
 pub fn parse_step(line: &[u8]) -> StepLine
     ensures { λ r. ⌜ StepRead (now (line .entry)) r ⌝ }
 {
-    let rest = after_head(line, b"step=");
-    let word = value_at(rest, 0);
+    if too_long(line) {
+        return refused_step(10);
+    }
+    let Place::At(from) = past(line, 0, b"step=") else {
+        return refused_step(10);
+    };
+    let word = value_at(line, from);
     let StepWord::Is(kind) = step_word(word) else {
         return refused_step(10);
     };
-    let fields = step_fields(kind, rest, word.len());
-    if fields.ok {
-        return step_made(kind, fields);
-    }
-    refused_step(10)
+    step_after(kind, line, from + word.len())
 }

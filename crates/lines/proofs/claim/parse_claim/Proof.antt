@@ -1,20 +1,48 @@
--- `lines::claim::parse_claim` meets its contract: the head, a number, and nothing after it.
+-- `lines::claim::parse_claim` meets its contract: the label, and the end.
 -- Assumes nothing.
-use mathlib.Core.Path.{refl}
-use borrow.Author.Needs.{needs}
+use Prim.Native.Nat.{_<_}
+use mathlib.Core.Path.{refl, sym, _∙_}
+use mathlib.Core.Bool.{false}
+use mathlib.Core.List.{[]}
+use native.Mathlib.Omega.{arith}
+use borrow.Author.Tests.{ltb-true, ltb-false}
+use lib.ListN.{length, drop}
 use Rattle.text.specs.Text.{ascii}
-use Rattle.lines.proofs.Claims.{claim-never, claim-is}
+use Rattle.lines.specs.Answers.{Reads, claimAnswer, refusedClaim, ClaimRead}
+use Rattle.lines.specs.Reads.{ValuesOf}
+use Rattle.lines.specs.declared.claim.ClaimLine.{ClaimLine}
+use Rattle.lines.proofs.Chains.{field-not, field-then, end-not, end-is}
+use Rattle.lines.proofs.Claims.{claim-long, claim-field}
+use borrow.Author.Needs.{needs}
 use Rattle.lines.proofs.claim.parse_claim.Statement.{statement}
 use Rattle.lines.proofs.claim.parse_claim.Tie as tie
 
-slice-aggregate-after-head : tie.Need-slice-aggregate-after-head
-slice-aggregate-after-head c = search needs
+short : (c : tie.Else1) → length (c .before .before .before .args .line .now) < 256
+short c = omega (arith, ltb-false 255 (length (c .before .before .before .args .line .now)) (sym (c .before .too-long .ensures) ∙ c .if1 .left))
 
-after-head-requires : tie.Need-after-head-requires
-after-head-requires c κs = search needs
+-- after the label
+label : (c : tie.After-known-told) {r : ClaimLine} → Reads (ValuesOf [] false (drop (c .before .label .given .0 .1 .0) (c .before .before .before .before .before .before .before .before .args .line .now))) (λ v. claimAnswer (c .before .label .given .0 .0)) (refusedClaim 10) r
+    → ClaimRead (c .before .before .before .before .before .before .before .before .args .line .now) r
+unfolding ascii
+label c h =
+    let e = c .before .before .before .before .before in
+    let line = e .before .before .before .args .line .now in
+    claim-field line _ (short e) (field-then line 0 _ (ascii "claim=") [] tt _ _ (rw (c .before .label .given .1) at (c .before .before .before .number-field .ensures)) (search needs) (λ k l m s. s .2) h)
 
-read-number-requires : tie.Need-read-number-requires
-read-number-requires c κs = search needs
+too-long-requires : tie.Need-too-long-requires
+too-long-requires c κs = search needs
+
+refused-claim-requires : tie.Need-refused-claim-requires
+refused-claim-requires c κs = search needs
+
+returns : tie.Need-returns
+returns c = claim-long (c .before .before .before .before .args .line .now) _ (ltb-true 255 _ (sym (c .before .before .too-long .ensures) ∙ c .before .if1 .taken)) (c .refused-claim .ensures)
+
+slice-aggregate-number-field : tie.Need-slice-aggregate-number-field
+slice-aggregate-number-field c = search needs
+
+number-field-requires : tie.Need-number-field-requires
+number-field-requires c κs = search needs
 
 enum-known-label : tie.Need-enum-known-label
 enum-known-label c = search needs
@@ -22,26 +50,42 @@ enum-known-label c = search needs
 enum-told : tie.Need-enum-told
 enum-told c = search needs
 
-returns : tie.Need-returns
-unfolding ascii
-returns c =
-    let n = c .before .before in
-    claim-never _ _ (n .before .after-head .ensures) _ (rw (c .enum-told .given .1) at (n .read-number .ensures)) refl
+refused-claim-requires-2 : tie.Need-refused-claim-requires-2
+refused-claim-requires-2 c κs = search needs
 
 returns-2 : tie.Need-returns-2
 unfolding ascii
 returns-2 c =
-    let n = c .before .before .before in
-    claim-is _ _ (n .before .after-head .ensures) _ _ (rw (c .before .label .given .1) at (n .read-number .ensures)) (search needs) refl
+    let e = c .before .before .before .before .before in
+    let line = e .before .before .before .args .line .now in
+    claim-field line _ (short e) (field-not line 0 _ (ascii "claim=") [] tt (rw (c .before .enum-told .given .1) at (c .before .before .before .number-field .ensures)) (c .refused-claim2 .ensures))
+
+refused-claim-requires-3 : tie.Need-refused-claim-requires-3
+refused-claim-requires-3 c κs = search needs
+
+returns-3 : tie.Need-returns-3
+returns-3 c =
+    let p = c .before .before in
+    label p (end-not (p .before .before .before .before .before .before .before .before .args .line .now) (p .before .label .given .0 .1 .0) _ (c .before .if2 .taken) (c .refused-claim3 .ensures))
+
+returns-4 : tie.Need-returns-4
+returns-4 c =
+    let p = c .before in
+    label p (end-is (p .before .before .before .before .before .before .before .before .args .line .now) (p .before .label .given .0 .1 .0) _ (c .if2 .left) refl)
 
 pub parse-claim-spec : {M : Type 1} → statement M
 parse-claim-spec =
     tie.close
     (tie.spec
-    slice-aggregate-after-head
-    after-head-requires
-    read-number-requires
+    too-long-requires
+    refused-claim-requires
+    returns
+    slice-aggregate-number-field
+    number-field-requires
     enum-known-label
     enum-told
-    returns
-    returns-2)
+    refused-claim-requires-2
+    returns-2
+    refused-claim-requires-3
+    returns-3
+    returns-4)

@@ -1,39 +1,55 @@
 -- `lines::keylist::read_keys` meets its contract. The loop's invariant: the list up to `at` is read, and a number follows if all is a list.
 -- Assumes nothing.
-use Prim.Native.Nat.{_+_, _-_, _≤_}
-use mathlib.Core.List.{[]}
-use mathlib.Core.Path.{_≡_, sym, _∙_}
+use Prim.Native.Nat.{ℕ, _+_, _-_, _≤_}
+use mathlib.Core.List.{List, [], _∷_, _++_}
+use mathlib.Core.Path.{_≡_, refl, sym, _∙_}
 use native.Mathlib.Omega.{arith}
 use borrow.Author.Needs.{needs}
 use lib.ListN.{length, drop}
+use Rattle.graph.specs.Packed.{packed}
 use Rattle.text.specs.Text.{upTo, decimal}
-use Rattle.lines.proofs.KeyLists.{outcome-yes, outcome-no, Listing, listing-none, list-refused, list-within, list-ends, list-again, empty-list}
+use Rattle.lines.specs.Reads.{KeysOf, Held}
+use Rattle.lines.proofs.KeyLists.{held-more, Listing, listing-none, list-refused, list-within, list-ends, list-again, empty-list}
 use Rattle.lines.proofs.keylist.read_keys.Statement.{statement}
 use Rattle.lines.proofs.keylist.read_keys.Tie as tie
 
 abbrev Inv-loop : tie.InvT-loop
-Inv-loop s k₀ at₀ k at = Listing s k at
+Inv-loop s k₀ key₀ at₀ k key at = Listing s k key at
 
 abbrev μ-loop : tie.MeasureT-loop
-μ-loop s k₀ at₀ k at = length s + 1 - at
+μ-loop s k₀ key₀ at₀ k key at = length s + 1 - at
 
--- what the part is
+-- the part ends inside
 within : (c : tie.After-part-to Inv-loop μ-loop) → c .before .loop .at + length (c .part-to .result .now) ≤ length (c .before .before .before .before .before .args .s .now)
-within c = rw (c .part-to .ensures) (list-within _ _ _ (c .before .loop .inv))
+within c = rw (c .part-to .ensures) (list-within _ _ _ _ (c .before .loop .inv))
 
-part-is : (c : tie.After-v Inv-loop μ-loop) → upTo 44 (drop (c .before .before .before .before .loop .at) (c .before .before .before .before .before .before .before .before .args .s .now)) ≡ decimal (c .v .given .0 .0)
-part-is c = sym (c .before .before .before .part-to .ensures) ∙ (rw (c .v .given .1) at (c .before .before .read-number .ensures))
+module _ (c : tie.After-with Inv-loop μ-loop) where
+  abbrev read : tie.After-part-to Inv-loop μ-loop
+  read = c .before .before .before .before .before .before
+
+  abbrev s : List ℕ
+  s = read .before .before .before .before .before .args .s .now
+
+  -- what the part is
+  part-is : upTo 44 (drop (read .before .loop .at) s) ≡ decimal (c .before .before .before .v .given .0 .0)
+  part-is = sym (read .part-to .ensures) ∙ (rw (c .before .before .before .v .given .1) at (c .before .before .before .before .before .read-number .ensures))
+
+  kept : KeysOf (read .before .loop .inv .read ++ c .before .before .before .v .given .0 .0 ∷ []) (c .with .result)
+  kept = c .with .ensures (read .before .loop .inv .read) (read .before .loop .inv .kept)
+
+  held : Held (read .before .loop .inv .read ++ c .before .before .before .v .given .0 .0 ∷ []) (c .before .store .result)
+  held = held-more _ _ (read .before .loop .k) _ _ (read .before .loop .inv .kept) (read .before .loop .inv .held) (c .before .store .ensures)
 
 none-requires : tie.Need-none-requires Inv-loop μ-loop
 none-requires c κs = search needs
 
 returns : tie.Need-returns Inv-loop μ-loop
-returns c =
-    let n = c .before .none .ensures in
-    outcome-yes _ (n .0) ([], tt, empty-list _ (c .if1 .taken), n .1)
+unfolding packed
+returns c = ([], tt, empty-list _ (c .if1 .taken), c .before .none .ensures, λ a l. refl)
 
 loop-holds : tie.Need-loop-holds Inv-loop μ-loop
-loop-holds c = let n = c .before .none .ensures in listing-none _ _ (c .if1 .left) (n .0) (n .1)
+unfolding packed
+loop-holds c = listing-none _ _ _ (c .if1 .left) (c .before .none .ensures) (λ a l. refl)
 
 part-to-requires : tie.Need-part-to-requires Inv-loop μ-loop
 part-to-requires c κs = search needs
@@ -47,40 +63,40 @@ enum-known-v c = search needs
 enum-told : tie.Need-enum-told Inv-loop μ-loop
 enum-told c = search needs
 
-broken-requires : tie.Need-broken-requires Inv-loop μ-loop
-broken-requires c κs = search needs
+no-targets-requires : tie.Need-no-targets-requires Inv-loop μ-loop
+no-targets-requires c κs = search needs
 
 returns-2 : tie.Need-returns-2 Inv-loop μ-loop
 returns-2 c =
     let w = c .before .before .before .before in
-    outcome-no _ (c .broken .ensures)
-    (list-refused _ _ _ (w .before .loop .inv) (rw (c .before .enum-told .given .1, w .part-to .ensures) at (c .before .before .before .read-number .ensures)))
+    rw (c .no-targets .ensures)
+    (list-refused _ _ _ _ (w .before .loop .inv) (rw (c .before .enum-told .given .1, w .part-to .ensures) at (c .before .before .before .read-number .ensures)))
+
+store-requires : tie.Need-store-requires Inv-loop μ-loop
+store-requires c κs = search needs
 
 with-requires : tie.Need-with-requires Inv-loop μ-loop
 with-requires c κs = search needs
 
 add-at : tie.Need-add-at Inv-loop μ-loop
-add-at c = omega (arith, within (c .before .before .before .before .before))
+add-at c = omega (arith, within (read c))
+
+add-at-2 : tie.Need-add-at-2 Inv-loop μ-loop
+add-at-2 c = omega (arith, within (read c))
 
 returns-3 : tie.Need-returns-3 Inv-loop μ-loop
 returns-3 c =
-    let w = c .before .before .before .before .before .before in
-    outcome-yes _ (c .before .with .ensures .0 ∙ w .before .loop .inv .ok)
-    (list-ends _ _ _ (w .before .loop .inv) _ _ (omega arith) (part-is (c .before .before .before)) (c .before .with .ensures .0) (c .before .with .ensures .1 _ (w .before .loop .inv .kept))
-    (rw (w .part-to .ensures) at (c .if2 .taken)))
-
-add-at-2 : tie.Need-add-at-2 Inv-loop μ-loop
-add-at-2 c = omega (arith, within (c .before .before .before .before .before .before))
+    let w = read (c .before) in
+    list-ends _ _ _ _ (w .before .loop .inv) _ _ _ (search needs) (part-is (c .before)) (kept (c .before)) (held (c .before)) (rw (← w .part-to .ensures) (omega arith))
 
 loop-less : tie.Need-loop-less Inv-loop μ-loop
-loop-less c = omega (arith, within (c .before .before .before .before .before .before))
+loop-less c = omega (arith, within (read (c .before)))
 
 loop-again : tie.Need-loop-again Inv-loop μ-loop
 loop-again c =
-    let w = c .before .before .before .before .before .before in
+    let w = read (c .before) in
     rw (w .part-to .ensures)
-    (list-again _ _ _ (w .before .loop .inv) _ _ (omega arith) (part-is (c .before .before .before)) (c .before .with .ensures .0) (c .before .with .ensures .1 _ (w .before .loop .inv .kept))
-    (rw (w .part-to .ensures) at (c .if2 .left)))
+    (list-again _ _ _ _ (w .before .loop .inv) _ _ _ (search needs) (part-is (c .before)) (kept (c .before)) (held (c .before)) (rw (← w .part-to .ensures) (omega arith)))
 
 pub read-keys-spec : {M : Type 1} → statement M
 read-keys-spec =
@@ -95,11 +111,12 @@ read-keys-spec =
     read-number-requires
     enum-known-v
     enum-told
-    broken-requires
+    no-targets-requires
     returns-2
+    store-requires
     with-requires
     add-at
-    returns-3
     add-at-2
+    returns-3
     loop-less
     loop-again)

@@ -12,9 +12,6 @@ use Rattle.lines.proofs.KeyLists.{keys-more}
 use Rattle.lines.proofs.keylist.KeyList.with.Statement.{statement}
 use Rattle.lines.proofs.keylist.KeyList.with.Tie as tie
 
-store-requires : tie.Need-store-requires
-store-requires c κs = search needs
-
 is-key-requires : tie.Need-is-key-requires
 is-key-requires c κs = search needs
 
@@ -28,11 +25,11 @@ add-more : tie.Need-add-more
 add-more c = search needs
 
 abbrev start : tie.After-and2 → tie.Start
-start w = w .before .before .before .before .before
+start w = w .before .before .before
 
 -- the list that is returned, with count n
 abbrev listWith : tie.After-and2 → ℕ → KeyList
-listWith w n = record { ok = start w .args .self .ok; count = n; key = w .before .before .before .store .result; last = start w .args .v; keys = w .before .and .result; rising = w .and2 .result }
+listWith w n = record { count = n; last = start w .args .v; keys = w .before .and .result; rising = w .and2 .result }
 
 one-more : (w : tie.After-and2) (n : ℕ) (ts : List ℕ) → KeysOf ts (start w .args .self) → n ≡ min (start w .args .self .count + 1) 9 → KeysOf (ts ++ start w .args .v ∷ []) (listWith w n)
 one-more w n ts p e =
@@ -40,19 +37,17 @@ one-more w n ts p e =
     keys-more ts (a .v) (a .self) _ p e refl
     (w .before .and .ensures ∙ ap (λ (b : Bool). a .self .keys && b) (w .before .before .is-key .ensures))
     (w .and2 .ensures)
-    (w .before .before .before .store .ensures)
 
 returns : tie.Need-returns
-returns c = (refl, λ ts p. one-more (c .before) _ ts p (omega (arith, p .count)))
+returns c = λ ts p. one-more (c .before) _ ts p (omega (arith, p .count))
 
 returns-2 : tie.Need-returns-2
-returns-2 c = (refl, λ ts p. one-more (c .before) _ ts p (omega (arith, p .count)))
+returns-2 c = λ ts p. one-more (c .before) _ ts p (omega (arith, p .count))
 
 pub with-spec : {M : Type 1} → statement M
 with-spec =
     tie.close
     (tie.spec
-    store-requires
     is-key-requires
     and-requires
     and-requires-2

@@ -1,0 +1,78 @@
+-- `lines::call::add_call` meets its contract: a number, and the end.
+-- Assumes nothing.
+use mathlib.Core.Path.{ap, _∙_}
+use mathlib.Core.Bool.{false}
+use mathlib.Core.List.{[]}
+use lib.ListN.{drop}
+use Rattle.text.specs.Text.{ascii}
+use Prim.Native.Nat.{ℕ}
+use Rattle.graph.specs.declared.keys.Keys.{Keys}
+use Rattle.graph.specs.Calls.{add}
+use Rattle.lines.specs.Answers.{Reads, refusedCall, callAnswer}
+use Rattle.lines.specs.Reads.{ValuesOf, CallAfter}
+use Rattle.lines.specs.declared.call.CallKind.the-variants.{Add}
+use Rattle.lines.specs.declared.call.CallLine.{CallLine}
+use Rattle.lines.proofs.Chains.{field-not, field-then, end-not, end-is}
+use Rattle.lines.proofs.Calls.{add-answer}
+use borrow.Author.Needs.{needs}
+use Rattle.lines.proofs.call.add_call.Statement.{statement}
+use Rattle.lines.proofs.call.add_call.Tie as tie
+
+-- after the first number
+first : (c : tie.After-known-told) {r : CallLine} → Reads (ValuesOf [] false (drop (c .before .value .given .0 .1 .0) (c .before .before .before .before .before .before .args .line .now))) (λ v. callAnswer (add (c .before .value .given .0 .0))) (refusedCall 10) r
+    → CallAfter Add (drop (c .before .before .before .before .before .before .args .at) (c .before .before .before .before .before .before .args .line .now)) r
+unfolding ascii
+first c = let st = c .before .before .before .before .before .before in field-then (st .args .line .now) (st .args .at) _ (ascii " value=") [] tt _ _ (rw (c .before .value .given .1) at (c .before .before .before .number-field .ensures)) (search needs) (λ k l m s. s .2)
+
+slice-aggregate-number-field : tie.Need-slice-aggregate-number-field
+slice-aggregate-number-field c = search needs
+
+number-field-requires : tie.Need-number-field-requires
+number-field-requires c κs = search needs
+
+enum-known-value : tie.Need-enum-known-value
+enum-known-value c = search needs
+
+enum-told : tie.Need-enum-told
+enum-told c = search needs
+
+refused-call-requires : tie.Need-refused-call-requires
+refused-call-requires c κs = search needs
+
+returns : tie.Need-returns
+unfolding ascii
+returns c =
+    let st = c .before .before .before .before .before .before in
+    field-not (st .args .line .now) (st .args .at) _ (ascii " value=") [] tt (rw (c .before .enum-told .given .1) at (c .before .before .before .number-field .ensures)) (c .refused-call .ensures)
+
+refused-call-requires-2 : tie.Need-refused-call-requires-2
+refused-call-requires-2 c κs = search needs
+
+returns-2 : tie.Need-returns-2
+returns-2 c =
+    let p = c .before .before in
+    first p (end-not (p .before .before .before .before .before .before .args .line .now) (p .before .value .given .0 .1 .0) _ (c .before .if1 .taken) (c .refused-call2 .ensures))
+
+none-requires : tie.Need-none-requires
+none-requires c κs = search needs
+
+returns-3 : tie.Need-returns-3
+returns-3 c =
+    let p = c .before .before in
+    let v : ℕ = p .before .value .given .0 .0 in
+    first p (end-is (p .before .before .before .before .before .before .args .line .now) (p .before .value .given .0 .1 .0) _ (c .before .if1 .left) (ap (λ (ks : Keys). record { refusal = 0; kind = Add; x = v; y = 0; to = ks }) (c .none .ensures) ∙ add-answer v (search needs)))
+
+pub add-call-spec : {M : Type 1} → statement M
+add-call-spec =
+    tie.close
+    (tie.spec
+    slice-aggregate-number-field
+    number-field-requires
+    enum-known-value
+    enum-told
+    refused-call-requires
+    returns
+    refused-call-requires-2
+    returns-2
+    none-requires
+    returns-3)

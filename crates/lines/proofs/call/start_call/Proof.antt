@@ -1,0 +1,87 @@
+-- `lines::call::start_call` meets its contract: a number, and the targets.
+-- Assumes nothing.
+use mathlib.Core.Path.{refl, _∙_}
+use mathlib.Core.Bool.{true}
+use mathlib.Core.List.{[], _∷_}
+use lib.ListN.{drop}
+use Rattle.text.specs.Text.{ascii}
+use Rattle.lines.specs.Answers.{Reads, callForm, refusedCall, callAnswer}
+use Rattle.lines.specs.Reads.{ValuesOf, CallAfter}
+use Rattle.lines.specs.declared.call.CallLine.{CallLine}
+use Rattle.lines.proofs.Chains.{field-not, field-then, targets-not, targets-are}
+use Rattle.lines.proofs.Calls.{start-after, start-answer}
+use borrow.Author.Needs.{needs}
+use Rattle.lines.proofs.call.start_call.Statement.{statement}
+use Rattle.lines.proofs.call.start_call.Tie as tie
+
+-- after the first number
+first : (c : tie.After-known-told) {r : CallLine} → Reads (ValuesOf [] true (drop (c .before .start .given .0 .1 .0) (c .before .before .before .before .before .before .args .line .now))) (λ v. callAnswer (callForm ((c .before .before .before .before .before .before .args) .kind) (c .before .start .given .0 .0) (v .x) (v .to))) (refusedCall 10) r
+    → CallAfter (c .before .before .before .before .before .before .args .kind) (drop (c .before .before .before .before .before .before .args .at) (c .before .before .before .before .before .before .args .line .now)) r
+unfolding ascii
+first c h = let st = c .before .before .before .before .before .before in start-after (st .args .kind) (st .pre .1) (field-then (st .args .line .now) (st .args .at) _ (ascii " start=") [] tt _ _ (rw (c .before .start .given .1) at (c .before .before .before .number-field .ensures)) (search needs) (λ k l m s. s .2) h)
+
+slice-aggregate-number-field : tie.Need-slice-aggregate-number-field
+slice-aggregate-number-field c = search needs
+
+number-field-requires : tie.Need-number-field-requires
+number-field-requires c κs = search needs
+
+enum-known-start : tie.Need-enum-known-start
+enum-known-start c = search needs
+
+enum-told : tie.Need-enum-told
+enum-told c = search needs
+
+refused-call-requires : tie.Need-refused-call-requires
+refused-call-requires c κs = search needs
+
+returns : tie.Need-returns
+unfolding ascii
+returns c =
+    let st = c .before .before .before .before .before .before in
+    start-after (st .args .kind) (st .pre .1) (field-not (st .args .line .now) (st .args .at) _ (ascii " start=") [] tt (rw (c .before .enum-told .given .1) at (c .before .before .before .number-field .ensures)) (c .refused-call .ensures))
+
+targets-field-requires : tie.Need-targets-field-requires
+targets-field-requires c κs =
+    let f = rw (c .before .start .given .1) at (c .before .before .before .number-field .ensures) in
+    f .0
+
+enum-known-answer : tie.Need-enum-known-answer
+enum-known-answer c = search needs
+
+enum-told-2 : tie.Need-enum-told-2
+enum-told-2 c = search needs
+
+refused-call-requires-2 : tie.Need-refused-call-requires-2
+refused-call-requires-2 c κs = search needs
+
+returns-2 : tie.Need-returns-2
+returns-2 c =
+    let p = c .before .before .before .before in
+    first p (targets-not (p .before .before .before .before .before .before .args .line .now) (p .before .start .given .0 .1 .0) _ (rw (c .before .enum-told2 .given .1) at (c .before .before .before .targets-field .ensures)) (c .refused-call2 .ensures))
+
+call-made-requires : tie.Need-call-made-requires
+call-made-requires c κs = search needs
+
+returns-3 : tie.Need-returns-3
+returns-3 c =
+    let p = c .before .before .before .before .before .before in
+    first p (targets-are (p .before .before .before .before .before .before .args .line .now) (p .before .start .given .0 .1 .0) _ (rw (c .before .before .before .answer .given .1) at (c .before .before .before .before .before .targets-field .ensures)) (λ ts s k h. c .call-made .ensures ts k h ∙ start-answer (p .before .before .before .before .before .before .args .kind) (p .before .before .before .before .before .before .pre .1) (p .before .start .given .0 .0) ts (search needs) s))
+
+pub start-call-spec : {M : Type 1} → statement M
+start-call-spec =
+    tie.close
+    (tie.spec
+    slice-aggregate-number-field
+    number-field-requires
+    enum-known-start
+    enum-told
+    refused-call-requires
+    returns
+    targets-field-requires
+    enum-known-answer
+    enum-told-2
+    refused-call-requires-2
+    returns-2
+    call-made-requires
+    returns-3)

@@ -1,0 +1,74 @@
+-- `lines::step::place_step` meets its contract: a key, and the end.
+-- Assumes nothing.
+use mathlib.Core.Path.{refl, _∙_}
+use mathlib.Core.Bool.{false}
+use mathlib.Core.List.{[], _∷_}
+use lib.ListN.{drop}
+use Rattle.text.specs.Text.{ascii}
+use native.Mathlib.Omega.{arith}
+use Rattle.lines.specs.Answers.{Reads, refusedStep, stepAnswer, stepForm}
+use Rattle.lines.specs.Reads.{ValuesOf, StepAfter}
+use Rattle.lines.specs.declared.step.StepLine.{StepLine}
+use Rattle.lines.proofs.Chains.{field-not, field-then, end-not, end-is}
+use Rattle.lines.proofs.Steps.{by-literals, place-answer}
+use borrow.Author.Needs.{needs}
+use Rattle.lines.proofs.step.place_step.Statement.{statement}
+use Rattle.lines.proofs.step.place_step.Tie as tie
+
+-- after the first number
+first : (c : tie.After-known-told) {r : StepLine} → Reads (ValuesOf [] false (drop (c .before .place .given .0 .1 .0) (c .before .before .before .before .before .before .args .line .now))) (λ v. stepAnswer (stepForm ((c .before .before .before .before .before .before .args) .kind) (c .before .place .given .0 .0) (v .x) (v .y))) (refusedStep 10) r
+    → StepAfter (c .before .before .before .before .before .before .args .kind) (drop (c .before .before .before .before .before .before .args .at) (c .before .before .before .before .before .before .args .line .now)) r
+unfolding ascii
+first c h = let st = c .before .before .before .before .before .before in by-literals (st .args .kind) (ascii " at=" ∷ []) _ _ (st .pre .1) (field-then (st .args .line .now) (st .args .at) _ (ascii " at=") [] tt _ _ (rw (c .before .place .given .1) at (c .before .before .before .number-field .ensures)) (search needs) (λ k l m s. s .2) h)
+
+slice-aggregate-number-field : tie.Need-slice-aggregate-number-field
+slice-aggregate-number-field c = search needs
+
+number-field-requires : tie.Need-number-field-requires
+number-field-requires c κs = search needs
+
+enum-known-place : tie.Need-enum-known-place
+enum-known-place c = search needs
+
+enum-told : tie.Need-enum-told
+enum-told c = search needs
+
+refused-step-requires : tie.Need-refused-step-requires
+refused-step-requires c κs = search needs
+
+returns : tie.Need-returns
+unfolding ascii
+returns c =
+    let st = c .before .before .before .before .before .before in
+    by-literals (st .args .kind) (ascii " at=" ∷ []) _ _ (st .pre .1) (field-not (st .args .line .now) (st .args .at) _ (ascii " at=") [] tt (rw (c .before .enum-told .given .1) at (c .before .before .before .number-field .ensures)) (c .refused-step .ensures))
+
+refused-step-requires-2 : tie.Need-refused-step-requires-2
+refused-step-requires-2 c κs = search needs
+
+returns-2 : tie.Need-returns-2
+returns-2 c =
+    let p = c .before .before in
+    first p (end-not (p .before .before .before .before .before .before .args .line .now) (p .before .place .given .0 .1 .0) _ (c .before .if1 .taken) (c .refused-step2 .ensures))
+
+step-made-requires : tie.Need-step-made-requires
+step-made-requires c κs = search needs
+
+returns-3 : tie.Need-returns-3
+returns-3 c =
+    let p = c .before .before in
+    first p (end-is (p .before .before .before .before .before .before .args .line .now) (p .before .place .given .0 .1 .0) _ (c .before .if1 .left) (c .step-made .ensures ∙ place-answer (p .before .before .before .before .before .before .args .kind) (ascii " at=" ∷ []) (p .before .place .given .0 .0) 0 0 (p .before .before .before .before .before .before .pre .1) (omega arith) (refl, refl, refl)))
+
+pub place-step-spec : {M : Type 1} → statement M
+place-step-spec =
+    tie.close
+    (tie.spec
+    slice-aggregate-number-field
+    number-field-requires
+    enum-known-place
+    enum-told
+    refused-step-requires
+    returns
+    refused-step-requires-2
+    returns-2
+    step-made-requires
+    returns-3)
