@@ -36,7 +36,7 @@ pub struct StepLine {
     pub after: u32,
 }
 
-// The place of a step's kind in document 01's list, which is the tally's order. Drain, which has no count, is the ninth.
+// The place of a step's kind in the rules' list of kinds, which is the tally's order. Drain, which has no count, is the ninth.
 pub fn step_number(s: StepLine) -> u8
     ensures { λ r. ⌜ r ≡ stepNumber (stepOf s) ⌝ }
 {
