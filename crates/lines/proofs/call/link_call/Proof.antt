@@ -1,8 +1,8 @@
 -- `lines::call::link_call` meets its contract: a key, and the targets.
 -- Assumes nothing.
-use mathlib.Core.Path.{refl, sym, _∙_}
+use mathlib.Core.Path.{sym, _∙_}
 use mathlib.Core.Bool.{true}
-use mathlib.Core.List.{[], _∷_}
+use mathlib.Core.List.{[]}
 use lib.ListN.{drop}
 use Rattle.text.specs.Text.{ascii}
 use borrow.Author.Tests.{not-true, not-false}

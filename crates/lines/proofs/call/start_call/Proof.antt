@@ -1,8 +1,8 @@
 -- `lines::call::start_call` meets its contract: a number, and the targets.
 -- Assumes nothing.
-use mathlib.Core.Path.{refl, _∙_}
+use mathlib.Core.Path.{_∙_}
 use mathlib.Core.Bool.{true}
-use mathlib.Core.List.{[], _∷_}
+use mathlib.Core.List.{[]}
 use lib.ListN.{drop}
 use Rattle.text.specs.Text.{ascii}
 use Rattle.lines.specs.Answers.{Reads, callForm, refusedCall, callAnswer}
