@@ -1,4 +1,4 @@
--- What a step line takes, whatever tally is lent: what `cg_step` counts of it is the answer's tally.
+-- What a step line takes, for every tally that may be lent: what is to be counted of it makes the tally that `Steps` says.
 -- Assumes nothing.
 use Prim.Native.Nat.{ℕ, _<_}
 use mathlib.Core.Path.{_≡_}

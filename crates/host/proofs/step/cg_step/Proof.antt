@@ -58,8 +58,8 @@ use Rattle.panel.proofs.tally.raise.Symbol as raise-def
 use Rattle.panel.proofs.tally.raise.Symbol.{name as #panel·tally·raise}
 use Rattle.panel.proofs.tally.raise.Met as raise-thm
 use Rattle.session.specs.declared.drain.Counts.{Counts}
-use Rattle.session.proofs.drain.Counts as C
-use Rattle.session.proofs.drain.Counts.Laws as C′
+use Rattle.session.proofs.drain.Counts as N
+use Rattle.session.proofs.drain.Counts.Laws as N′
 use Rattle.host.specs.declared.step.Taken.{Taken}
 use Rattle.host.specs.Entries.{Steps}
 use Rattle.host.specs.Taking.{Drained, Takes}
@@ -86,7 +86,7 @@ abbrev tvals : Tally → List Val
 tvals = LL.vals T.the-type T′.the-laws
 
 abbrev cvals : Counts → List Val
-cvals = LL.vals C.the-type C′.the-laws
+cvals = LL.vals N.the-type N′.the-laws
 
 -- what whoever holds a `Taken` knows of its fields
 module _ (r : Taken) (vs : List Val) (g : Is S.the-row r vs) where
@@ -96,7 +96,7 @@ module _ (r : Taken) (vs : List Val) (g : Is S.the-row r vs) where
   small : r .place < 2 ^ 8
   small = LL.owed S.the-type S′.the-laws r vs g .1 .0 .1
 
-  counts-are : Is C.the-row (r .counts) (cvals (r .counts))
+  counts-are : Is N.the-row (r .counts) (cvals (r .counts))
   counts-are = LL.owed S.the-type S′.the-laws r vs g .1 .1 .0
 
 -- past 8, by how the two tests came out
@@ -105,6 +105,10 @@ past p a b =
     let low : p < 8 → ⊥ = λ l. T-not (ltb p 8) a (subst T (sym (lt-ltb _ _ l)) tt) in
     let same : p ≡ 8 → ⊥ = λ e. T-not (eqb p 8) b (subst T (sym (eq-eqb _ _ e)) tt) in
     omega arith
+
+-- what `drained` ensures
+abbrev Counted : Tally → Counts → Tally → Type 0
+Counted t c u = (ts : List Step) → Drained c ts → u ≡ counted t ts
 
 -- the contracts that the proof cites
 module _ {M : Type 1} (𝓤 : URA M) (H : Heap 𝓤) (A : Atoms 𝓤) (mem : Memory → SProp 𝓤) (run : Routine → Fun 𝓤) where
@@ -116,9 +120,6 @@ module _ {M : Type 1} (𝓤 : URA M) (H : Heap 𝓤) (A : Atoms 𝓤) (mem : Mem
 
   abbrev Adds : Contract 𝓤
   Adds = tripleOf 𝓤 H A adds.signature (adds.spec 𝓤 H A mem run)
-
-  abbrev Counted : Tally → Counts → Tally → Type 0
-  Counted t c u = (ts : List Step) → Drained c ts → u ≡ counted t ts
 
   says-counted : (t : Tally) (c : Counts) (u : Tally) → ent 𝓤 (ensured 𝓤 H A adds.ended (adds.clauses 𝓤 H A mem run) tt (t, (c, tt)) tt u) (fact 𝓤 (Counted t c u))
   says-counted t c u = exE 𝓤 _ (λ ws. snd∗ 𝓤 (sem 𝓤 H A (lasts adds.ended tt (t, (c, tt)) ws)) (fact 𝓤 (Counted t c u)))
@@ -192,9 +193,9 @@ module _ {M : Type 1} (𝓤 : URA M) (H : Heap 𝓤) (A : Atoms 𝓤) (W : Given
   abbrev to-adds : Counts → Adds 𝓤 H A at-mem run .Ghost
   to-adds c = ((tt, tt, tt, (h, (c, tt)), (tvals h, (cvals c, tt))), tt)
 
-  goes-to-adds : (c : Counts) → Is C.the-row c (cvals c) → ent 𝓤 (sem 𝓤 H A (T.the-row .own h (tvals h))) (Adds 𝓤 H A at-mem run .pre (to-adds c))
+  goes-to-adds : (c : Counts) → Is N.the-row c (cvals c) → ent 𝓤 (sem 𝓤 H A (T.the-row .own h (tvals h))) (Adds 𝓤 H A at-mem run .pre (to-adds c))
   goes-to-adds c g =
-      qed W (‵ (T.the-row .own h (tvals h)) ∷ []) ∵ nothing ! $ owned ! C.the-row (Is C.the-row) (LL.makes C.the-type C′.the-plain 𝓤 H A) c _ g $ fjoin ! $ move ! (1 ∷ 0 ∷ []) $ fjoin ! $ nothing ! $ join ! $ frame ! $ done !
+      qed W (‵ (T.the-row .own h (tvals h)) ∷ []) ∵ nothing ! $ owned ! N.the-row (Is N.the-row) (LL.makes N.the-type N′.the-plain 𝓤 H A) c _ g $ fjoin ! $ move ! (1 ∷ 0 ∷ []) $ fjoin ! $ nothing ! $ join ! $ frame ! $ done !
 
   abbrev answered : Taken → Val
   answered r = vint w64 (ofZ w64 (r .answer))
@@ -270,7 +271,7 @@ module _ {M : Type 1} (𝓤 : URA M) (H : Heap 𝓤) (A : Atoms 𝓤) (W : Given
         move ! (1 ∷ []) $ use1 W (raw (Adds 𝓤 H A at-mem run .pre (to-adds (r .counts)))) (goes-to-adds (r .counts) (counts-are r _ is)) $
         calls-at ! fm (Adds 𝓤 H A at-mem run) known-adds (to-adds (r .counts)) (and-then ! (load ! (from ! (stop !)) (look ! 8 refl)) (and-then ! (load ! (from ! (fld ! refl (stop !))) (look-in ! 24 (sub ! 2 {d = 12} refl (whole !)))) (no-more !))) (λ v.
         use1 W (later (some (λ (u : Tally). (‵ ftrue ⊛ ‵ (T.the-row .own u (v ∷ []))) ⊛ raw (ensured 𝓤 H A adds.ended (adds.clauses 𝓤 H A at-mem run) tt (h, (r .counts, tt)) tt u)))) (id⊢ 𝓤 _) $ await ! tt $ pick ! (λ u.
-        split ! $ move ! (1 ∷ []) $ use1 W (raw (fact 𝓤 (Counted 𝓤 H A at-mem run h (r .counts) u))) (says-counted 𝓤 H A at-mem run h (r .counts) u) $ heard ! (Counted 𝓤 H A at-mem run h (r .counts) u) (λ all. split ! $ drop ! $
+        split ! $ move ! (1 ∷ []) $ use1 W (raw (fact 𝓤 (Counted h (r .counts) u))) (says-counted 𝓤 H A at-mem run h (r .counts) u) $ heard ! (Counted h (r .counts) u) (λ all. split ! $ drop ! $
         peeks ! T.the-row (Is T.the-row) (shows 𝓤 H A T.the-row) u (v ∷ []) (λ will.
         -- [what the result owns; the tally's cell; the open borrow; obs; auth; the two tokens; the last list; what frame owns; _13; …]
         land ! (from ! (stop !)) (init ! 10 refl (LL.lawful T.the-type T′.the-laws 𝓤 H A W .typed u _ will .0)) $
