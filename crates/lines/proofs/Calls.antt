@@ -11,7 +11,7 @@ use lib.Dec.{eqb, leb}
 use lib.ListN.{length, getD}
 use Rattle.graph.specs.Calls.{Call, add, map, link, unlink, sum, top, pick, near, operandsOf, targetsOf, areWords}
 use Rattle.graph.specs.KeyLists.{isKey, areKeys, rising}
-use Rattle.graph.specs.Packed.{listed, packed}
+use Rattle.graph.specs.Packed.{packed}
 use Rattle.text.specs.Text.{ascii}
 use Rattle.text.proofs.Splits.{cleanTest, clean-by}
 use Rattle.lines.specs.Forms.{callText, callNumbers}

@@ -1,6 +1,6 @@
 -- Laws of the tally: counting steps one by one is raising each count by the number of its kind.
 -- Assumes nothing.
-use Prim.Native.Nat.{ℕ, zero, suc, _+_, _≤_, _<_}
+use Prim.Native.Nat.{ℕ, zero, suc, _+_, _-_, _≤_, _<_, min}
 use native.Mathlib.Omega.{arith}
 use mathlib.Core.Path.{_≡_, refl, sym, ap, _∙_}
 use mathlib.Core.Bool.{Bool, true, false, cond}
@@ -67,6 +67,10 @@ counted-append t (s ∷ ts) us = counted-append (raised t (tallyPlace s) 1) ts u
 kind-most : (k : ℕ) (ts : List Step) → ofKind k ts ≤ length ts
 kind-most k [] = omega arith
 kind-most k (s ∷ ts) = omega (arith, test-most (eqb k (tallyPlace s)), kind-most k ts)
+
+-- a count that fits is raised by n, or by as much as is left
+pub up-rest : (c n : ℕ) → c ≤ 4294967295 → upBy c n ≡ c + min n (4294967295 - c)
+up-rest c n h = omega arith
 
 pub up-from-zero : (n : ℕ) → n ≤ 4294967295 → upBy 0 n ≡ n
 up-from-zero n h = omega arith

@@ -1,14 +1,15 @@
 -- `lines::call::near_call` meets its contract: a key, a number, and the targets.
 -- Assumes nothing.
-use mathlib.Core.Path.{refl, sym, _∙_}
+use Prim.Native.Nat.{ℕ, _<_, _^_}
+use mathlib.Core.Path.{_≡_, refl, sym, _∙_}
 use mathlib.Core.Bool.{true}
-use mathlib.Core.List.{[], _∷_}
-use lib.ListN.{drop}
-use Rattle.text.specs.Text.{ascii}
+use mathlib.Core.List.{List, [], _∷_}
 use borrow.Author.Tests.{not-true, not-false}
+use lib.ListN.{drop}
 use Rattle.graph.specs.Calls.{near}
+use Rattle.text.specs.Text.{ascii}
 use Rattle.lines.specs.Answers.{Reads, refusedCall, callAnswer}
-use Rattle.lines.specs.Reads.{ValuesOf, CallAfter}
+use Rattle.lines.specs.Reads.{Below, KeysOf, Held, ValuesOf, CallAfter}
 use Rattle.lines.specs.declared.call.CallKind.the-variants.{Near}
 use Rattle.lines.specs.declared.call.CallLine.{CallLine}
 use Rattle.lines.proofs.Chains.{field-not, field-then, targets-not, targets-are}
@@ -18,16 +19,52 @@ use Rattle.lines.proofs.call.near_call.Statement.{statement}
 use Rattle.lines.proofs.call.near_call.Tie as tie
 
 -- after the first number
-first : (c : tie.After-known-told) {r : CallLine} → Reads (ValuesOf (ascii " start=" ∷ []) true (drop (c .before .key .given .0 .1 .0) (c .before .before .before .before .before .before .args .line .now))) (λ v. callAnswer (near (c .before .key .given .0 .0) (v .x) (v .to))) (refusedCall 10) r
-    → CallAfter Near (drop (c .before .before .before .before .before .before .args .at) (c .before .before .before .before .before .before .args .line .now)) r
-unfolding ascii
-first c = let st = c .before .before .before .before .before .before in field-then (st .args .line .now) (st .args .at) _ (ascii " key=") (ascii " start=" ∷ []) (refl, tt) _ _ (rw (c .before .key .given .1) at (c .before .before .before .number-field .ensures)) (search needs) (λ k l m s. s .1)
+module _ (c : tie.After-known-told) where
+  abbrev entry : tie.Start
+  entry = c .before .before .before .before .before .before
+
+  abbrev line : List ℕ
+  line = entry .args .line .now
+
+  abbrev key : ℕ
+  key = c .before .key .given .0 .0
+
+  abbrev afterKey : ℕ
+  afterKey = c .before .key .given .0 .1 .0
+
+  keySmall : key < 2 ^ 32
+  keySmall = search needs
+
+  first : {r : CallLine} → Reads (ValuesOf (ascii " start=" ∷ []) true (drop afterKey line)) (λ v. callAnswer (near key (v .x) (v .to))) (refusedCall 10) r → CallAfter Near (drop (entry .args .at) line) r
+  unfolding ascii
+  first = field-then line (entry .args .at) _ (ascii " key=") (ascii " start=" ∷ []) (refl, tt) key afterKey (rw (c .before .key .given .1) at (c .before .before .before .number-field .ensures)) keySmall (λ k l m s. s .1)
 
 -- after the second number
-second : (c : tie.After-known-told2) {r : CallLine} → Reads (ValuesOf [] true (drop (c .before .start .given .0 .1 .0) (c .before .before .before .before .before .before .before .before .before .before .before .args .line .now))) (λ v. callAnswer (near (c .before .before .before .before .before .before .key .given .0 .0) (c .before .start .given .0 .0) (v .to))) (refusedCall 10) r
-    → CallAfter Near (drop (c .before .before .before .before .before .before .before .before .before .before .before .args .at) (c .before .before .before .before .before .before .before .before .before .before .before .args .line .now)) r
-unfolding ascii
-second c h = first (c .before .before .before .before .before) (field-then (c .before .before .before .before .before .before .before .before .before .before .before .args .line .now) (c .before .before .before .before .before .before .key .given .0 .1 .0) _ (ascii " start=") [] tt _ _ (rw (c .before .start .given .1) at (c .before .before .before .number-field2 .ensures)) (search needs) (λ k l m s. s .2) h)
+module _ (c : tie.After-known-told2) where
+  abbrev one : tie.After-known-told
+  one = c .before .before .before .before .before
+
+  abbrev start : ℕ
+  start = c .before .start .given .0 .0
+
+  abbrev afterStart : ℕ
+  afterStart = c .before .start .given .0 .1 .0
+
+  startSmall : start < 2 ^ 32
+  startSmall = search needs
+
+  second : {r : CallLine} → Reads (ValuesOf [] true (drop afterStart (line one))) (λ v. callAnswer (near (key one) start (v .to))) (refusedCall 10) r → CallAfter Near (drop (entry one .args .at) (line one)) r
+  unfolding ascii
+  second h = first one (field-then (line one) (afterKey one) _ (ascii " start=") [] tt start afterStart (rw (c .before .start .given .1) at (c .before .before .before .number-field2 .ensures)) startSmall (λ k l m s. s .2) h)
+
+-- after the targets
+module _ (c : tie.After-known-told3) where
+  abbrev numbers : tie.After-known-told2
+  numbers = c .before .before .before .before
+
+  served : {r : CallLine} → ((ts : List ℕ) → Below ts → KeysOf ts (c .before .answer .given .0 .0) → Held ts (c .before .before .before .targets-field .result .key) → r ≡ callAnswer (near (key (one numbers)) (start numbers) ts))
+      → CallAfter Near (drop (entry (one numbers) .args .at) (line (one numbers))) r
+  served made = second numbers (targets-are (line (one numbers)) (afterStart numbers) _ (rw (c .before .answer .given .1) at (c .before .before .before .targets-field .ensures)) made)
 
 slice-aggregate-number-field : tie.Need-slice-aggregate-number-field
 slice-aggregate-number-field c = search needs
@@ -71,7 +108,7 @@ returns-2 : tie.Need-returns-2
 unfolding ascii
 returns-2 c =
     let p = c .before .before .before .before .before in
-    first p (field-not (p .before .before .before .before .before .before .args .line .now) (p .before .key .given .0 .1 .0) _ (ascii " start=") [] tt (rw (c .before .enum-told2 .given .1) at (c .before .before .before .number-field2 .ensures)) (c .refused-call2 .ensures))
+    first p (field-not (line p) (afterKey p) _ (ascii " start=") [] tt (rw (c .before .enum-told2 .given .1) at (c .before .before .before .number-field2 .ensures)) (c .refused-call2 .ensures))
 
 targets-field-requires : tie.Need-targets-field-requires
 targets-field-requires c κs =
@@ -89,8 +126,8 @@ refused-call-requires-3 c κs = search needs
 
 returns-3 : tie.Need-returns-3
 returns-3 c =
-    let p = c .before .before .before .before in
-    second p (targets-not (p .before .before .before .before .before .before .before .before .before .before .before .args .line .now) (p .before .start .given .0 .1 .0) _ (rw (c .before .enum-told3 .given .1) at (c .before .before .before .targets-field .ensures)) (c .refused-call3 .ensures))
+    let n = c .before .before .before .before in
+    second n (targets-not (line (one n)) (afterStart n) _ (rw (c .before .enum-told3 .given .1) at (c .before .before .before .targets-field .ensures)) (c .refused-call3 .ensures))
 
 is-key-requires : tie.Need-is-key-requires
 is-key-requires c κs = search needs
@@ -100,16 +137,18 @@ refused-call-requires-4 c κs = search needs
 
 returns-4 : tie.Need-returns-4
 returns-4 c =
-    let p = c .before .before .before .before .before .before .before in
-    second p (targets-are (p .before .before .before .before .before .before .before .before .before .before .before .args .line .now) (p .before .start .given .0 .1 .0) _ (rw (c .before .before .before .before .answer .given .1) at (c .before .before .before .before .before .before .targets-field .ensures)) (λ ts s k h. c .refused-call4 .ensures ∙ near-refused (p .before .before .before .before .before .before .key .given .0 .0) (p .before .start .given .0 .0) ts (search needs) (search needs) s (sym (c .before .before .is-key .ensures) ∙ not-true (c .before .before .is-key .result) (c .before .if1 .taken))))
+    let t = c .before .before .before in
+    let n = numbers t in
+    served t (λ ts s k h. c .refused-call4 .ensures ∙ near-refused (key (one n)) (start n) ts (keySmall (one n)) (startSmall n) s (sym (c .before .before .is-key .ensures) ∙ not-true (c .before .before .is-key .result) (c .before .if1 .taken)))
 
 call-made-requires : tie.Need-call-made-requires
 call-made-requires c κs = search needs
 
 returns-5 : tie.Need-returns-5
 returns-5 c =
-    let p = c .before .before .before .before .before .before .before .before in
-    second p (targets-are (p .before .before .before .before .before .before .before .before .before .before .before .args .line .now) (p .before .start .given .0 .1 .0) _ (rw (c .before .before .before .before .before .answer .given .1) at (c .before .before .before .before .before .before .before .targets-field .ensures)) (λ ts s k h. c .call-made .ensures ts k h ∙ near-answer (p .before .before .before .before .before .before .key .given .0 .0) (p .before .start .given .0 .0) ts (search needs) (search needs) s (sym (c .before .before .before .is-key .ensures) ∙ not-false (c .before .before .before .is-key .result) (c .before .before .if1 .left))))
+    let t = c .before .before .before .before in
+    let n = numbers t in
+    served t (λ ts s k h. c .call-made .ensures ts k h ∙ near-answer (key (one n)) (start n) ts (keySmall (one n)) (startSmall n) s (sym (c .before .before .before .is-key .ensures) ∙ not-false (c .before .before .before .is-key .result) (c .before .before .if1 .left)))
 
 pub near-call-spec : {M : Type 1} → statement M
 near-call-spec =

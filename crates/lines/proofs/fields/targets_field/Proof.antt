@@ -55,7 +55,7 @@ returns-2 : tie.Need-returns-2
 returns-2 c =
     let v = c .before .before in
     let a = v .before .before .before .before .before .before .before .args in
-    rw (c .no-targets2 .ensures) (targets-parted (a .line .now) (a .at) _ (place-at (v .before .before)) (rw (v .value-at .ensures) at (c .before .if1 .taken)))
+    rw (c .no-targets2 .ensures) (targets-parted (a .line .now) (a .at) _ (place-at (v .before .before)) (rw (← v .value-at .ensures) (omega arith)))
 
 read-keys-requires : tie.Need-read-keys-requires
 read-keys-requires c κs = search needs
@@ -64,7 +64,7 @@ returns-3 : tie.Need-returns-3
 returns-3 c =
     let v = c .before .before in
     let a = v .before .before .before .before .before .before .before .args in
-    targets-list (a .line .now) (a .at) _ (place-at (v .before .before)) (rw (v .value-at .ensures) at (c .before .if1 .left)) (c .read-keys .result .answer) (c .read-keys .result .key) (rw (v .value-at .ensures) at (c .read-keys .ensures))
+    targets-list (a .line .now) (a .at) _ (place-at (v .before .before)) (rw (← v .value-at .ensures) (omega arith)) (c .read-keys .result .answer) (c .read-keys .result .key) (rw (v .value-at .ensures) at (c .read-keys .ensures))
 
 pub targets-field-spec : {M : Type 1} → statement M
 targets-field-spec =

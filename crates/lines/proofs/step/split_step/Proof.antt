@@ -1,11 +1,12 @@
 -- `lines::step::split_step` meets its contract: a key, two numbers, and the end.
 -- Assumes nothing.
+use Prim.Native.Nat.{ℕ}
 use mathlib.Core.Path.{refl, _∙_}
 use mathlib.Core.Bool.{false}
-use mathlib.Core.List.{[], _∷_}
+use mathlib.Core.List.{List, [], _∷_}
+use native.Mathlib.Omega.{arith}
 use lib.ListN.{drop}
 use Rattle.text.specs.Text.{ascii}
-use native.Mathlib.Omega.{arith}
 use Rattle.lines.specs.Answers.{Reads, refusedStep, stepAnswer, stepForm}
 use Rattle.lines.specs.Reads.{ValuesOf, StepAfter}
 use Rattle.lines.specs.declared.step.StepKind.the-variants.{Split}
@@ -17,22 +18,52 @@ use Rattle.lines.proofs.step.split_step.Statement.{statement}
 use Rattle.lines.proofs.step.split_step.Tie as tie
 
 -- after the first number
-first : (c : tie.After-known-told) {r : StepLine} → Reads (ValuesOf (ascii " unit=" ∷ ascii " after=" ∷ []) false (drop (c .before .place .given .0 .1 .0) (c .before .before .before .before .before .before .args .line .now))) (λ v. stepAnswer (stepForm Split (c .before .place .given .0 .0) (v .x) (v .y))) (refusedStep 10) r
-    → StepAfter Split (drop (c .before .before .before .before .before .before .args .at) (c .before .before .before .before .before .before .args .line .now)) r
-unfolding ascii
-first c = let st = c .before .before .before .before .before .before in field-then (st .args .line .now) (st .args .at) _ (ascii " at=") (ascii " unit=" ∷ ascii " after=" ∷ []) (refl, (refl, tt)) _ _ (rw (c .before .place .given .1) at (c .before .before .before .number-field .ensures)) (search needs) (λ k l m s. s .0)
+module _ (c : tie.After-known-told) where
+  abbrev entry : tie.Start
+  entry = c .before .before .before .before .before .before
+
+  abbrev line : List ℕ
+  line = entry .args .line .now
+
+  abbrev place : ℕ
+  place = c .before .place .given .0 .0
+
+  abbrev afterPlace : ℕ
+  afterPlace = c .before .place .given .0 .1 .0
+
+  first : {r : StepLine} → Reads (ValuesOf (ascii " unit=" ∷ ascii " after=" ∷ []) false (drop afterPlace line)) (λ v. stepAnswer (stepForm Split place (v .x) (v .y))) (refusedStep 10) r → StepAfter Split (drop (entry .args .at) line) r
+  unfolding ascii
+  first = field-then line (entry .args .at) _ (ascii " at=") (ascii " unit=" ∷ ascii " after=" ∷ []) (refl, (refl, tt)) place afterPlace (rw (c .before .place .given .1) at (c .before .before .before .number-field .ensures)) (search needs) (λ k l m s. s .0)
 
 -- after the second number
-second : (c : tie.After-known-told2) {r : StepLine} → Reads (ValuesOf (ascii " after=" ∷ []) false (drop (c .before .unit .given .0 .1 .0) (c .before .before .before .before .before .before .before .before .before .before .before .args .line .now))) (λ v. stepAnswer (stepForm Split (c .before .before .before .before .before .before .place .given .0 .0) (c .before .unit .given .0 .0) (v .x))) (refusedStep 10) r
-    → StepAfter Split (drop (c .before .before .before .before .before .before .before .before .before .before .before .args .at) (c .before .before .before .before .before .before .before .before .before .before .before .args .line .now)) r
-unfolding ascii
-second c h = first (c .before .before .before .before .before) (field-then (c .before .before .before .before .before .before .before .before .before .before .before .args .line .now) (c .before .before .before .before .before .before .place .given .0 .1 .0) _ (ascii " unit=") (ascii " after=" ∷ []) (refl, tt) _ _ (rw (c .before .unit .given .1) at (c .before .before .before .number-field2 .ensures)) (search needs) (λ k l m s. s .1) h)
+module _ (c : tie.After-known-told2) where
+  abbrev one : tie.After-known-told
+  one = c .before .before .before .before .before
+
+  abbrev unit : ℕ
+  unit = c .before .unit .given .0 .0
+
+  abbrev afterUnit : ℕ
+  afterUnit = c .before .unit .given .0 .1 .0
+
+  second : {r : StepLine} → Reads (ValuesOf (ascii " after=" ∷ []) false (drop afterUnit (line one))) (λ v. stepAnswer (stepForm Split (place one) unit (v .x))) (refusedStep 10) r → StepAfter Split (drop (entry one .args .at) (line one)) r
+  unfolding ascii
+  second h = first one (field-then (line one) (afterPlace one) _ (ascii " unit=") (ascii " after=" ∷ []) (refl, tt) unit afterUnit (rw (c .before .unit .given .1) at (c .before .before .before .number-field2 .ensures)) (search needs) (λ k l m s. s .1) h)
 
 -- after the third number
-third : (c : tie.After-known-told3) {r : StepLine} → Reads (ValuesOf [] false (drop (c .before .after .given .0 .1 .0) (c .before .before .before .before .before .before .before .before .before .before .before .before .before .before .before .before .args .line .now))) (λ v. stepAnswer (stepForm Split (c .before .before .before .before .before .before .before .before .before .before .before .place .given .0 .0) (c .before .before .before .before .before .before .unit .given .0 .0) (c .before .after .given .0 .0))) (refusedStep 10) r
-    → StepAfter Split (drop (c .before .before .before .before .before .before .before .before .before .before .before .before .before .before .before .before .args .at) (c .before .before .before .before .before .before .before .before .before .before .before .before .before .before .before .before .args .line .now)) r
-unfolding ascii
-third c h = second (c .before .before .before .before .before) (field-then (c .before .before .before .before .before .before .before .before .before .before .before .before .before .before .before .before .args .line .now) (c .before .before .before .before .before .before .unit .given .0 .1 .0) _ (ascii " after=") [] tt _ _ (rw (c .before .after .given .1) at (c .before .before .before .number-field3 .ensures)) (search needs) (λ k l m s. s .2) h)
+module _ (c : tie.After-known-told3) where
+  abbrev two : tie.After-known-told2
+  two = c .before .before .before .before .before
+
+  abbrev after : ℕ
+  after = c .before .after .given .0 .0
+
+  abbrev atAfter : ℕ
+  atAfter = c .before .after .given .0 .1 .0
+
+  third : {r : StepLine} → Reads (ValuesOf [] false (drop atAfter (line (one two)))) (λ v. stepAnswer (stepForm Split (place (one two)) (unit two) after)) (refusedStep 10) r → StepAfter Split (drop (entry (one two) .args .at) (line (one two))) r
+  unfolding ascii
+  third h = second two (field-then (line (one two)) (afterUnit two) _ (ascii " after=") [] tt after atAfter (rw (c .before .after .given .1) at (c .before .before .before .number-field3 .ensures)) (search needs) (λ k l m s. s .2) h)
 
 slice-aggregate-number-field : tie.Need-slice-aggregate-number-field
 slice-aggregate-number-field c = search needs
@@ -76,7 +107,7 @@ returns-2 : tie.Need-returns-2
 unfolding ascii
 returns-2 c =
     let p = c .before .before .before .before .before in
-    first p (field-not (p .before .before .before .before .before .before .args .line .now) (p .before .place .given .0 .1 .0) _ (ascii " unit=") (ascii " after=" ∷ []) (refl, tt) (rw (c .before .enum-told2 .given .1) at (c .before .before .before .number-field2 .ensures)) (c .refused-step2 .ensures))
+    first p (field-not (line p) (afterPlace p) _ (ascii " unit=") (ascii " after=" ∷ []) (refl, tt) (rw (c .before .enum-told2 .given .1) at (c .before .before .before .number-field2 .ensures)) (c .refused-step2 .ensures))
 
 slice-aggregate-number-field-3 : tie.Need-slice-aggregate-number-field-3
 slice-aggregate-number-field-3 c = search needs
@@ -99,23 +130,23 @@ returns-3 : tie.Need-returns-3
 unfolding ascii
 returns-3 c =
     let p = c .before .before .before .before .before in
-    second p (field-not (p .before .before .before .before .before .before .before .before .before .before .before .args .line .now) (p .before .unit .given .0 .1 .0) _ (ascii " after=") [] tt (rw (c .before .enum-told3 .given .1) at (c .before .before .before .number-field3 .ensures)) (c .refused-step3 .ensures))
+    second p (field-not (line (one p)) (afterUnit p) _ (ascii " after=") [] tt (rw (c .before .enum-told3 .given .1) at (c .before .before .before .number-field3 .ensures)) (c .refused-step3 .ensures))
 
 refused-step-requires-4 : tie.Need-refused-step-requires-4
 refused-step-requires-4 c κs = search needs
 
 returns-4 : tie.Need-returns-4
 returns-4 c =
-    let p = c .before .before in
-    third p (end-not (p .before .before .before .before .before .before .before .before .before .before .before .before .before .before .before .before .args .line .now) (p .before .after .given .0 .1 .0) _ (c .before .if1 .taken) (c .refused-step4 .ensures))
+    let n = c .before .before in
+    third n (end-not (line (one (two n))) (atAfter n) _ (c .before .if1 .taken) (c .refused-step4 .ensures))
 
 step-made-requires : tie.Need-step-made-requires
 step-made-requires c κs = search needs
 
 returns-5 : tie.Need-returns-5
 returns-5 c =
-    let p = c .before .before in
-    third p (end-is (p .before .before .before .before .before .before .before .before .before .before .before .before .before .before .before .before .args .line .now) (p .before .after .given .0 .1 .0) _ (c .before .if1 .left) (c .step-made .ensures ∙ place-answer Split (ascii " at=" ∷ ascii " unit=" ∷ ascii " after=" ∷ []) (p .before .before .before .before .before .before .before .before .before .before .before .place .given .0 .0) (p .before .before .before .before .before .before .unit .given .0 .0) (p .before .after .given .0 .0) refl (omega arith) (refl, refl, refl)))
+    let n = c .before .before in
+    third n (end-is (line (one (two n))) (atAfter n) _ (c .before .if1 .left) (c .step-made .ensures ∙ place-answer Split (ascii " at=" ∷ ascii " unit=" ∷ ascii " after=" ∷ []) (place (one (two n))) (unit (two n)) (after n) refl (omega arith) (refl, refl, refl)))
 
 pub split-step-spec : {M : Type 1} → statement M
 split-step-spec =
