@@ -93,24 +93,16 @@ literals-after (c ∷ cs) others h = h .1
 abbrev before : ℕ → Values → Values
 before x v = record { x = x; y = v .x; z = v .y; to = v .to }
 
-abbrev pub only : List ℕ → Values
+abbrev only : List ℕ → Values
 only ts = record { x = 0; y = 0; z = 0; to = ts }
 
-module _ {R : Type 0} {ten r : R} (s : List ℕ) (at : ℕ) (answer : Values → R) where
+module _ {R : Type 0} {ten r : R} {answer : Values → R} (s : List ℕ) (at : ℕ) where
   -- the line's end
   pub end-not : at < length s → r ≡ ten → Reads (ValuesOf [] false (drop at s)) answer ten r
   end-not h = other (λ v i. omega (arith, ap length (i .same), length-drop at s))
 
   pub end-is : length s ≤ at → r ≡ answer (only []) → Reads (ValuesOf [] false (drop at s)) answer ten r
   end-is h = form (only []) (record { small = (omega arith, omega arith, omega arith, tt); spare = (refl, refl, refl); tailed = refl; same = drop-of-length-le s h })
-
-  pub targets-not : ((ts : List ℕ) → Below ts → drop at s ≡ targets ts → ⊥) → r ≡ ten → Reads (ValuesOf [] true (drop at s)) answer ten r
-  targets-not never = other (λ v i. never (v .to) (i .small .3) (i .same))
-
-  pub targets-are : {k : KeyList} {key : List ℕ} → TargetsOf targets (drop at s) (Are k) key → ((ts : List ℕ) → Below ts → KeysOf ts k → Held ts key → r ≡ answer (only ts))
-      → Reads (ValuesOf [] true (drop at s)) answer ten r
-  targets-are t made =
-      form (only (t .0)) (record { small = (omega arith, omega arith, omega arith, t .1); spare = (refl, refl, refl); tailed = tt; same = t .2 }) (made (t .0) (t .1) (t .3) (t .4))
 
   -- a field that is not read
   pub field-not : {listed : Bool} (a : List ℕ) (more : List (List ℕ)) → Literals more → FieldOf s at a Not → r ≡ ten → Reads (ValuesOf (a ∷ more) listed (drop at s)) answer ten r
@@ -128,10 +120,11 @@ spare-last (a ∷ []) h x y z s = s .1
 spare-last (a ∷ b ∷ []) h x y z s = s .0
 spare-last (a ∷ b ∷ c ∷ others) h x y z s = absurd (omega arith)
 
--- a field that is read, and those after it
-module _ {R : Type 0} {ten r : R} {answer : Values → R} {listed : Bool} {s : List ℕ} {at x n : ℕ} {a : List ℕ} (p : NumberAt s at a x n) (more : List (List ℕ)) (gaps : Literals more) (few : length more ≤ 2) where
-  pub field-then : Reads (ValuesOf more listed (drop n s)) (λ v. answer (before x v)) ten r → Reads (ValuesOf (a ∷ more) listed (drop at s)) answer ten r
-  field-then (form v i e) =
+module _ {R : Type 0} {ten r : R} {answer : Values → R} {s : List ℕ} {at x n : ℕ} {a : List ℕ} (p : NumberAt s at a x n) where
+  -- a number that is read, and the fields after it
+  pub number-then : {listed : Bool} (more : List (List ℕ)) → Literals more → length more ≤ 2 → Reads (ValuesOf more listed (drop n s)) (λ v. answer (before x v)) ten r
+      → Reads (ValuesOf (a ∷ more) listed (drop at s)) answer ten r
+  number-then {listed} more gaps few (form v i e) =
       let z : v .z ≡ 0 = spare-last more few (v .x) (v .y) (v .z) (i .spare) in
       form (before x v)
       (record {
@@ -141,7 +134,7 @@ module _ {R : Type 0} {ten r : R} {answer : Values → R} {listed : Bool} {s : L
         same = p .field .1 ∙ ap (λ (l : List ℕ). a ++ (decimal x ++ l)) (i .same ∙ ap (λ (k : ℕ). fieldsText more listed (v .x) (v .y) k (v .to)) z);
       })
       e
-  field-then (other never e) =
+  number-then {listed} more gaps few (other never e) =
       other (λ v i. never (record { x = v .y; y = v .z; z = 0; to = v .to })
       (record {
         small = (i .small .1, i .small .2, omega arith, i .small .3);
@@ -152,3 +145,25 @@ module _ {R : Type 0} {ten r : R} {answer : Values → R} {listed : Bool} {s : L
             (p .field .2) (fields-gap more gaps listed (v .y) (v .z) 0 (v .to)) .1;
       }))
       e
+
+  -- a number, and another that is not read
+  pub next-not : {listed : Bool} (b : List ℕ) (more : List (List ℕ)) → Literals (b ∷ more) → length more ≤ 1 → FieldOf s n b Not → r ≡ ten
+      → Reads (ValuesOf (a ∷ b ∷ more) listed (drop at s)) answer ten r
+  next-not b more gaps few f e = number-then (b ∷ more) gaps (omega arith) (field-not s n b more (literals-after b more gaps) f e)
+
+  -- the last number, and the line's end
+  pub last-not : n < length s → r ≡ ten → Reads (ValuesOf (a ∷ []) false (drop at s)) answer ten r
+  last-not h e = number-then [] tt (omega arith) (end-not s n h e)
+
+  pub last-is : length s ≤ n → r ≡ answer (before x (only [])) → Reads (ValuesOf (a ∷ []) false (drop at s)) answer ten r
+  last-is h e = number-then [] tt (omega arith) (end-is s n h e)
+
+  -- the last number, and the targets
+  pub targets-not : ((ts : List ℕ) → Below ts → drop n s ≡ targets ts → ⊥) → r ≡ ten → Reads (ValuesOf (a ∷ []) true (drop at s)) answer ten r
+  targets-not never e = number-then [] tt (omega arith) (other (λ v i. never (v .to) (i .small .3) (i .same)) e)
+
+  pub targets-are : {k : KeyList} {key : List ℕ} → TargetsOf targets (drop n s) (Are k) key → ((ts : List ℕ) → Below ts → KeysOf ts k → Held ts key → r ≡ answer (before x (only ts)))
+      → Reads (ValuesOf (a ∷ []) true (drop at s)) answer ten r
+  targets-are t made =
+      number-then [] tt (omega arith)
+      (form (only (t .0)) (record { small = (omega arith, omega arith, omega arith, t .1); spare = (refl, refl, refl); tailed = tt; same = t .2 }) (made (t .0) (t .1) (t .3) (t .4)))

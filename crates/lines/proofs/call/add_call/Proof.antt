@@ -2,11 +2,10 @@
 -- Assumes nothing.
 use mathlib.Core.Path.{ap, _∙_}
 use mathlib.Core.List.{[]}
-use native.Mathlib.Omega.{arith}
 use Rattle.graph.specs.declared.keys.Keys.{Keys}
 use Rattle.text.specs.Text.{ascii}
 use Rattle.lines.specs.declared.call.CallKind.the-variants.{Add}
-use Rattle.lines.proofs.Chains.{NumberAt, field-not, field-then, end-not, end-is}
+use Rattle.lines.proofs.Chains.{NumberAt, field-not, last-not, last-is}
 use Rattle.lines.proofs.Calls.{add-answer}
 use borrow.Author.Needs.{needs}
 use Rattle.lines.proofs.call.add_call.Statement.{statement}
@@ -35,7 +34,7 @@ returns : tie.Need-returns
 unfolding ascii
 returns c =
     let st = c .before .before .before .before .before .before in
-    field-not (st .args .line .now) (st .args .at) _ (ascii " value=") [] tt (rw (c .before .enum-told .given .1) at (c .before .before .before .number-field .ensures)) (c .refused-call .ensures)
+    field-not (st .args .line .now) (st .args .at) (ascii " value=") [] tt (rw (c .before .enum-told .given .1) at (c .before .before .before .number-field .ensures)) (c .refused-call .ensures)
 
 refused-call-requires-2 : tie.Need-refused-call-requires-2
 refused-call-requires-2 c κs = search needs
@@ -43,7 +42,7 @@ refused-call-requires-2 c κs = search needs
 returns-2 : tie.Need-returns-2
 returns-2 c =
     let n = c .before .before in
-    field-then (value-at n) [] tt (omega arith) (end-not (n .before .before .before .before .before .before .args .line .now) (n .before .value .given .0 .1 .0) _ (c .before .if1 .taken) (c .refused-call2 .ensures))
+    last-not (value-at n) (c .before .if1 .taken) (c .refused-call2 .ensures)
 
 none-requires : tie.Need-none-requires
 none-requires c κs = search needs
@@ -51,7 +50,7 @@ none-requires c κs = search needs
 returns-3 : tie.Need-returns-3
 returns-3 c =
     let n = c .before .before in
-    field-then (value-at n) [] tt (omega arith) (end-is (n .before .before .before .before .before .before .args .line .now) (n .before .value .given .0 .1 .0) _ (c .before .if1 .left) (ap (λ (ks : Keys). record { refusal = 0; kind = Add; x = n .before .value .given .0 .0; y = 0; to = ks }) (c .none .ensures) ∙ add-answer (n .before .value .given .0 .0) (value-at n .small)))
+    last-is (value-at n) (c .before .if1 .left) (ap (λ (ks : Keys). record { refusal = 0; kind = Add; x = n .before .value .given .0 .0; y = 0; to = ks }) (c .none .ensures) ∙ add-answer (n .before .value .given .0 .0) (value-at n .small))
 
 pub add-call-spec : {M : Type 1} → statement M
 add-call-spec =

@@ -2,10 +2,9 @@
 -- Assumes nothing.
 use mathlib.Core.Path.{sym, _∙_}
 use mathlib.Core.List.{[]}
-use native.Mathlib.Omega.{arith}
 use borrow.Author.Tests.{not-true, not-false}
 use Rattle.text.specs.Text.{ascii}
-use Rattle.lines.proofs.Chains.{NumberAt, field-not, field-then, targets-not, targets-are}
+use Rattle.lines.proofs.Chains.{NumberAt, field-not, targets-not, targets-are}
 use Rattle.lines.proofs.Calls.{link-after, link-answer, link-refused}
 use borrow.Author.Needs.{needs}
 use Rattle.lines.proofs.call.link_call.Statement.{statement}
@@ -34,7 +33,7 @@ returns : tie.Need-returns
 unfolding ascii
 returns c =
     let st = c .before .before .before .before .before .before in
-    link-after (st .args .kind) (st .pre .1) (field-not (st .args .line .now) (st .args .at) _ (ascii " key=") [] tt (rw (c .before .enum-told .given .1) at (c .before .before .before .number-field .ensures)) (c .refused-call .ensures))
+    link-after (st .args .kind) (st .pre .1) (field-not (st .args .line .now) (st .args .at) (ascii " key=") [] tt (rw (c .before .enum-told .given .1) at (c .before .before .before .number-field .ensures)) (c .refused-call .ensures))
 
 targets-field-requires : tie.Need-targets-field-requires
 targets-field-requires c κs = key-at c .field .0
@@ -51,7 +50,7 @@ refused-call-requires-2 c κs = search needs
 returns-2 : tie.Need-returns-2
 returns-2 c =
     let n = c .before .before .before .before in
-    link-after (n .before .before .before .before .before .before .args .kind) (n .before .before .before .before .before .before .pre .1) (field-then (key-at n) [] tt (omega arith) (targets-not (n .before .before .before .before .before .before .args .line .now) (n .before .key .given .0 .1 .0) _ (rw (c .before .enum-told2 .given .1) at (c .before .before .before .targets-field .ensures)) (c .refused-call2 .ensures)))
+    link-after (n .before .before .before .before .before .before .args .kind) (n .before .before .before .before .before .before .pre .1) (targets-not (key-at n) (rw (c .before .enum-told2 .given .1) at (c .before .before .before .targets-field .ensures)) (c .refused-call2 .ensures))
 
 is-key-requires : tie.Need-is-key-requires
 is-key-requires c κs = search needs
@@ -63,7 +62,7 @@ returns-3 : tie.Need-returns-3
 returns-3 c =
     let t = c .before .before .before in
     let n = t .before .before .before .before in
-    link-after (n .before .before .before .before .before .before .args .kind) (n .before .before .before .before .before .before .pre .1) (field-then (key-at n) [] tt (omega arith) (targets-are (n .before .before .before .before .before .before .args .line .now) (n .before .key .given .0 .1 .0) _ (rw (t .before .answer .given .1) at (t .before .before .before .targets-field .ensures)) (λ ts s k h. c .refused-call3 .ensures ∙ link-refused (n .before .before .before .before .before .before .args .kind) (n .before .before .before .before .before .before .pre .1) (n .before .key .given .0 .0) ts (key-at n .small) s (sym (c .before .before .is-key .ensures) ∙ not-true (c .before .before .is-key .result) (c .before .if1 .taken)))))
+    link-after (n .before .before .before .before .before .before .args .kind) (n .before .before .before .before .before .before .pre .1) (targets-are (key-at n) (rw (t .before .answer .given .1) at (t .before .before .before .targets-field .ensures)) (λ ts s k h. c .refused-call3 .ensures ∙ link-refused (n .before .before .before .before .before .before .args .kind) (n .before .before .before .before .before .before .pre .1) _ ts (key-at n .small) s (sym (c .before .before .is-key .ensures) ∙ not-true (c .before .before .is-key .result) (c .before .if1 .taken))))
 
 call-made-requires : tie.Need-call-made-requires
 call-made-requires c κs = search needs
@@ -72,7 +71,7 @@ returns-4 : tie.Need-returns-4
 returns-4 c =
     let t = c .before .before .before .before in
     let n = t .before .before .before .before in
-    link-after (n .before .before .before .before .before .before .args .kind) (n .before .before .before .before .before .before .pre .1) (field-then (key-at n) [] tt (omega arith) (targets-are (n .before .before .before .before .before .before .args .line .now) (n .before .key .given .0 .1 .0) _ (rw (t .before .answer .given .1) at (t .before .before .before .targets-field .ensures)) (λ ts s k h. c .call-made .ensures ts k h ∙ link-answer (n .before .before .before .before .before .before .args .kind) (n .before .before .before .before .before .before .pre .1) (n .before .key .given .0 .0) ts (key-at n .small) s (sym (c .before .before .before .is-key .ensures) ∙ not-false (c .before .before .before .is-key .result) (c .before .before .if1 .left)))))
+    link-after (n .before .before .before .before .before .before .args .kind) (n .before .before .before .before .before .before .pre .1) (targets-are (key-at n) (rw (t .before .answer .given .1) at (t .before .before .before .targets-field .ensures)) (λ ts s k h. c .call-made .ensures ts k h ∙ link-answer (n .before .before .before .before .before .before .args .kind) (n .before .before .before .before .before .before .pre .1) _ ts (key-at n .small) s (sym (c .before .before .before .is-key .ensures) ∙ not-false (c .before .before .before .is-key .result) (c .before .before .if1 .left))))
 
 pub link-call-spec : {M : Type 1} → statement M
 link-call-spec =

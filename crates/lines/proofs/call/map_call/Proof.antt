@@ -4,7 +4,7 @@ use mathlib.Core.Path.{refl, _∙_}
 use mathlib.Core.List.{[], _∷_}
 use native.Mathlib.Omega.{arith}
 use Rattle.text.specs.Text.{ascii}
-use Rattle.lines.proofs.Chains.{NumberAt, field-not, field-then, targets-not, targets-are}
+use Rattle.lines.proofs.Chains.{NumberAt, field-not, number-then, next-not, targets-not, targets-are}
 use Rattle.lines.proofs.Calls.{map-answer}
 use borrow.Author.Needs.{needs}
 use Rattle.lines.proofs.call.map_call.Statement.{statement}
@@ -37,7 +37,7 @@ returns : tie.Need-returns
 unfolding ascii
 returns c =
     let st = c .before .before .before .before .before .before in
-    field-not (st .args .line .now) (st .args .at) _ (ascii " a=") (ascii " b=" ∷ []) (refl, tt) (rw (c .before .enum-told .given .1) at (c .before .before .before .number-field .ensures)) (c .refused-call .ensures)
+    field-not (st .args .line .now) (st .args .at) (ascii " a=") (ascii " b=" ∷ []) (refl, tt) (rw (c .before .enum-told .given .1) at (c .before .before .before .number-field .ensures)) (c .refused-call .ensures)
 
 slice-aggregate-number-field-2 : tie.Need-slice-aggregate-number-field-2
 slice-aggregate-number-field-2 c = search needs
@@ -58,7 +58,7 @@ returns-2 : tie.Need-returns-2
 unfolding ascii
 returns-2 c =
     let n = c .before .before .before .before .before in
-    field-then (a-at n) (ascii " b=" ∷ []) (refl, tt) (omega arith) (field-not (n .before .before .before .before .before .before .args .line .now) (n .before .a .given .0 .1 .0) _ (ascii " b=") [] tt (rw (c .before .enum-told2 .given .1) at (c .before .before .before .number-field2 .ensures)) (c .refused-call2 .ensures))
+    next-not (a-at n) (ascii " b=") [] (refl, tt) (omega arith) (rw (c .before .enum-told2 .given .1) at (c .before .before .before .number-field2 .ensures)) (c .refused-call2 .ensures)
 
 targets-field-requires : tie.Need-targets-field-requires
 targets-field-requires c κs = b-at c .field .0
@@ -76,7 +76,7 @@ returns-3 : tie.Need-returns-3
 unfolding ascii
 returns-3 c =
     let n = c .before .before .before .before in
-    field-then (a-at (n .before .before .before .before .before)) (ascii " b=" ∷ []) (refl, tt) (omega arith) (field-then (b-at n) [] tt (omega arith) (targets-not (n .before .before .before .before .before .before .before .before .before .before .before .args .line .now) (n .before .b .given .0 .1 .0) _ (rw (c .before .enum-told3 .given .1) at (c .before .before .before .targets-field .ensures)) (c .refused-call3 .ensures)))
+    number-then (a-at (n .before .before .before .before .before)) (ascii " b=" ∷ []) (refl, tt) (omega arith) (targets-not (b-at n) (rw (c .before .enum-told3 .given .1) at (c .before .before .before .targets-field .ensures)) (c .refused-call3 .ensures))
 
 call-made-requires : tie.Need-call-made-requires
 call-made-requires c κs = search needs
@@ -86,7 +86,7 @@ unfolding ascii
 returns-4 c =
     let t = c .before .before in
     let n = t .before .before .before .before in
-    field-then (a-at (n .before .before .before .before .before)) (ascii " b=" ∷ []) (refl, tt) (omega arith) (field-then (b-at n) [] tt (omega arith) (targets-are (n .before .before .before .before .before .before .before .before .before .before .before .args .line .now) (n .before .b .given .0 .1 .0) _ (rw (t .before .answer .given .1) at (t .before .before .before .targets-field .ensures)) (λ ts s k h. c .call-made .ensures ts k h ∙ map-answer (n .before .before .before .before .before .before .a .given .0 .0) (n .before .b .given .0 .0) ts (a-at (n .before .before .before .before .before) .small) (b-at n .small) s)))
+    number-then (a-at (n .before .before .before .before .before)) (ascii " b=" ∷ []) (refl, tt) (omega arith) (targets-are (b-at n) (rw (t .before .answer .given .1) at (t .before .before .before .targets-field .ensures)) (λ ts s k h. c .call-made .ensures ts k h ∙ map-answer _ _ ts (a-at (n .before .before .before .before .before) .small) (b-at n .small) s))
 
 pub map-call-spec : {M : Type 1} → statement M
 map-call-spec =

@@ -5,7 +5,7 @@ use mathlib.Core.List.{[], _∷_}
 use native.Mathlib.Omega.{arith}
 use borrow.Author.Tests.{not-true, not-false}
 use Rattle.text.specs.Text.{ascii}
-use Rattle.lines.proofs.Chains.{NumberAt, field-not, field-then, targets-not, targets-are}
+use Rattle.lines.proofs.Chains.{NumberAt, field-not, number-then, next-not, targets-not, targets-are}
 use Rattle.lines.proofs.Calls.{near-answer, near-refused}
 use borrow.Author.Needs.{needs}
 use Rattle.lines.proofs.call.near_call.Statement.{statement}
@@ -38,7 +38,7 @@ returns : tie.Need-returns
 unfolding ascii
 returns c =
     let st = c .before .before .before .before .before .before in
-    field-not (st .args .line .now) (st .args .at) _ (ascii " key=") (ascii " start=" ∷ []) (refl, tt) (rw (c .before .enum-told .given .1) at (c .before .before .before .number-field .ensures)) (c .refused-call .ensures)
+    field-not (st .args .line .now) (st .args .at) (ascii " key=") (ascii " start=" ∷ []) (refl, tt) (rw (c .before .enum-told .given .1) at (c .before .before .before .number-field .ensures)) (c .refused-call .ensures)
 
 slice-aggregate-number-field-2 : tie.Need-slice-aggregate-number-field-2
 slice-aggregate-number-field-2 c = search needs
@@ -59,7 +59,7 @@ returns-2 : tie.Need-returns-2
 unfolding ascii
 returns-2 c =
     let n = c .before .before .before .before .before in
-    field-then (key-at n) (ascii " start=" ∷ []) (refl, tt) (omega arith) (field-not (n .before .before .before .before .before .before .args .line .now) (n .before .key .given .0 .1 .0) _ (ascii " start=") [] tt (rw (c .before .enum-told2 .given .1) at (c .before .before .before .number-field2 .ensures)) (c .refused-call2 .ensures))
+    next-not (key-at n) (ascii " start=") [] (refl, tt) (omega arith) (rw (c .before .enum-told2 .given .1) at (c .before .before .before .number-field2 .ensures)) (c .refused-call2 .ensures)
 
 targets-field-requires : tie.Need-targets-field-requires
 targets-field-requires c κs = start-at c .field .0
@@ -77,7 +77,7 @@ returns-3 : tie.Need-returns-3
 unfolding ascii
 returns-3 c =
     let n = c .before .before .before .before in
-    field-then (key-at (n .before .before .before .before .before)) (ascii " start=" ∷ []) (refl, tt) (omega arith) (field-then (start-at n) [] tt (omega arith) (targets-not (n .before .before .before .before .before .before .before .before .before .before .before .args .line .now) (n .before .start .given .0 .1 .0) _ (rw (c .before .enum-told3 .given .1) at (c .before .before .before .targets-field .ensures)) (c .refused-call3 .ensures)))
+    number-then (key-at (n .before .before .before .before .before)) (ascii " start=" ∷ []) (refl, tt) (omega arith) (targets-not (start-at n) (rw (c .before .enum-told3 .given .1) at (c .before .before .before .targets-field .ensures)) (c .refused-call3 .ensures))
 
 is-key-requires : tie.Need-is-key-requires
 is-key-requires c κs = search needs
@@ -90,7 +90,7 @@ unfolding ascii
 returns-4 c =
     let t = c .before .before .before in
     let n = t .before .before .before .before in
-    field-then (key-at (n .before .before .before .before .before)) (ascii " start=" ∷ []) (refl, tt) (omega arith) (field-then (start-at n) [] tt (omega arith) (targets-are (n .before .before .before .before .before .before .before .before .before .before .before .args .line .now) (n .before .start .given .0 .1 .0) _ (rw (t .before .answer .given .1) at (t .before .before .before .targets-field .ensures)) (λ ts s k h. c .refused-call4 .ensures ∙ near-refused (n .before .before .before .before .before .before .key .given .0 .0) (n .before .start .given .0 .0) ts (key-at (n .before .before .before .before .before) .small) (start-at n .small) s (sym (c .before .before .is-key .ensures) ∙ not-true (c .before .before .is-key .result) (c .before .if1 .taken)))))
+    number-then (key-at (n .before .before .before .before .before)) (ascii " start=" ∷ []) (refl, tt) (omega arith) (targets-are (start-at n) (rw (t .before .answer .given .1) at (t .before .before .before .targets-field .ensures)) (λ ts s k h. c .refused-call4 .ensures ∙ near-refused _ _ ts (key-at (n .before .before .before .before .before) .small) (start-at n .small) s (sym (c .before .before .is-key .ensures) ∙ not-true (c .before .before .is-key .result) (c .before .if1 .taken))))
 
 call-made-requires : tie.Need-call-made-requires
 call-made-requires c κs = search needs
@@ -100,7 +100,7 @@ unfolding ascii
 returns-5 c =
     let t = c .before .before .before .before in
     let n = t .before .before .before .before in
-    field-then (key-at (n .before .before .before .before .before)) (ascii " start=" ∷ []) (refl, tt) (omega arith) (field-then (start-at n) [] tt (omega arith) (targets-are (n .before .before .before .before .before .before .before .before .before .before .before .args .line .now) (n .before .start .given .0 .1 .0) _ (rw (t .before .answer .given .1) at (t .before .before .before .targets-field .ensures)) (λ ts s k h. c .call-made .ensures ts k h ∙ near-answer (n .before .before .before .before .before .before .key .given .0 .0) (n .before .start .given .0 .0) ts (key-at (n .before .before .before .before .before) .small) (start-at n .small) s (sym (c .before .before .before .is-key .ensures) ∙ not-false (c .before .before .before .is-key .result) (c .before .before .if1 .left)))))
+    number-then (key-at (n .before .before .before .before .before)) (ascii " start=" ∷ []) (refl, tt) (omega arith) (targets-are (start-at n) (rw (t .before .answer .given .1) at (t .before .before .before .targets-field .ensures)) (λ ts s k h. c .call-made .ensures ts k h ∙ near-answer _ _ ts (key-at (n .before .before .before .before .before) .small) (start-at n .small) s (sym (c .before .before .before .is-key .ensures) ∙ not-false (c .before .before .before .is-key .result) (c .before .before .if1 .left))))
 
 pub near-call-spec : {M : Type 1} → statement M
 near-call-spec =

@@ -2,9 +2,8 @@
 -- Assumes nothing.
 use mathlib.Core.Path.{_∙_}
 use mathlib.Core.List.{[]}
-use native.Mathlib.Omega.{arith}
 use Rattle.text.specs.Text.{ascii}
-use Rattle.lines.proofs.Chains.{NumberAt, field-not, field-then, targets-not, targets-are}
+use Rattle.lines.proofs.Chains.{NumberAt, field-not, targets-not, targets-are}
 use Rattle.lines.proofs.Calls.{start-after, start-answer}
 use borrow.Author.Needs.{needs}
 use Rattle.lines.proofs.call.start_call.Statement.{statement}
@@ -33,7 +32,7 @@ returns : tie.Need-returns
 unfolding ascii
 returns c =
     let st = c .before .before .before .before .before .before in
-    start-after (st .args .kind) (st .pre .1) (field-not (st .args .line .now) (st .args .at) _ (ascii " start=") [] tt (rw (c .before .enum-told .given .1) at (c .before .before .before .number-field .ensures)) (c .refused-call .ensures))
+    start-after (st .args .kind) (st .pre .1) (field-not (st .args .line .now) (st .args .at) (ascii " start=") [] tt (rw (c .before .enum-told .given .1) at (c .before .before .before .number-field .ensures)) (c .refused-call .ensures))
 
 targets-field-requires : tie.Need-targets-field-requires
 targets-field-requires c κs = start-at c .field .0
@@ -50,7 +49,7 @@ refused-call-requires-2 c κs = search needs
 returns-2 : tie.Need-returns-2
 returns-2 c =
     let n = c .before .before .before .before in
-    start-after (n .before .before .before .before .before .before .args .kind) (n .before .before .before .before .before .before .pre .1) (field-then (start-at n) [] tt (omega arith) (targets-not (n .before .before .before .before .before .before .args .line .now) (n .before .start .given .0 .1 .0) _ (rw (c .before .enum-told2 .given .1) at (c .before .before .before .targets-field .ensures)) (c .refused-call2 .ensures)))
+    start-after (n .before .before .before .before .before .before .args .kind) (n .before .before .before .before .before .before .pre .1) (targets-not (start-at n) (rw (c .before .enum-told2 .given .1) at (c .before .before .before .targets-field .ensures)) (c .refused-call2 .ensures))
 
 call-made-requires : tie.Need-call-made-requires
 call-made-requires c κs = search needs
@@ -59,7 +58,7 @@ returns-3 : tie.Need-returns-3
 returns-3 c =
     let t = c .before .before in
     let n = t .before .before .before .before in
-    start-after (n .before .before .before .before .before .before .args .kind) (n .before .before .before .before .before .before .pre .1) (field-then (start-at n) [] tt (omega arith) (targets-are (n .before .before .before .before .before .before .args .line .now) (n .before .start .given .0 .1 .0) _ (rw (t .before .answer .given .1) at (t .before .before .before .targets-field .ensures)) (λ ts s k h. c .call-made .ensures ts k h ∙ start-answer (n .before .before .before .before .before .before .args .kind) (n .before .before .before .before .before .before .pre .1) (n .before .start .given .0 .0) ts (start-at n .small) s)))
+    start-after (n .before .before .before .before .before .before .args .kind) (n .before .before .before .before .before .before .pre .1) (targets-are (start-at n) (rw (t .before .answer .given .1) at (t .before .before .before .targets-field .ensures)) (λ ts s k h. c .call-made .ensures ts k h ∙ start-answer (n .before .before .before .before .before .before .args .kind) (n .before .before .before .before .before .before .pre .1) _ ts (start-at n .small) s))
 
 pub start-call-spec : {M : Type 1} → statement M
 start-call-spec =

@@ -7,7 +7,7 @@ use native.Mathlib.Omega.{arith}
 use borrow.Author.Tests.{ltb-true, ltb-false}
 use lib.ListN.{length}
 use Rattle.text.specs.Text.{ascii}
-use Rattle.lines.proofs.Chains.{NumberAt, field-not, field-then, end-not, end-is}
+use Rattle.lines.proofs.Chains.{NumberAt, field-not, last-not, last-is}
 use Rattle.lines.proofs.Claims.{claim-long, claim-field}
 use borrow.Author.Needs.{needs}
 use Rattle.lines.proofs.claim.parse_claim.Statement.{statement}
@@ -49,7 +49,7 @@ unfolding ascii
 returns-2 c =
     let e = c .before .before .before .before .before in
     let line = e .before .before .before .args .line .now in
-    claim-field line _ (short e) (field-not line 0 _ (ascii "claim=") [] tt (rw (c .before .enum-told .given .1) at (c .before .before .before .number-field .ensures)) (c .refused-claim2 .ensures))
+    claim-field line _ (short e) (field-not line 0 (ascii "claim=") [] tt (rw (c .before .enum-told .given .1) at (c .before .before .before .number-field .ensures)) (c .refused-claim2 .ensures))
 
 refused-claim-requires-3 : tie.Need-refused-claim-requires-3
 refused-claim-requires-3 c κs = search needs
@@ -58,13 +58,13 @@ returns-3 : tie.Need-returns-3
 returns-3 c =
     let n = c .before .before in
     let e = n .before .before .before .before .before in
-    claim-field (e .before .before .before .args .line .now) _ (short e) (field-then (label-at n) [] tt (omega arith) (end-not (e .before .before .before .args .line .now) (n .before .label .given .0 .1 .0) _ (c .before .if2 .taken) (c .refused-claim3 .ensures)))
+    claim-field (e .before .before .before .args .line .now) _ (short e) (last-not (label-at n) (c .before .if2 .taken) (c .refused-claim3 .ensures))
 
 returns-4 : tie.Need-returns-4
 returns-4 c =
     let n = c .before in
     let e = n .before .before .before .before .before in
-    claim-field (e .before .before .before .args .line .now) _ (short e) (field-then (label-at n) [] tt (omega arith) (end-is (e .before .before .before .args .line .now) (n .before .label .given .0 .1 .0) _ (c .if2 .left) refl))
+    claim-field (e .before .before .before .args .line .now) _ (short e) (last-is (label-at n) (c .if2 .left) refl)
 
 pub parse-claim-spec : {M : Type 1} → statement M
 parse-claim-spec =

@@ -4,7 +4,7 @@ use mathlib.Core.Path.{refl, _∙_}
 use mathlib.Core.List.{[], _∷_}
 use native.Mathlib.Omega.{arith}
 use Rattle.text.specs.Text.{ascii}
-use Rattle.lines.proofs.Chains.{NumberAt, field-not, field-then, end-not, end-is}
+use Rattle.lines.proofs.Chains.{NumberAt, field-not, last-not, last-is}
 use Rattle.lines.proofs.Steps.{by-literals, place-answer}
 use borrow.Author.Needs.{needs}
 use Rattle.lines.proofs.step.place_step.Statement.{statement}
@@ -33,7 +33,7 @@ returns : tie.Need-returns
 unfolding ascii
 returns c =
     let st = c .before .before .before .before .before .before in
-    by-literals (st .args .kind) (ascii " at=" ∷ []) _ _ (st .pre .1) (field-not (st .args .line .now) (st .args .at) _ (ascii " at=") [] tt (rw (c .before .enum-told .given .1) at (c .before .before .before .number-field .ensures)) (c .refused-step .ensures))
+    by-literals (st .args .kind) (ascii " at=" ∷ []) _ _ (st .pre .1) (field-not (st .args .line .now) (st .args .at) (ascii " at=") [] tt (rw (c .before .enum-told .given .1) at (c .before .before .before .number-field .ensures)) (c .refused-step .ensures))
 
 refused-step-requires-2 : tie.Need-refused-step-requires-2
 refused-step-requires-2 c κs = search needs
@@ -41,7 +41,7 @@ refused-step-requires-2 c κs = search needs
 returns-2 : tie.Need-returns-2
 returns-2 c =
     let n = c .before .before in
-    by-literals (n .before .before .before .before .before .before .args .kind) (ascii " at=" ∷ []) _ _ (n .before .before .before .before .before .before .pre .1) (field-then (place-at n) [] tt (omega arith) (end-not (n .before .before .before .before .before .before .args .line .now) (n .before .place .given .0 .1 .0) _ (c .before .if1 .taken) (c .refused-step2 .ensures)))
+    by-literals (n .before .before .before .before .before .before .args .kind) (ascii " at=" ∷ []) _ _ (n .before .before .before .before .before .before .pre .1) (last-not (place-at n) (c .before .if1 .taken) (c .refused-step2 .ensures))
 
 step-made-requires : tie.Need-step-made-requires
 step-made-requires c κs = search needs
@@ -49,7 +49,7 @@ step-made-requires c κs = search needs
 returns-3 : tie.Need-returns-3
 returns-3 c =
     let n = c .before .before in
-    by-literals (n .before .before .before .before .before .before .args .kind) (ascii " at=" ∷ []) _ _ (n .before .before .before .before .before .before .pre .1) (field-then (place-at n) [] tt (omega arith) (end-is (n .before .before .before .before .before .before .args .line .now) (n .before .place .given .0 .1 .0) _ (c .before .if1 .left) (c .step-made .ensures ∙ place-answer (n .before .before .before .before .before .before .args .kind) (ascii " at=" ∷ []) (n .before .place .given .0 .0) 0 0 (n .before .before .before .before .before .before .pre .1) (omega arith) (refl, refl, refl))))
+    by-literals (n .before .before .before .before .before .before .args .kind) (ascii " at=" ∷ []) _ _ (n .before .before .before .before .before .before .pre .1) (last-is (place-at n) (c .before .if1 .left) (c .step-made .ensures ∙ place-answer (n .before .before .before .before .before .before .args .kind) (ascii " at=" ∷ []) _ _ _ (n .before .before .before .before .before .before .pre .1) (omega arith) (refl, refl, refl)))
 
 pub place-step-spec : {M : Type 1} → statement M
 place-step-spec =

@@ -5,7 +5,7 @@ use mathlib.Core.List.{[], _∷_}
 use native.Mathlib.Omega.{arith}
 use Rattle.text.specs.Text.{ascii}
 use Rattle.lines.specs.declared.step.StepKind.the-variants.{Split}
-use Rattle.lines.proofs.Chains.{NumberAt, field-not, field-then, end-not, end-is}
+use Rattle.lines.proofs.Chains.{NumberAt, field-not, number-then, next-not, last-not, last-is}
 use Rattle.lines.proofs.Steps.{place-answer}
 use borrow.Author.Needs.{needs}
 use Rattle.lines.proofs.step.split_step.Statement.{statement}
@@ -42,7 +42,7 @@ returns : tie.Need-returns
 unfolding ascii
 returns c =
     let st = c .before .before .before .before .before .before in
-    field-not (st .args .line .now) (st .args .at) _ (ascii " at=") (ascii " unit=" ∷ ascii " after=" ∷ []) (refl, (refl, tt)) (rw (c .before .enum-told .given .1) at (c .before .before .before .number-field .ensures)) (c .refused-step .ensures)
+    field-not (st .args .line .now) (st .args .at) (ascii " at=") (ascii " unit=" ∷ ascii " after=" ∷ []) (refl, (refl, tt)) (rw (c .before .enum-told .given .1) at (c .before .before .before .number-field .ensures)) (c .refused-step .ensures)
 
 slice-aggregate-number-field-2 : tie.Need-slice-aggregate-number-field-2
 slice-aggregate-number-field-2 c = search needs
@@ -63,7 +63,7 @@ returns-2 : tie.Need-returns-2
 unfolding ascii
 returns-2 c =
     let n = c .before .before .before .before .before in
-    field-then (place-at n) (ascii " unit=" ∷ ascii " after=" ∷ []) (refl, (refl, tt)) (omega arith) (field-not (n .before .before .before .before .before .before .args .line .now) (n .before .place .given .0 .1 .0) _ (ascii " unit=") (ascii " after=" ∷ []) (refl, tt) (rw (c .before .enum-told2 .given .1) at (c .before .before .before .number-field2 .ensures)) (c .refused-step2 .ensures))
+    next-not (place-at n) (ascii " unit=") (ascii " after=" ∷ []) (refl, (refl, tt)) (omega arith) (rw (c .before .enum-told2 .given .1) at (c .before .before .before .number-field2 .ensures)) (c .refused-step2 .ensures)
 
 slice-aggregate-number-field-3 : tie.Need-slice-aggregate-number-field-3
 slice-aggregate-number-field-3 c = search needs
@@ -84,7 +84,7 @@ returns-3 : tie.Need-returns-3
 unfolding ascii
 returns-3 c =
     let n = c .before .before .before .before .before in
-    field-then (place-at (n .before .before .before .before .before)) (ascii " unit=" ∷ ascii " after=" ∷ []) (refl, (refl, tt)) (omega arith) (field-then (unit-at n) (ascii " after=" ∷ []) (refl, tt) (omega arith) (field-not (n .before .before .before .before .before .before .before .before .before .before .before .args .line .now) (n .before .unit .given .0 .1 .0) _ (ascii " after=") [] tt (rw (c .before .enum-told3 .given .1) at (c .before .before .before .number-field3 .ensures)) (c .refused-step3 .ensures)))
+    number-then (place-at (n .before .before .before .before .before)) (ascii " unit=" ∷ ascii " after=" ∷ []) (refl, (refl, tt)) (omega arith) (next-not (unit-at n) (ascii " after=") [] (refl, tt) (omega arith) (rw (c .before .enum-told3 .given .1) at (c .before .before .before .number-field3 .ensures)) (c .refused-step3 .ensures))
 
 refused-step-requires-4 : tie.Need-refused-step-requires-4
 refused-step-requires-4 c κs = search needs
@@ -93,7 +93,7 @@ returns-4 : tie.Need-returns-4
 unfolding ascii
 returns-4 c =
     let n = c .before .before in
-    field-then (place-at (n .before .before .before .before .before .before .before .before .before .before)) (ascii " unit=" ∷ ascii " after=" ∷ []) (refl, (refl, tt)) (omega arith) (field-then (unit-at (n .before .before .before .before .before)) (ascii " after=" ∷ []) (refl, tt) (omega arith) (field-then (after-at n) [] tt (omega arith) (end-not (n .before .before .before .before .before .before .before .before .before .before .before .before .before .before .before .before .args .line .now) (n .before .after .given .0 .1 .0) _ (c .before .if1 .taken) (c .refused-step4 .ensures))))
+    number-then (place-at (n .before .before .before .before .before .before .before .before .before .before)) (ascii " unit=" ∷ ascii " after=" ∷ []) (refl, (refl, tt)) (omega arith) (number-then (unit-at (n .before .before .before .before .before)) (ascii " after=" ∷ []) (refl, tt) (omega arith) (last-not (after-at n) (c .before .if1 .taken) (c .refused-step4 .ensures)))
 
 step-made-requires : tie.Need-step-made-requires
 step-made-requires c κs = search needs
@@ -102,7 +102,7 @@ returns-5 : tie.Need-returns-5
 unfolding ascii
 returns-5 c =
     let n = c .before .before in
-    field-then (place-at (n .before .before .before .before .before .before .before .before .before .before)) (ascii " unit=" ∷ ascii " after=" ∷ []) (refl, (refl, tt)) (omega arith) (field-then (unit-at (n .before .before .before .before .before)) (ascii " after=" ∷ []) (refl, tt) (omega arith) (field-then (after-at n) [] tt (omega arith) (end-is (n .before .before .before .before .before .before .before .before .before .before .before .before .before .before .before .before .args .line .now) (n .before .after .given .0 .1 .0) _ (c .before .if1 .left) (c .step-made .ensures ∙ place-answer Split (ascii " at=" ∷ ascii " unit=" ∷ ascii " after=" ∷ []) (n .before .before .before .before .before .before .before .before .before .before .before .place .given .0 .0) (n .before .before .before .before .before .before .unit .given .0 .0) (n .before .after .given .0 .0) refl (omega arith) (refl, refl, refl)))))
+    number-then (place-at (n .before .before .before .before .before .before .before .before .before .before)) (ascii " unit=" ∷ ascii " after=" ∷ []) (refl, (refl, tt)) (omega arith) (number-then (unit-at (n .before .before .before .before .before)) (ascii " after=" ∷ []) (refl, tt) (omega arith) (last-is (after-at n) (c .before .if1 .left) (c .step-made .ensures ∙ place-answer Split (ascii " at=" ∷ ascii " unit=" ∷ ascii " after=" ∷ []) (n .before .before .before .before .before .before .before .before .before .before .before .place .given .0 .0) (n .before .before .before .before .before .before .unit .given .0 .0) (n .before .after .given .0 .0) refl (omega arith) (refl, refl, refl))))
 
 pub split-step-spec : {M : Type 1} → statement M
 split-step-spec =

@@ -4,7 +4,7 @@ use mathlib.Core.Path.{refl, _∙_}
 use mathlib.Core.List.{[], _∷_}
 use native.Mathlib.Omega.{arith}
 use Rattle.text.specs.Text.{ascii}
-use Rattle.lines.proofs.Chains.{NumberAt, field-not, field-then, end-not, end-is}
+use Rattle.lines.proofs.Chains.{NumberAt, field-not, number-then, next-not, last-not, last-is}
 use Rattle.lines.proofs.Steps.{by-literals, place-answer}
 use borrow.Author.Needs.{needs}
 use Rattle.lines.proofs.step.unit_step.Statement.{statement}
@@ -37,7 +37,7 @@ returns : tie.Need-returns
 unfolding ascii
 returns c =
     let st = c .before .before .before .before .before .before in
-    by-literals (st .args .kind) (ascii " at=" ∷ ascii " unit=" ∷ []) _ _ (st .pre .1) (field-not (st .args .line .now) (st .args .at) _ (ascii " at=") (ascii " unit=" ∷ []) (refl, tt) (rw (c .before .enum-told .given .1) at (c .before .before .before .number-field .ensures)) (c .refused-step .ensures))
+    by-literals (st .args .kind) (ascii " at=" ∷ ascii " unit=" ∷ []) _ _ (st .pre .1) (field-not (st .args .line .now) (st .args .at) (ascii " at=") (ascii " unit=" ∷ []) (refl, tt) (rw (c .before .enum-told .given .1) at (c .before .before .before .number-field .ensures)) (c .refused-step .ensures))
 
 slice-aggregate-number-field-2 : tie.Need-slice-aggregate-number-field-2
 slice-aggregate-number-field-2 c = search needs
@@ -58,7 +58,7 @@ returns-2 : tie.Need-returns-2
 unfolding ascii
 returns-2 c =
     let n = c .before .before .before .before .before in
-    by-literals (n .before .before .before .before .before .before .args .kind) (ascii " at=" ∷ ascii " unit=" ∷ []) _ _ (n .before .before .before .before .before .before .pre .1) (field-then (place-at n) (ascii " unit=" ∷ []) (refl, tt) (omega arith) (field-not (n .before .before .before .before .before .before .args .line .now) (n .before .place .given .0 .1 .0) _ (ascii " unit=") [] tt (rw (c .before .enum-told2 .given .1) at (c .before .before .before .number-field2 .ensures)) (c .refused-step2 .ensures)))
+    by-literals (n .before .before .before .before .before .before .args .kind) (ascii " at=" ∷ ascii " unit=" ∷ []) _ _ (n .before .before .before .before .before .before .pre .1) (next-not (place-at n) (ascii " unit=") [] (refl, tt) (omega arith) (rw (c .before .enum-told2 .given .1) at (c .before .before .before .number-field2 .ensures)) (c .refused-step2 .ensures))
 
 refused-step-requires-3 : tie.Need-refused-step-requires-3
 refused-step-requires-3 c κs = search needs
@@ -67,7 +67,7 @@ returns-3 : tie.Need-returns-3
 unfolding ascii
 returns-3 c =
     let n = c .before .before in
-    by-literals (n .before .before .before .before .before .before .before .before .before .before .before .args .kind) (ascii " at=" ∷ ascii " unit=" ∷ []) _ _ (n .before .before .before .before .before .before .before .before .before .before .before .pre .1) (field-then (place-at (n .before .before .before .before .before)) (ascii " unit=" ∷ []) (refl, tt) (omega arith) (field-then (unit-at n) [] tt (omega arith) (end-not (n .before .before .before .before .before .before .before .before .before .before .before .args .line .now) (n .before .unit .given .0 .1 .0) _ (c .before .if1 .taken) (c .refused-step3 .ensures))))
+    by-literals (n .before .before .before .before .before .before .before .before .before .before .before .args .kind) (ascii " at=" ∷ ascii " unit=" ∷ []) _ _ (n .before .before .before .before .before .before .before .before .before .before .before .pre .1) (number-then (place-at (n .before .before .before .before .before)) (ascii " unit=" ∷ []) (refl, tt) (omega arith) (last-not (unit-at n) (c .before .if1 .taken) (c .refused-step3 .ensures)))
 
 step-made-requires : tie.Need-step-made-requires
 step-made-requires c κs = search needs
@@ -76,7 +76,7 @@ returns-4 : tie.Need-returns-4
 unfolding ascii
 returns-4 c =
     let n = c .before .before in
-    by-literals (n .before .before .before .before .before .before .before .before .before .before .before .args .kind) (ascii " at=" ∷ ascii " unit=" ∷ []) _ _ (n .before .before .before .before .before .before .before .before .before .before .before .pre .1) (field-then (place-at (n .before .before .before .before .before)) (ascii " unit=" ∷ []) (refl, tt) (omega arith) (field-then (unit-at n) [] tt (omega arith) (end-is (n .before .before .before .before .before .before .before .before .before .before .before .args .line .now) (n .before .unit .given .0 .1 .0) _ (c .before .if1 .left) (c .step-made .ensures ∙ place-answer (n .before .before .before .before .before .before .before .before .before .before .before .args .kind) (ascii " at=" ∷ ascii " unit=" ∷ []) (n .before .before .before .before .before .before .place .given .0 .0) (n .before .unit .given .0 .0) 0 (n .before .before .before .before .before .before .before .before .before .before .before .pre .1) (omega arith) (refl, refl, refl)))))
+    by-literals (n .before .before .before .before .before .before .before .before .before .before .before .args .kind) (ascii " at=" ∷ ascii " unit=" ∷ []) _ _ (n .before .before .before .before .before .before .before .before .before .before .before .pre .1) (number-then (place-at (n .before .before .before .before .before)) (ascii " unit=" ∷ []) (refl, tt) (omega arith) (last-is (unit-at n) (c .before .if1 .left) (c .step-made .ensures ∙ place-answer (n .before .before .before .before .before .before .before .before .before .before .before .args .kind) (ascii " at=" ∷ ascii " unit=" ∷ []) _ _ _ (n .before .before .before .before .before .before .before .before .before .before .before .pre .1) (omega arith) (refl, refl, refl))))
 
 pub unit-step-spec : {M : Type 1} → statement M
 unit-step-spec =
