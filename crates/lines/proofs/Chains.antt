@@ -14,7 +14,7 @@ use Rattle.text.proofs.Splits.{Part, part, part-is, cancel, decimal-clean, same
 use Rattle.text.proofs.Lists.{commas-clean}
 use Rattle.lines.specs.Forms.{targets}
 use Rattle.lines.specs.Answers.{Reads, form, other}
-use Rattle.lines.specs.Reads.{Below, KeysOf, Held, TargetsOf, FieldOf, tailText, fieldsText, Spare, Literals, Values, ValuesOf}
+use Rattle.lines.specs.Reads.{Below, KeysOf, Held, TargetsOf, FieldOf, tailText, fieldsText, Spare, Values, ValuesOf}
 use Rattle.lines.specs.declared.fields.Field.the-variants.{Is, Not}
 use Rattle.lines.specs.declared.keylist.KeyList.{KeyList}
 use Rattle.lines.specs.declared.keylist.Targets.{Targets}
@@ -67,6 +67,12 @@ module _ (s : List ℕ) (at : ℕ) where
 
 -- ---- numbers one after another
 
+-- literals that begin with a space each
+abbrev pub Literals : List (List ℕ) → Type 0
+Literals [] = Unit {0}
+Literals ([] ∷ others) = ⊥
+Literals ((c ∷ cs) ∷ others) = (c ≡ 32) × Literals others
+
 tail-gap : (listed : Bool) (ts : List ℕ) → Gap 32 (tailText listed ts)
 unfolding ascii
 tail-gap true ts = refl
@@ -87,10 +93,10 @@ literals-after (c ∷ cs) others h = h .1
 abbrev before : ℕ → Values → Values
 before x v = record { x = x; y = v .x; z = v .y; to = v .to }
 
-abbrev pub only : List ℕ → Values
+abbrev only : List ℕ → Values
 only ts = record { x = 0; y = 0; z = 0; to = ts }
 
-module _ {R : Type 0} {ten r : R} (s : List ℕ) (at : ℕ) (answer : Values → R) where
+module _ {R : Type 0} {ten r : R} {answer : Values → R} (s : List ℕ) (at : ℕ) where
   -- the line's end
   pub end-not : at < length s → r ≡ ten → Reads (ValuesOf [] false (drop at s)) answer ten r
   end-not h = other (λ v i. omega (arith, ap length (i .same), length-drop at s))
@@ -98,40 +104,66 @@ module _ {R : Type 0} {ten r : R} (s : List ℕ) (at : ℕ) (answer : Values →
   pub end-is : length s ≤ at → r ≡ answer (only []) → Reads (ValuesOf [] false (drop at s)) answer ten r
   end-is h = form (only []) (record { small = (omega arith, omega arith, omega arith, tt); spare = (refl, refl, refl); tailed = refl; same = drop-of-length-le s h })
 
-  pub targets-not : ((ts : List ℕ) → Below ts → drop at s ≡ targets ts → ⊥) → r ≡ ten → Reads (ValuesOf [] true (drop at s)) answer ten r
-  targets-not never = other (λ v i. never (v .to) (i .small .3) (i .same))
+  -- a field that is not read
+  pub field-not : {listed : Bool} (a : List ℕ) (more : List (List ℕ)) → Literals more → FieldOf s at a Not → r ≡ ten → Reads (ValuesOf (a ∷ more) listed (drop at s)) answer ten r
+  field-not {listed} a more gaps f = other (λ v i. f (v .x) (fieldsText more listed (v .y) (v .z) 0 (v .to)) (i .small .0) (fields-gap more gaps listed (v .y) (v .z) 0 (v .to)) (i .same))
 
-  pub targets-are : {k : KeyList} {key : List ℕ} → TargetsOf targets (drop at s) (Are k) key → ((ts : List ℕ) → Below ts → KeysOf ts k → Held ts key → r ≡ answer (only ts))
-      → Reads (ValuesOf [] true (drop at s)) answer ten r
+-- x is read at `at`, and ends at n
+pub record NumberAt (s : List ℕ) (at : ℕ) (literal : List ℕ) (x n : ℕ) : Type 0 where
+  pub field : FieldOf s at literal (Is x n)
+  pub small : x < 2 ^ 32
+
+-- where at most two numbers may follow, the last is spare
+spare-last : (more : List (List ℕ)) → length more ≤ 2 → (x y z : ℕ) → Spare more x y z → z ≡ 0
+spare-last [] h x y z s = s .2
+spare-last (a ∷ []) h x y z s = s .1
+spare-last (a ∷ b ∷ []) h x y z s = s .0
+spare-last (a ∷ b ∷ c ∷ others) h x y z s = absurd (omega arith)
+
+module _ {R : Type 0} {ten r : R} {answer : Values → R} {s : List ℕ} {at x n : ℕ} {a : List ℕ} (p : NumberAt s at a x n) where
+  -- a number that is read, and the fields after it
+  pub number-then : {listed : Bool} (more : List (List ℕ)) → Literals more → length more ≤ 2 → Reads (ValuesOf more listed (drop n s)) (λ v. answer (before x v)) ten r
+      → Reads (ValuesOf (a ∷ more) listed (drop at s)) answer ten r
+  number-then {listed} more gaps few (form v i e) =
+      let z : v .z ≡ 0 = spare-last more few (v .x) (v .y) (v .z) (i .spare) in
+      form (before x v)
+      (record {
+        small = (p .small, i .small .0, i .small .1, i .small .3);
+        spare = subst (Spare more (v .x) (v .y)) z (i .spare);
+        tailed = i .tailed;
+        same = p .field .1 ∙ ap (λ (l : List ℕ). a ++ (decimal x ++ l)) (i .same ∙ ap (λ (k : ℕ). fieldsText more listed (v .x) (v .y) k (v .to)) z);
+      })
+      e
+  number-then {listed} more gaps few (other never e) =
+      other (λ v i. never (record { x = v .y; y = v .z; z = 0; to = v .to })
+      (record {
+        small = (i .small .1, i .small .2, omega arith, i .small .3);
+        spare = i .spare;
+        tailed = i .tailed;
+        same = same-number 32 (omega arith) x (v .x) (drop n s) (fieldsText more listed (v .y) (v .z) 0 (v .to))
+            (cancel a (decimal x ++ drop n s) (decimal (v .x) ++ fieldsText more listed (v .y) (v .z) 0 (v .to)) (sym (p .field .1) ∙ i .same))
+            (p .field .2) (fields-gap more gaps listed (v .y) (v .z) 0 (v .to)) .1;
+      }))
+      e
+
+  -- a number, and another that is not read
+  pub next-not : {listed : Bool} (b : List ℕ) (more : List (List ℕ)) → Literals (b ∷ more) → length more ≤ 1 → FieldOf s n b Not → r ≡ ten
+      → Reads (ValuesOf (a ∷ b ∷ more) listed (drop at s)) answer ten r
+  next-not b more gaps few f e = number-then (b ∷ more) gaps (omega arith) (field-not s n b more (literals-after b more gaps) f e)
+
+  -- the last number, and the line's end
+  pub last-not : n < length s → r ≡ ten → Reads (ValuesOf (a ∷ []) false (drop at s)) answer ten r
+  last-not h e = number-then [] tt (omega arith) (end-not s n h e)
+
+  pub last-is : length s ≤ n → r ≡ answer (before x (only [])) → Reads (ValuesOf (a ∷ []) false (drop at s)) answer ten r
+  last-is h e = number-then [] tt (omega arith) (end-is s n h e)
+
+  -- the last number, and the targets
+  pub targets-not : ((ts : List ℕ) → Below ts → drop n s ≡ targets ts → ⊥) → r ≡ ten → Reads (ValuesOf (a ∷ []) true (drop at s)) answer ten r
+  targets-not never e = number-then [] tt (omega arith) (other (λ v i. never (v .to) (i .small .3) (i .same)) e)
+
+  pub targets-are : {k : KeyList} {key : List ℕ} → TargetsOf targets (drop n s) (Are k) key → ((ts : List ℕ) → Below ts → KeysOf ts k → Held ts key → r ≡ answer (before x (only ts)))
+      → Reads (ValuesOf (a ∷ []) true (drop at s)) answer ten r
   targets-are t made =
-      form (only (t .0)) (record { small = (omega arith, omega arith, omega arith, t .1); spare = (refl, refl, refl); tailed = tt; same = t .2 }) (made (t .0) (t .1) (t .3) (t .4))
-
-  -- a field, and those after it
-  module _ {listed : Bool} (a : List ℕ) (more : List (List ℕ)) (gaps : Literals more) where
-    pub field-not : FieldOf s at a Not → r ≡ ten → Reads (ValuesOf (a ∷ more) listed (drop at s)) answer ten r
-    field-not f = other (λ v i. f (v .x) (fieldsText more listed (v .y) (v .z) 0 (v .to)) (i .small .0) (fields-gap more gaps listed (v .y) (v .z) 0 (v .to)) (i .same))
-
-    -- there are at most two after it
-    pub field-then : (x n : ℕ) → FieldOf s at a (Is x n) → x < 2 ^ 32 → ((k l m : ℕ) → Spare more k l m → m ≡ 0)
-        → Reads (ValuesOf more listed (drop n s)) (λ v. answer (before x v)) ten r → Reads (ValuesOf (a ∷ more) listed (drop at s)) answer ten r
-    field-then x n f hx few (form v i e) =
-        let z : v .z ≡ 0 = few (v .x) (v .y) (v .z) (i .spare) in
-        form (before x v)
-        (record {
-          small = (hx, i .small .0, i .small .1, i .small .3);
-          spare = subst (Spare more (v .x) (v .y)) z (i .spare);
-          tailed = i .tailed;
-          same = f .1 ∙ ap (λ (l : List ℕ). a ++ (decimal x ++ l)) (i .same ∙ ap (λ (k : ℕ). fieldsText more listed (v .x) (v .y) k (v .to)) z);
-        })
-        e
-    field-then x n f hx few (other never e) =
-        other (λ v i. never (record { x = v .y; y = v .z; z = 0; to = v .to })
-        (record {
-          small = (i .small .1, i .small .2, omega arith, i .small .3);
-          spare = i .spare;
-          tailed = i .tailed;
-          same = same-number 32 (omega arith) x (v .x) (drop n s) (fieldsText more listed (v .y) (v .z) 0 (v .to))
-              (cancel a (decimal x ++ drop n s) (decimal (v .x) ++ fieldsText more listed (v .y) (v .z) 0 (v .to)) (sym (f .1) ∙ i .same))
-              (f .2) (fields-gap more gaps listed (v .y) (v .z) 0 (v .to)) .1;
-        }))
-        e
+      number-then [] tt (omega arith)
+      (form (only (t .0)) (record { small = (omega arith, omega arith, omega arith, t .1); spare = (refl, refl, refl); tailed = tt; same = t .2 }) (made (t .0) (t .1) (t .3) (t .4)))

@@ -16,8 +16,8 @@ use Rattle.text.proofs.Splits.{part-is, decimal-clean}
 use Rattle.graph.specs.Calls.{areWords}
 use Rattle.lines.specs.Forms.{claimText, claimNumbers}
 use Rattle.lines.specs.Answers.{TextOf, IsCall, IsStep, IsClaim}
-use Rattle.lines.specs.Reads.{tailText, Tailed, fieldsText, Spare, Literals}
-use Rattle.lines.proofs.Chains.{fields-gap, literals-after}
+use Rattle.lines.specs.Reads.{tailText, Tailed, fieldsText, Spare}
+use Rattle.lines.proofs.Chains.{Literals, fields-gap, literals-after}
 use Rattle.lines.proofs.Words.{Grammar, Parts, Unused, fieldsIn, textIn, word-in, Forms, text-of}
 use Rattle.lines.proofs.Calls.{call-forms}
 use Rattle.lines.proofs.Steps.{step-forms}

@@ -12,9 +12,9 @@ use Rattle.text.specs.declared.cut.Place.the-variants.{At, Missing}
 use Rattle.text.proofs.Splits.{Clean, part, part-is, cancel, same-number}
 use Rattle.text.proofs.Lists.{commas-inj}
 use Rattle.lines.specs.Answers.{TextOf, Reads, form, other}
-use Rattle.lines.specs.Reads.{Below, tailText, Tailed, fieldsText, Spare, Literals, Values, ValuesOf}
+use Rattle.lines.specs.Reads.{Below, tailText, Tailed, fieldsText, Spare, Values, ValuesOf}
 use Rattle.lines.proofs.KeyLists.{words-below, below-words}
-use Rattle.lines.proofs.Chains.{fields-gap}
+use Rattle.lines.proofs.Chains.{Literals, fields-gap}
 
 -- a test that is not true
 pub unlike : (b : Bool) {P : Type 0} → (P → b ≡ true) → b ≡ false → P → ⊥

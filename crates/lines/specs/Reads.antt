@@ -7,10 +7,11 @@ use mathlib.Core.Logic.{_⊎_}
 use mathlib.Core.Path.{_≡_}
 use lib.Dec.{leb}
 use lib.ListN.{length, drop}
-use Rattle.text.specs.Text.{ascii, decimal, commas}
+use Rattle.text.specs.Text.{ascii, decimal}
 use Rattle.text.specs.Reads.{Gap}
 use Rattle.graph.specs.KeyLists.{isKey, areKeys, above, rising}
 use Rattle.graph.specs.Packed.{packed}
+use Rattle.lines.specs.Forms.{targets}
 use Rattle.lines.specs.Answers.{Reads, callLine, refusedCall, callForm, callAnswer, stepLine, refusedStep, stepForm, stepAnswer}
 use Rattle.lines.specs.declared.call.CallKind.{CallKind}
 use Rattle.lines.specs.declared.call.CallKind.the-variants.{Add, Map, Link, Unlink, Sum, Top, Pick, Near}
@@ -66,7 +67,7 @@ FieldOf s at literal Not = (v : ℕ) (x : List ℕ) → v < 2 ^ 32 → Gap 32 x 
 
 -- what ends a line: the targets, or nothing
 abbrev pub tailText : Bool → List ℕ → List ℕ
-tailText true ts = ascii " to=" ++ commas ts
+tailText true ts = targets ts
 tailText false ts = []
 
 -- a line without targets has none
@@ -78,12 +79,6 @@ Tailed false ts = ts ≡ []
 abbrev pub fieldsText : List (List ℕ) → Bool → ℕ → ℕ → ℕ → List ℕ → List ℕ
 fieldsText [] listed x y z ts = tailText listed ts
 fieldsText (a ∷ others) listed x y z ts = a ++ (decimal x ++ fieldsText others listed y z 0 ts)
-
--- literals that begin with a space each
-abbrev pub Literals : List (List ℕ) → Type 0
-Literals [] = Unit {0}
-Literals ([] ∷ others) = ⊥
-Literals ((c ∷ cs) ∷ others) = (c ≡ 32) × Literals others
 
 -- the numbers beyond the literals are zero
 abbrev pub Spare : List (List ℕ) → ℕ → ℕ → ℕ → Type 0

@@ -1,5 +1,6 @@
 -- `lines::call::call_made` meets its contract: the tests stand in the order of the definition.
 -- Assumes nothing.
+use native.Mathlib.Omega.{arith}
 use borrow.Author.Tests.{not-true, not-false}
 use Rattle.lines.proofs.Calls.{made-targets, made-many, made-unsorted, made-call}
 use borrow.Author.Needs.{needs}
@@ -20,7 +21,7 @@ refused-call-requires-2 c κs = search needs
 returns-2 : tie.Need-returns-2
 returns-2 c =
     let a = c .before .before .before .before .before .args in
-    λ ts p h. made-many (a .kind) (a .x) (a .y) (a .list) (a .key) ts p h (not-false (a .list .keys) (c .before .before .before .if1 .left)) (c .before .if2 .taken) (c .refused-call2 .ensures)
+    λ ts p h. made-many (a .kind) (a .x) (a .y) (a .list) (a .key) ts p h (not-false (a .list .keys) (c .before .before .before .if1 .left)) (omega arith) (c .refused-call2 .ensures)
 
 refused-call-requires-3 : tie.Need-refused-call-requires-3
 refused-call-requires-3 c κs = search needs
@@ -28,12 +29,12 @@ refused-call-requires-3 c κs = search needs
 returns-3 : tie.Need-returns-3
 returns-3 c =
     let a = c .before .before .before .before .before .before .before .args in
-    λ ts p h. made-unsorted (a .kind) (a .x) (a .y) (a .list) (a .key) ts p h (not-false (a .list .keys) (c .before .before .before .before .before .if1 .left)) (c .before .before .before .if2 .left) (not-true (a .list .rising) (c .before .if3 .taken)) (c .refused-call3 .ensures)
+    λ ts p h. made-unsorted (a .kind) (a .x) (a .y) (a .list) (a .key) ts p h (not-false (a .list .keys) (c .before .before .before .before .before .if1 .left)) (omega arith) (not-true (a .list .rising) (c .before .if3 .taken)) (c .refused-call3 .ensures)
 
 returns-4 : tie.Need-returns-4
 returns-4 c =
     let a = c .before .before .before .before .before .before .args in
-    λ ts p h. made-call (a .kind) (a .x) (a .y) (a .list) (a .key) ts p h (not-false (a .list .keys) (c .before .before .before .before .if1 .left)) (c .before .before .if2 .left) (not-false (a .list .rising) (c .if3 .left))
+    λ ts p h. made-call (a .kind) (a .x) (a .y) (a .list) (a .key) ts p h (not-false (a .list .keys) (c .before .before .before .before .if1 .left)) (omega arith) (not-false (a .list .rising) (c .if3 .left))
 
 pub call-made-spec : {M : Type 1} → statement M
 call-made-spec =

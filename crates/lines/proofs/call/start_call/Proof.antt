@@ -1,49 +1,17 @@
 -- `lines::call::start_call` meets its contract: a number, and the targets.
 -- Assumes nothing.
-use Prim.Native.Nat.{ℕ, _<_, _^_}
-use mathlib.Core.Path.{_≡_, _∙_}
-use mathlib.Core.Bool.{true}
-use mathlib.Core.List.{List, []}
-use lib.ListN.{drop}
+use mathlib.Core.Path.{_∙_}
+use mathlib.Core.List.{[]}
 use Rattle.text.specs.Text.{ascii}
-use Rattle.lines.specs.Answers.{Reads, refusedCall, callAnswer, callForm}
-use Rattle.lines.specs.Reads.{Below, KeysOf, Held, ValuesOf, CallAfter}
-use Rattle.lines.specs.declared.call.CallLine.{CallLine}
-use Rattle.lines.proofs.Chains.{field-not, field-then, targets-not, targets-are}
+use Rattle.lines.proofs.Chains.{NumberAt, field-not, targets-not, targets-are}
 use Rattle.lines.proofs.Calls.{start-after, start-answer}
 use borrow.Author.Needs.{needs}
 use Rattle.lines.proofs.call.start_call.Statement.{statement}
 use Rattle.lines.proofs.call.start_call.Tie as tie
 
--- after the first number
-module _ (c : tie.After-known-told) where
-  abbrev entry : tie.Start
-  entry = c .before .before .before .before .before .before
-
-  abbrev line : List ℕ
-  line = entry .args .line .now
-
-  abbrev start : ℕ
-  start = c .before .start .given .0 .0
-
-  abbrev afterStart : ℕ
-  afterStart = c .before .start .given .0 .1 .0
-
-  startSmall : start < 2 ^ 32
-  startSmall = search needs
-
-  first : {r : CallLine} → Reads (ValuesOf [] true (drop afterStart line)) (λ v. callAnswer (callForm (entry .args .kind) start (v .x) (v .to))) (refusedCall 10) r → CallAfter (entry .args .kind) (drop (entry .args .at) line) r
-  unfolding ascii
-  first h = start-after (entry .args .kind) (entry .pre .1) (field-then line (entry .args .at) _ (ascii " start=") [] tt start afterStart (rw (c .before .start .given .1) at (c .before .before .before .number-field .ensures)) startSmall (λ k l m s. s .2) h)
-
--- after the targets
-module _ (c : tie.After-known-told2) where
-  abbrev numbers : tie.After-known-told
-  numbers = c .before .before .before .before
-
-  served : {r : CallLine} → ((ts : List ℕ) → Below ts → KeysOf ts (c .before .answer .given .0 .0) → Held ts (c .before .before .before .targets-field .result .key) → r ≡ callAnswer (callForm (entry numbers .args .kind) (start numbers) 0 ts))
-      → CallAfter (entry numbers .args .kind) (drop (entry numbers .args .at) (line numbers)) r
-  served made = first numbers (targets-are (line numbers) (afterStart numbers) _ (rw (c .before .answer .given .1) at (c .before .before .before .targets-field .ensures)) made)
+start-at : (c : tie.After-known-told) → NumberAt (c .before .before .before .before .before .before .args .line .now) (c .before .before .before .before .before .before .args .at) (ascii " start=") (c .before .start .given .0 .0) (c .before .start .given .0 .1 .0)
+unfolding ascii
+start-at c = record { field = rw (c .before .start .given .1) at (c .before .before .before .number-field .ensures); small = search needs }
 
 slice-aggregate-number-field : tie.Need-slice-aggregate-number-field
 slice-aggregate-number-field c = search needs
@@ -64,12 +32,10 @@ returns : tie.Need-returns
 unfolding ascii
 returns c =
     let st = c .before .before .before .before .before .before in
-    start-after (st .args .kind) (st .pre .1) (field-not (st .args .line .now) (st .args .at) _ (ascii " start=") [] tt (rw (c .before .enum-told .given .1) at (c .before .before .before .number-field .ensures)) (c .refused-call .ensures))
+    start-after (st .args .kind) (st .pre .1) (field-not (st .args .line .now) (st .args .at) (ascii " start=") [] tt (rw (c .before .enum-told .given .1) at (c .before .before .before .number-field .ensures)) (c .refused-call .ensures))
 
 targets-field-requires : tie.Need-targets-field-requires
-targets-field-requires c κs =
-    let f = rw (c .before .start .given .1) at (c .before .before .before .number-field .ensures) in
-    f .0
+targets-field-requires c κs = start-at c .field .0
 
 enum-known-answer : tie.Need-enum-known-answer
 enum-known-answer c = search needs
@@ -83,7 +49,7 @@ refused-call-requires-2 c κs = search needs
 returns-2 : tie.Need-returns-2
 returns-2 c =
     let n = c .before .before .before .before in
-    first n (targets-not (line n) (afterStart n) _ (rw (c .before .enum-told2 .given .1) at (c .before .before .before .targets-field .ensures)) (c .refused-call2 .ensures))
+    start-after (n .before .before .before .before .before .before .args .kind) (n .before .before .before .before .before .before .pre .1) (targets-not (start-at n) (rw (c .before .enum-told2 .given .1) at (c .before .before .before .targets-field .ensures)) (c .refused-call2 .ensures))
 
 call-made-requires : tie.Need-call-made-requires
 call-made-requires c κs = search needs
@@ -91,8 +57,8 @@ call-made-requires c κs = search needs
 returns-3 : tie.Need-returns-3
 returns-3 c =
     let t = c .before .before in
-    let n = numbers t in
-    served t (λ ts s k h. c .call-made .ensures ts k h ∙ start-answer (entry n .args .kind) (entry n .pre .1) (start n) ts (startSmall n) s)
+    let n = t .before .before .before .before in
+    start-after (n .before .before .before .before .before .before .args .kind) (n .before .before .before .before .before .before .pre .1) (targets-are (start-at n) (rw (t .before .answer .given .1) at (t .before .before .before .targets-field .ensures)) (λ ts s k h. c .call-made .ensures ts k h ∙ start-answer (n .before .before .before .before .before .before .args .kind) (n .before .before .before .before .before .before .pre .1) _ ts (start-at n .small) s))
 
 pub start-call-spec : {M : Type 1} → statement M
 start-call-spec =

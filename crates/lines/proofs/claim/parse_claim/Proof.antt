@@ -2,16 +2,12 @@
 -- Assumes nothing.
 use Prim.Native.Nat.{_<_}
 use mathlib.Core.Path.{refl, sym, _∙_}
-use mathlib.Core.Bool.{false}
 use mathlib.Core.List.{[]}
 use native.Mathlib.Omega.{arith}
 use borrow.Author.Tests.{ltb-true, ltb-false}
-use lib.ListN.{length, drop}
+use lib.ListN.{length}
 use Rattle.text.specs.Text.{ascii}
-use Rattle.lines.specs.Answers.{Reads, claimAnswer, refusedClaim, ClaimRead}
-use Rattle.lines.specs.Reads.{ValuesOf}
-use Rattle.lines.specs.declared.claim.ClaimLine.{ClaimLine}
-use Rattle.lines.proofs.Chains.{field-not, field-then, end-not, end-is}
+use Rattle.lines.proofs.Chains.{NumberAt, field-not, last-not, last-is}
 use Rattle.lines.proofs.Claims.{claim-long, claim-field}
 use borrow.Author.Needs.{needs}
 use Rattle.lines.proofs.claim.parse_claim.Statement.{statement}
@@ -20,14 +16,9 @@ use Rattle.lines.proofs.claim.parse_claim.Tie as tie
 short : (c : tie.Else1) → length (c .before .before .before .args .line .now) < 256
 short c = omega (arith, ltb-false 255 (length (c .before .before .before .args .line .now)) (sym (c .before .too-long .ensures) ∙ c .if1 .left))
 
--- after the label
-label : (c : tie.After-known-told) {r : ClaimLine} → Reads (ValuesOf [] false (drop (c .before .label .given .0 .1 .0) (c .before .before .before .before .before .before .before .before .args .line .now))) (λ v. claimAnswer (c .before .label .given .0 .0)) (refusedClaim 10) r
-    → ClaimRead (c .before .before .before .before .before .before .before .before .args .line .now) r
+label-at : (c : tie.After-known-told) → NumberAt (c .before .before .before .before .before .before .before .before .args .line .now) 0 (ascii "claim=") (c .before .label .given .0 .0) (c .before .label .given .0 .1 .0)
 unfolding ascii
-label c h =
-    let e = c .before .before .before .before .before in
-    let line = e .before .before .before .args .line .now in
-    claim-field line _ (short e) (field-then line 0 _ (ascii "claim=") [] tt _ _ (rw (c .before .label .given .1) at (c .before .before .before .number-field .ensures)) (search needs) (λ k l m s. s .2) h)
+label-at c = record { field = rw (c .before .label .given .1) at (c .before .before .before .number-field .ensures); small = search needs }
 
 too-long-requires : tie.Need-too-long-requires
 too-long-requires c κs = search needs
@@ -58,20 +49,22 @@ unfolding ascii
 returns-2 c =
     let e = c .before .before .before .before .before in
     let line = e .before .before .before .args .line .now in
-    claim-field line _ (short e) (field-not line 0 _ (ascii "claim=") [] tt (rw (c .before .enum-told .given .1) at (c .before .before .before .number-field .ensures)) (c .refused-claim2 .ensures))
+    claim-field line _ (short e) (field-not line 0 (ascii "claim=") [] tt (rw (c .before .enum-told .given .1) at (c .before .before .before .number-field .ensures)) (c .refused-claim2 .ensures))
 
 refused-claim-requires-3 : tie.Need-refused-claim-requires-3
 refused-claim-requires-3 c κs = search needs
 
 returns-3 : tie.Need-returns-3
 returns-3 c =
-    let p = c .before .before in
-    label p (end-not (p .before .before .before .before .before .before .before .before .args .line .now) (p .before .label .given .0 .1 .0) _ (c .before .if2 .taken) (c .refused-claim3 .ensures))
+    let n = c .before .before in
+    let e = n .before .before .before .before .before in
+    claim-field (e .before .before .before .args .line .now) _ (short e) (last-not (label-at n) (c .before .if2 .taken) (c .refused-claim3 .ensures))
 
 returns-4 : tie.Need-returns-4
 returns-4 c =
-    let p = c .before in
-    label p (end-is (p .before .before .before .before .before .before .before .before .args .line .now) (p .before .label .given .0 .1 .0) _ (c .if2 .left) refl)
+    let n = c .before in
+    let e = n .before .before .before .before .before in
+    claim-field (e .before .before .before .args .line .now) _ (short e) (last-is (label-at n) (c .if2 .left) refl)
 
 pub parse-claim-spec : {M : Type 1} → statement M
 parse-claim-spec =

@@ -1,38 +1,18 @@
 -- `lines::step::place_step` meets its contract: a key, and the end.
 -- Assumes nothing.
-use Prim.Native.Nat.{ℕ}
 use mathlib.Core.Path.{refl, _∙_}
-use mathlib.Core.Bool.{false}
-use mathlib.Core.List.{List, [], _∷_}
+use mathlib.Core.List.{[], _∷_}
 use native.Mathlib.Omega.{arith}
-use lib.ListN.{drop}
 use Rattle.text.specs.Text.{ascii}
-use Rattle.lines.specs.Answers.{Reads, refusedStep, stepAnswer, stepForm}
-use Rattle.lines.specs.Reads.{ValuesOf, StepAfter}
-use Rattle.lines.specs.declared.step.StepLine.{StepLine}
-use Rattle.lines.proofs.Chains.{field-not, field-then, end-not, end-is}
+use Rattle.lines.proofs.Chains.{NumberAt, field-not, last-not, last-is}
 use Rattle.lines.proofs.Steps.{by-literals, place-answer}
 use borrow.Author.Needs.{needs}
 use Rattle.lines.proofs.step.place_step.Statement.{statement}
 use Rattle.lines.proofs.step.place_step.Tie as tie
 
--- after the first number
-module _ (c : tie.After-known-told) where
-  abbrev entry : tie.Start
-  entry = c .before .before .before .before .before .before
-
-  abbrev line : List ℕ
-  line = entry .args .line .now
-
-  abbrev place : ℕ
-  place = c .before .place .given .0 .0
-
-  abbrev afterPlace : ℕ
-  afterPlace = c .before .place .given .0 .1 .0
-
-  first : {r : StepLine} → Reads (ValuesOf [] false (drop afterPlace line)) (λ v. stepAnswer (stepForm (entry .args .kind) place (v .x) (v .y))) (refusedStep 10) r → StepAfter (entry .args .kind) (drop (entry .args .at) line) r
-  unfolding ascii
-  first h = by-literals (entry .args .kind) (ascii " at=" ∷ []) _ _ (entry .pre .1) (field-then line (entry .args .at) _ (ascii " at=") [] tt place afterPlace (rw (c .before .place .given .1) at (c .before .before .before .number-field .ensures)) (search needs) (λ k l m s. s .2) h)
+place-at : (c : tie.After-known-told) → NumberAt (c .before .before .before .before .before .before .args .line .now) (c .before .before .before .before .before .before .args .at) (ascii " at=") (c .before .place .given .0 .0) (c .before .place .given .0 .1 .0)
+unfolding ascii
+place-at c = record { field = rw (c .before .place .given .1) at (c .before .before .before .number-field .ensures); small = search needs }
 
 slice-aggregate-number-field : tie.Need-slice-aggregate-number-field
 slice-aggregate-number-field c = search needs
@@ -53,7 +33,7 @@ returns : tie.Need-returns
 unfolding ascii
 returns c =
     let st = c .before .before .before .before .before .before in
-    by-literals (st .args .kind) (ascii " at=" ∷ []) _ _ (st .pre .1) (field-not (st .args .line .now) (st .args .at) _ (ascii " at=") [] tt (rw (c .before .enum-told .given .1) at (c .before .before .before .number-field .ensures)) (c .refused-step .ensures))
+    by-literals (st .args .kind) (ascii " at=" ∷ []) _ _ (st .pre .1) (field-not (st .args .line .now) (st .args .at) (ascii " at=") [] tt (rw (c .before .enum-told .given .1) at (c .before .before .before .number-field .ensures)) (c .refused-step .ensures))
 
 refused-step-requires-2 : tie.Need-refused-step-requires-2
 refused-step-requires-2 c κs = search needs
@@ -61,7 +41,7 @@ refused-step-requires-2 c κs = search needs
 returns-2 : tie.Need-returns-2
 returns-2 c =
     let n = c .before .before in
-    first n (end-not (line n) (afterPlace n) _ (c .before .if1 .taken) (c .refused-step2 .ensures))
+    by-literals (n .before .before .before .before .before .before .args .kind) (ascii " at=" ∷ []) _ _ (n .before .before .before .before .before .before .pre .1) (last-not (place-at n) (c .before .if1 .taken) (c .refused-step2 .ensures))
 
 step-made-requires : tie.Need-step-made-requires
 step-made-requires c κs = search needs
@@ -69,7 +49,7 @@ step-made-requires c κs = search needs
 returns-3 : tie.Need-returns-3
 returns-3 c =
     let n = c .before .before in
-    first n (end-is (line n) (afterPlace n) _ (c .before .if1 .left) (c .step-made .ensures ∙ place-answer (entry n .args .kind) (ascii " at=" ∷ []) (place n) 0 0 (entry n .pre .1) (omega arith) (refl, refl, refl)))
+    by-literals (n .before .before .before .before .before .before .args .kind) (ascii " at=" ∷ []) _ _ (n .before .before .before .before .before .before .pre .1) (last-is (place-at n) (c .before .if1 .left) (c .step-made .ensures ∙ place-answer (n .before .before .before .before .before .before .args .kind) (ascii " at=" ∷ []) _ _ _ (n .before .before .before .before .before .before .pre .1) (omega arith) (refl, refl, refl)))
 
 pub place-step-spec : {M : Type 1} → statement M
 place-step-spec =

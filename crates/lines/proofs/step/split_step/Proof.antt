@@ -1,69 +1,27 @@
 -- `lines::step::split_step` meets its contract: a key, two numbers, and the end.
 -- Assumes nothing.
-use Prim.Native.Nat.{ℕ}
 use mathlib.Core.Path.{refl, _∙_}
-use mathlib.Core.Bool.{false}
-use mathlib.Core.List.{List, [], _∷_}
+use mathlib.Core.List.{[], _∷_}
 use native.Mathlib.Omega.{arith}
-use lib.ListN.{drop}
 use Rattle.text.specs.Text.{ascii}
-use Rattle.lines.specs.Answers.{Reads, refusedStep, stepAnswer, stepForm}
-use Rattle.lines.specs.Reads.{ValuesOf, StepAfter}
 use Rattle.lines.specs.declared.step.StepKind.the-variants.{Split}
-use Rattle.lines.specs.declared.step.StepLine.{StepLine}
-use Rattle.lines.proofs.Chains.{field-not, field-then, end-not, end-is}
+use Rattle.lines.proofs.Chains.{NumberAt, field-not, number-then, next-not, last-not, last-is}
 use Rattle.lines.proofs.Steps.{place-answer}
 use borrow.Author.Needs.{needs}
 use Rattle.lines.proofs.step.split_step.Statement.{statement}
 use Rattle.lines.proofs.step.split_step.Tie as tie
 
--- after the first number
-module _ (c : tie.After-known-told) where
-  abbrev entry : tie.Start
-  entry = c .before .before .before .before .before .before
+place-at : (c : tie.After-known-told) → NumberAt (c .before .before .before .before .before .before .args .line .now) (c .before .before .before .before .before .before .args .at) (ascii " at=") (c .before .place .given .0 .0) (c .before .place .given .0 .1 .0)
+unfolding ascii
+place-at c = record { field = rw (c .before .place .given .1) at (c .before .before .before .number-field .ensures); small = search needs }
 
-  abbrev line : List ℕ
-  line = entry .args .line .now
+unit-at : (c : tie.After-known-told2) → NumberAt (c .before .before .before .before .before .before .before .before .before .before .before .args .line .now) (c .before .before .before .before .before .before .place .given .0 .1 .0) (ascii " unit=") (c .before .unit .given .0 .0) (c .before .unit .given .0 .1 .0)
+unfolding ascii
+unit-at c = record { field = rw (c .before .unit .given .1) at (c .before .before .before .number-field2 .ensures); small = search needs }
 
-  abbrev place : ℕ
-  place = c .before .place .given .0 .0
-
-  abbrev afterPlace : ℕ
-  afterPlace = c .before .place .given .0 .1 .0
-
-  first : {r : StepLine} → Reads (ValuesOf (ascii " unit=" ∷ ascii " after=" ∷ []) false (drop afterPlace line)) (λ v. stepAnswer (stepForm Split place (v .x) (v .y))) (refusedStep 10) r → StepAfter Split (drop (entry .args .at) line) r
-  unfolding ascii
-  first = field-then line (entry .args .at) _ (ascii " at=") (ascii " unit=" ∷ ascii " after=" ∷ []) (refl, (refl, tt)) place afterPlace (rw (c .before .place .given .1) at (c .before .before .before .number-field .ensures)) (search needs) (λ k l m s. s .0)
-
--- after the second number
-module _ (c : tie.After-known-told2) where
-  abbrev one : tie.After-known-told
-  one = c .before .before .before .before .before
-
-  abbrev unit : ℕ
-  unit = c .before .unit .given .0 .0
-
-  abbrev afterUnit : ℕ
-  afterUnit = c .before .unit .given .0 .1 .0
-
-  second : {r : StepLine} → Reads (ValuesOf (ascii " after=" ∷ []) false (drop afterUnit (line one))) (λ v. stepAnswer (stepForm Split (place one) unit (v .x))) (refusedStep 10) r → StepAfter Split (drop (entry one .args .at) (line one)) r
-  unfolding ascii
-  second h = first one (field-then (line one) (afterPlace one) _ (ascii " unit=") (ascii " after=" ∷ []) (refl, tt) unit afterUnit (rw (c .before .unit .given .1) at (c .before .before .before .number-field2 .ensures)) (search needs) (λ k l m s. s .1) h)
-
--- after the third number
-module _ (c : tie.After-known-told3) where
-  abbrev two : tie.After-known-told2
-  two = c .before .before .before .before .before
-
-  abbrev after : ℕ
-  after = c .before .after .given .0 .0
-
-  abbrev atAfter : ℕ
-  atAfter = c .before .after .given .0 .1 .0
-
-  third : {r : StepLine} → Reads (ValuesOf [] false (drop atAfter (line (one two)))) (λ v. stepAnswer (stepForm Split (place (one two)) (unit two) after)) (refusedStep 10) r → StepAfter Split (drop (entry (one two) .args .at) (line (one two))) r
-  unfolding ascii
-  third h = second two (field-then (line (one two)) (afterUnit two) _ (ascii " after=") [] tt after atAfter (rw (c .before .after .given .1) at (c .before .before .before .number-field3 .ensures)) (search needs) (λ k l m s. s .2) h)
+after-at : (c : tie.After-known-told3) → NumberAt (c .before .before .before .before .before .before .before .before .before .before .before .before .before .before .before .before .args .line .now) (c .before .before .before .before .before .before .unit .given .0 .1 .0) (ascii " after=") (c .before .after .given .0 .0) (c .before .after .given .0 .1 .0)
+unfolding ascii
+after-at c = record { field = rw (c .before .after .given .1) at (c .before .before .before .number-field3 .ensures); small = search needs }
 
 slice-aggregate-number-field : tie.Need-slice-aggregate-number-field
 slice-aggregate-number-field c = search needs
@@ -84,15 +42,13 @@ returns : tie.Need-returns
 unfolding ascii
 returns c =
     let st = c .before .before .before .before .before .before in
-    field-not (st .args .line .now) (st .args .at) _ (ascii " at=") (ascii " unit=" ∷ ascii " after=" ∷ []) (refl, (refl, tt)) (rw (c .before .enum-told .given .1) at (c .before .before .before .number-field .ensures)) (c .refused-step .ensures)
+    field-not (st .args .line .now) (st .args .at) (ascii " at=") (ascii " unit=" ∷ ascii " after=" ∷ []) (refl, (refl, tt)) (rw (c .before .enum-told .given .1) at (c .before .before .before .number-field .ensures)) (c .refused-step .ensures)
 
 slice-aggregate-number-field-2 : tie.Need-slice-aggregate-number-field-2
 slice-aggregate-number-field-2 c = search needs
 
 number-field-requires-2 : tie.Need-number-field-requires-2
-number-field-requires-2 c κs =
-    let f = rw (c .before .before .place .given .1) at (c .before .before .before .before .number-field .ensures) in
-    f .0
+number-field-requires-2 c κs = place-at (c .before) .field .0
 
 enum-known-unit : tie.Need-enum-known-unit
 enum-known-unit c = search needs
@@ -106,16 +62,14 @@ refused-step-requires-2 c κs = search needs
 returns-2 : tie.Need-returns-2
 unfolding ascii
 returns-2 c =
-    let p = c .before .before .before .before .before in
-    first p (field-not (line p) (afterPlace p) _ (ascii " unit=") (ascii " after=" ∷ []) (refl, tt) (rw (c .before .enum-told2 .given .1) at (c .before .before .before .number-field2 .ensures)) (c .refused-step2 .ensures))
+    let n = c .before .before .before .before .before in
+    next-not (place-at n) (ascii " unit=") (ascii " after=" ∷ []) (refl, (refl, tt)) (omega arith) (rw (c .before .enum-told2 .given .1) at (c .before .before .before .number-field2 .ensures)) (c .refused-step2 .ensures)
 
 slice-aggregate-number-field-3 : tie.Need-slice-aggregate-number-field-3
 slice-aggregate-number-field-3 c = search needs
 
 number-field-requires-3 : tie.Need-number-field-requires-3
-number-field-requires-3 c κs =
-    let f = rw (c .before .before .unit .given .1) at (c .before .before .before .before .number-field2 .ensures) in
-    f .0
+number-field-requires-3 c κs = unit-at (c .before) .field .0
 
 enum-known-after : tie.Need-enum-known-after
 enum-known-after c = search needs
@@ -129,24 +83,26 @@ refused-step-requires-3 c κs = search needs
 returns-3 : tie.Need-returns-3
 unfolding ascii
 returns-3 c =
-    let p = c .before .before .before .before .before in
-    second p (field-not (line (one p)) (afterUnit p) _ (ascii " after=") [] tt (rw (c .before .enum-told3 .given .1) at (c .before .before .before .number-field3 .ensures)) (c .refused-step3 .ensures))
+    let n = c .before .before .before .before .before in
+    number-then (place-at (n .before .before .before .before .before)) (ascii " unit=" ∷ ascii " after=" ∷ []) (refl, (refl, tt)) (omega arith) (next-not (unit-at n) (ascii " after=") [] (refl, tt) (omega arith) (rw (c .before .enum-told3 .given .1) at (c .before .before .before .number-field3 .ensures)) (c .refused-step3 .ensures))
 
 refused-step-requires-4 : tie.Need-refused-step-requires-4
 refused-step-requires-4 c κs = search needs
 
 returns-4 : tie.Need-returns-4
+unfolding ascii
 returns-4 c =
     let n = c .before .before in
-    third n (end-not (line (one (two n))) (atAfter n) _ (c .before .if1 .taken) (c .refused-step4 .ensures))
+    number-then (place-at (n .before .before .before .before .before .before .before .before .before .before)) (ascii " unit=" ∷ ascii " after=" ∷ []) (refl, (refl, tt)) (omega arith) (number-then (unit-at (n .before .before .before .before .before)) (ascii " after=" ∷ []) (refl, tt) (omega arith) (last-not (after-at n) (c .before .if1 .taken) (c .refused-step4 .ensures)))
 
 step-made-requires : tie.Need-step-made-requires
 step-made-requires c κs = search needs
 
 returns-5 : tie.Need-returns-5
+unfolding ascii
 returns-5 c =
     let n = c .before .before in
-    third n (end-is (line (one (two n))) (atAfter n) _ (c .before .if1 .left) (c .step-made .ensures ∙ place-answer Split (ascii " at=" ∷ ascii " unit=" ∷ ascii " after=" ∷ []) (place (one (two n))) (unit (two n)) (after n) refl (omega arith) (refl, refl, refl)))
+    number-then (place-at (n .before .before .before .before .before .before .before .before .before .before)) (ascii " unit=" ∷ ascii " after=" ∷ []) (refl, (refl, tt)) (omega arith) (number-then (unit-at (n .before .before .before .before .before)) (ascii " after=" ∷ []) (refl, tt) (omega arith) (last-is (after-at n) (c .before .if1 .left) (c .step-made .ensures ∙ place-answer Split (ascii " at=" ∷ ascii " unit=" ∷ ascii " after=" ∷ []) (n .before .before .before .before .before .before .before .before .before .before .before .place .given .0 .0) (n .before .before .before .before .before .before .unit .given .0 .0) (n .before .after .given .0 .0) refl (omega arith) (refl, refl, refl))))
 
 pub split-step-spec : {M : Type 1} → statement M
 split-step-spec =

@@ -14,13 +14,13 @@ returns : tie.Need-returns
 returns c =
     let st = c .before .before .before in
     let a = st .args in
-    by-literals (a .kind) [] _ _ (st .pre .1) (end-not (a .line .now) (a .at) _ (c .before .if1 .taken) (c .refused-step .ensures))
+    by-literals (a .kind) [] _ _ (st .pre .1) (end-not (a .line .now) (a .at) (c .before .if1 .taken) (c .refused-step .ensures))
 
 returns-2 : tie.Need-returns-2
 returns-2 c =
     let st = c .before .before in
     let a = st .args in
-    by-literals (a .kind) [] _ _ (st .pre .1) (end-is (a .line .now) (a .at) _ (c .if1 .left) (word-answer (a .kind) (st .pre .1)))
+    by-literals (a .kind) [] _ _ (st .pre .1) (end-is (a .line .now) (a .at) (c .if1 .left) (word-answer (a .kind) (st .pre .1)))
 
 pub word-step-spec : {M : Type 1} → statement M
 word-step-spec = tie.close (tie.spec refused-step-requires returns returns-2)
