@@ -24,7 +24,7 @@ enum {
     CG_BAD_LINE = 10,      /* not one of the entry's forms, or 256 bytes or more */
     CG_BAD_KEY = 11,       /* a key outside 1 to 64 */
     CG_BAD_TARGETS = 12,   /* more than eight targets, or not strictly rising */
-    CG_ADDS_SPENT = 13,    /* an add after 64 were accepted */
+    CG_ADDS_SPENT = 13,    /* an add where nodes and waiting adds are 64 */
     CG_LIVE_FULL = 14,     /* a call while 64 are live: claim a result first */
     CG_LABELS_SPENT = 15,  /* a call after 65,535 were accepted */
     CG_NO_NODE = 20,       /* no node with that key */

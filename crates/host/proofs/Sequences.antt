@@ -1,25 +1,25 @@
--- Each entry's answer is the first of its tests that applies, and the tests' numbers rise.
+-- Each entry's answer is the first of its tests that applies. Here each sequence of tests rises, so that this is the lowest number that
+-- applies.
 -- Assumes nothing.
-use mathlib.Core.Path.{_≡_, refl, sym, ap, _∙_}
+use mathlib.Core.Path.{_≡_, refl, sym, ap, subst, _∙_}
 use Prim.Native.Nat.{ℕ, zero, suc}
 use mathlib.Core.Bool.{Bool, true, false, cond, not, _&&_, true≢false}
 use mathlib.Core.List.{List, [], _∷_}
 use mathlib.Core.Option.{Option, some}
 use lib.Dec.{leb}
 use lib.ListN.{length}
-use Rattle.graph.specs.Refusals.{Answer, refused, done, andThen, numberOf, firstOf, unless}
+use Rattle.graph.specs.Refusals.{Answer, refused, done, andThen, numberOf, firstOf, risesFrom, unless}
 use Rattle.graph.specs.KeyLists.{contains, areKeys}
-use Rattle.graph.specs.Calls.{Call}
 use Rattle.graph.specs.Nodes.{Result}
 use Rattle.graph.specs.Sessions.{Session, labelsOfResults, pending}
 use Rattle.graph.specs.Steps.{Step, step}
 use Rattle.graph.specs.Allowed.{stepTests}
-use Rattle.graph.specs.Acceptance.{callTests, accept, Claimed, takeResult, claim}
+use Rattle.graph.specs.Acceptance.{accept, Claimed, takeResult}
 use Rattle.graph.specs.Runs.{find}
 use Rattle.graph.proofs.Answers.{Holds, holds}
 use Rattle.graph.proofs.Verdicts.{Says, step-number}
-use Rattle.graph.proofs.Sequences.{calls-rise, steps-rise, accept-number, take-says, take-found}
-use Rattle.lines.specs.Forms.{StepForm, work, drain as drains, stepKeys}
+use Rattle.graph.proofs.Sequences.{Lowest, first-lowest, calls-rise, steps-rise, accept-number, take-says, take-found}
+use Rattle.lines.specs.Forms.{work, drain as drains, stepKeys}
 use Rattle.lines.specs.Answers.{stepFormTests}
 use Rattle.text.specs.Text.{pasted}
 use Rattle.print.specs.Printed.{resultText}
@@ -28,8 +28,8 @@ use Rattle.panel.specs.declared.tally.Tally.{Tally}
 use Rattle.panel.specs.Answer.{refusalIn}
 use Rattle.panel.specs.Answer as panel
 use Rattle.listing.specs.Listed.{listingOf}
-use Rattle.host.specs.Entries.{callServed, stepServed, stepMade, claimRefused, claimWritten, claimServed, listRefused, listServed}
-use Rattle.host.specs.Sequences.{stepLineTests, isShort, claimLineTests, listTests, InSequence}
+use Rattle.host.specs.Entries.{callServed, stepServed, claimRefused, claimWritten, claimServed, listRefused}
+use Rattle.host.specs.Sequences.{Asked, calling, stepping, claiming, listing, isShort, testsOf, numberBefore, answerTo}
 
 refusal-back : (n : ℕ) → refusalIn (panel.numberOf (Refused n)) ≡ n
 refusal-back zero = refl
@@ -40,24 +40,17 @@ call-refusal : (image : List ℕ) (x : Answer Session) → refusalIn ((callServe
 call-refusal image (refused n) = refusal-back n
 call-refusal image (done s) = refl
 
-pub call-sequence : (image : List ℕ) (s : Session) (f : Call) → InSequence 2 (callTests f s) ((callServed image (accept f s)) .answer)
-call-sequence image s f = record { first = call-refusal image (accept f s) ∙ accept-number f s; rising = calls-rise f s }
-
 -- STEPS
 step-refusal : (image : List ℕ) (t : Tally) (took : List Step) (x : Answer Session) → refusalIn ((stepServed image t took x) .answer) ≡ numberOf x
 step-refusal image t took (refused n) = refusal-back n
 step-refusal image t took (done s) = refl
 
-work-first : (w : Step) (s : Session) → numberOf (andThen (unless (stepFormTests (work w)) s) (step w)) ≡ firstOf (stepLineTests (work w) s)
-work-first w s = go (not (areKeys (stepKeys (work w))))
+work-first : (w : Step) (t : Tally) (s : Session) → numberOf (andThen (unless (stepFormTests (work w)) s) (step w)) ≡ firstOf (testsOf (stepping (work w) t) s)
+work-first w t s = go (not (areKeys (stepKeys (work w))))
   where
     go : (b : Bool) → numberOf (andThen (cond b (refused 11) (done s)) (step w)) ≡ cond b 11 (firstOf (stepTests w s))
     go true = refl
     go false = step-number w s
-
-pub step-sequence : (image : List ℕ) (t : Tally) (s : Session) (f : StepForm) → InSequence 10 (stepLineTests f s) ((stepMade image t s f) .answer)
-step-sequence image t s (work w) = record { first = step-refusal image t (w ∷ []) (andThen (unless (stepFormTests (work w)) s) (step w)) ∙ work-first w s; rising = steps-rise w s }
-step-sequence image t s drains = record { first = refl; rising = refl }
 
 -- CLAIMS: 33 where the result is there and its line does not fit
 room-refusal : (image out : List ℕ) (s : Session) (c : Claimed) → refusalIn ((claimServed image out s (done c)) .answer) ≡ cond (isShort out (some (c .result))) 33 0
@@ -67,12 +60,9 @@ room-refusal image out s c = go (leb (length (resultText (c .result))) (length o
     go true = refl
     go false = refl
 
-pub claim-sequence : (image out : List ℕ) (s : Session) (l : ℕ) → InSequence 10 (claimLineTests l s out) ((claimServed image out s (claim l s)) .answer)
-claim-sequence image out s l =
-    record {
-      first = go (leb 1 l && leb l (s .last)) (contains l (pending s)) (contains l (labelsOfResults (s .results))) (takeResult l (s .results)) (take-says l (s .results)) (take-found l (s .results));
-      rising = refl;
-    }
+claim-first : (image out : List ℕ) (s : Session) (l : ℕ) → refusalIn (answerTo (claiming l out) image s) ≡ firstOf (testsOf (claiming l out) s)
+claim-first image out s l =
+    go (leb 1 l && leb l (s .last)) (contains l (pending s)) (contains l (labelsOfResults (s .results))) (takeResult l (s .results)) (take-says l (s .results)) (take-found l (s .results))
   where
     go : (a b c : Bool) (x : Answer Claimed) → Says x (cond c 0 32) c → Holds (λ (k : Claimed). find l (s .results) ≡ some (k .result)) x →
         refusalIn ((claimServed image out s (cond a (cond b (refused 31) x) (refused 30))) .answer) ≡ cond (not a) 30 (cond b 31 (cond (not c) 32 (cond (isShort out (find l (s .results))) 33 0)))
@@ -84,9 +74,29 @@ claim-sequence image out s l =
     go true false false (done k) h f = absurd (true≢false (h .done))
 
 -- THE LISTING
-pub list-sequence : (out : List ℕ) (s : Session) → InSequence 2 (listTests s out) ((listServed out s) .answer)
-list-sequence out s = record { first = go (leb (length (listingOf s)) (length out)); rising = refl }
+list-first : (image out : List ℕ) (s : Session) → refusalIn (answerTo (listing out) image s) ≡ firstOf (testsOf (listing out) s)
+list-first image out s = go (leb (length (listingOf s)) (length out))
   where
     go : (b : Bool) → refusalIn ((cond b (record { answer = panel.numberOf (Done (length (listingOf s))); output = pasted out 0 (listingOf s) }) (listRefused out 33)) .answer) ≡ cond (not b) 33 0
     go true = refl
     go false = refl
+
+-- THE FIRST TEST THAT APPLIES ANSWERS
+pub first-answers : (a : Asked) (image : List ℕ) (s : Session) → refusalIn (answerTo a image s) ≡ firstOf (testsOf a s)
+first-answers (calling f) image s = call-refusal image (accept f s) ∙ accept-number f s
+first-answers (stepping (work w) t) image s = step-refusal image t (w ∷ []) (andThen (unless (stepFormTests (work w)) s) (step w)) ∙ work-first w t s
+first-answers (stepping drains t) image s = refl
+first-answers (claiming l out) image s = claim-first image out s l
+first-answers (listing out) image s = list-first image out s
+
+-- EACH SEQUENCE RISES
+pub sequence-rises : (a : Asked) (s : Session) → risesFrom (numberBefore a) (testsOf a s) ≡ true
+sequence-rises (calling f) s = calls-rise f s
+sequence-rises (stepping (work w) t) s = steps-rise w s
+sequence-rises (stepping drains t) s = refl
+sequence-rises (claiming l out) s = refl
+sequence-rises (listing out) s = refl
+
+-- so that the answer is the lowest number of those that apply
+pub lowest-answers : (a : Asked) (image : List ℕ) (s : Session) → Lowest (refusalIn (answerTo a image s)) (testsOf a s)
+lowest-answers a image s = subst (λ (n : ℕ). Lowest n (testsOf a s)) (sym (first-answers a image s)) (first-lowest (numberBefore a) (testsOf a s) (sequence-rises a s))
