@@ -49,7 +49,7 @@ first-lowest n (t ∷ ts) e = go (t .applies) refl (first-lowest (t .number) ts 
     go true f g = (λ a. omega arith, above ts (rises-above (t .number) ts (and-right (ltb n (t .number)) _ e)))
     go false f g = (λ a. absurd (true≢false (sym a ∙ f)), g)
 
--- EACH SEQUENCE RISES; before it stand 1, 2 and 10, which the host tests
+-- EACH SEQUENCE RISES (of claims and the listing: host's Sequences, with 33)
 pub calls-rise : (c : Call) (s : Session) → risesFrom 2 (callTests c s) ≡ true
 calls-rise c s = refl
 
@@ -62,9 +62,6 @@ steps-rise (join k i) s = refl
 steps-rise (split k i j) s = refl
 steps-rise (swap k i) s = refl
 steps-rise (fuse k i) s = refl
-
-pub claims-rise : (l : ℕ) (s : Session) → risesFrom 10 (claimTests l s) ≡ true
-claims-rise l s = refl
 
 -- THE FIRST ANSWERS
 pub unless-number : {A : Type 0} (ts : List Test) (a : A) → numberOf (unless ts a) ≡ firstOf ts
