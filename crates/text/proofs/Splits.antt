@@ -4,7 +4,7 @@ use Prim.Native.Nat.{ℕ, suc, _+_, _-_, _<_, _≤_}
 use mathlib.Core.Bool.{Bool, true, false, cond, false≢true}
 use mathlib.Core.Path.{_≡_, refl, sym, ap, _∙_}
 use mathlib.Core.List.{List, [], _∷_, _++_, append-nil}
-use native.Mathlib.Nat.{le-of-eq, add-sub-cancel-left}
+use native.Mathlib.Nat.{le-of-eq, le-of-lt, add-sub-cancel-left}
 use native.Mathlib.Numerals.{add-one}
 use native.Mathlib.Omega.{arith}
 use borrow.Author.Tests.{eq-eqb, ne-eqb, eqb-true, eqb-false}
@@ -25,9 +25,17 @@ cancel p x y e = sym (drop-append-seam p x) ∙ ap (drop (length p)) e ∙ drop-
 
 -- ---- the search
 
-pub upTo-nil : (stop : ℕ) → upTo stop [] ≡ []
+upTo-nil : (stop : ℕ) → upTo stop [] ≡ []
 unfolding upTo
 upTo-nil stop = refl
+
+-- past the end nothing is found
+pub past-end : (stop at : ℕ) (s : List ℕ) → length s < at → [] ≡ upTo stop (drop at s)
+past-end stop at s h = sym (ap (upTo stop) (drop-of-length-le s (le-of-lt h)) ∙ upTo-nil stop)
+
+-- `&s[at..]` up to its first stop
+pub from-place : (stop at : ℕ) (s : List ℕ) → upTo stop (take (length s - at) (drop at s)) ≡ upTo stop (drop at s)
+from-place stop at s = ap (upTo stop) (from-eq s at)
 
 upTo-here : (stop x : ℕ) (xs : List ℕ) → x ≡ stop → upTo stop (x ∷ xs) ≡ []
 unfolding upTo

@@ -5,6 +5,20 @@ ghost use lib.ListN.{length, drop};
 ghost use Rattle.text.specs.Text.{upTo, startsWith};
 ghost use Rattle.text.specs.Reads.{PlaceOf};
 
+// The part of `s` up to its first byte `stop`, or all of it.
+fn up_to(s: &[u8], stop: u8) -> &[u8]
+    ensures { λ r. ⌜ now r ≡ upTo stop (now (s .entry)) ⌝ }
+{
+    let mut k = 0;
+    while k < s.len() {
+        if s[k] == stop {
+            return &s[..k];
+        }
+        k += 1;
+    }
+    s
+}
+
 // The part of `s` from `at` to the next byte `stop`, or to the end. A place past the end gives the empty part.
 pub fn part_to(s: &[u8], at: usize, stop: u8) -> &[u8]
     ensures { λ r. ⌜ now r ≡ upTo stop (drop at (now (s .entry))) ⌝ }
@@ -12,15 +26,7 @@ pub fn part_to(s: &[u8], at: usize, stop: u8) -> &[u8]
     if s.len() < at {
         return &s[..0];
     }
-    let t = &s[at..];
-    let mut k = 0;
-    while k < t.len() {
-        if t[k] == stop {
-            return &t[..k];
-        }
-        k += 1;
-    }
-    t
+    up_to(&s[at..], stop)
 }
 
 // A place in a slice, where there is one.
