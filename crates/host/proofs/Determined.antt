@@ -62,7 +62,7 @@ module _ {F R Q : Type 0} {image : List ℕ} {Is : F → Type 0} {refuse : ℕ �
 pub call-forms : {line : List ℕ} (f g : Call) → IsCall line f → IsCall line g → f ≡ g
 call-forms f g h k = call-unique f g (sym (h .same) ∙ k .same)
 
-step-forms : {line : List ℕ} (f g : StepForm) → IsStep line f → IsStep line g → f ≡ g
+pub step-forms : {line : List ℕ} (f g : StepForm) → IsStep line f → IsStep line g → f ≡ g
 step-forms f g h k = step-unique f g (sym (h .same) ∙ k .same)
 
 pub claim-forms : {line : List ℕ} (l m : ℕ) → IsClaim line l → IsClaim line m → l ≡ m

@@ -8,3 +8,4 @@ pub mod SameEnd
 pub mod SameImage
 pub mod EveryRun
 pub mod OneResult
+pub mod StepsTaken
