@@ -20,16 +20,18 @@ use Rattle.graph.specs.Sessions.{Station, Session, graphOf, labelsOfResu
 use Rattle.graph.specs.Steps.{Step, step}
 use Rattle.graph.specs.Acceptance.{accepted, accept, Claimed, claim}
 use Rattle.graph.specs.Drain.{backmost, drain}
-use Rattle.graph.specs.Valid.{Valid, count}
+use Rattle.graph.specs.Valid.{Each, Valid, count}
 use Rattle.graph.specs.Runs.{Event, calls, steps, drains, claims, Run, onCall, onStep, onDrain, onClaim, events, start, run, stepEvents, workSteps, stepAll, find, SameResult, Demand3, SameOutcome}
 use Rattle.graph.proofs.Answers.{Holds, holds, holds-at, and-left, and-right, eqb-same}
 use Rattle.graph.proofs.Striking.{same-eq, same-refl}
 use Rattle.graph.proofs.Effects.{costs}
+use Rattle.graph.proofs.Limits.{each-append}
 use Rattle.graph.proofs.Outcome.{Seen, plus, seen-path, sum, through, admitting, outcome, seen, processSeen, sum-append, process-seen, process-plus, outcome-accepted}
 use Rattle.graph.proofs.OutcomeKept.{Same, step-same}
 use Rattle.graph.proofs.Labels.{byLabel, is, total, total-append, total-is, total-results, count-out, visit-labels, live-total}
 use Rattle.graph.proofs.Weights.{weightOfCall, weightOfCalls, weightOf, Lighter, step-lighter}
 use Rattle.graph.proofs.Validity.{valid-fresh, Stepped, step-valid, claim-valid, ValidClaim, Accepts, accept-valid, Fits, Sort, adds, operates, sort}
+use Rattle.graph.proofs.Found.{none-some, some-same}
 use Rattle.graph.proofs.Drains.{no-units, pending-resting, valid-progress, work-cons, work-append, drain-drains, drain-ends}
 
 -- ONE-AT-A-TIME RESULTS have the labels i, i + 1, i + 2, ..
@@ -72,6 +74,10 @@ process-last l (d ∷ cs) c x = process-last (suc l) cs c (process (labelled d l
 oneAtATime-last : (cs : List Call) (c : Call) → oneAtATime (cs ++ (c ∷ [])) ≡ process (labelled c (suc (length cs))) (oneAtATime cs)
 oneAtATime-last cs c = process-last 1 cs c _ ∙ ap (λ (k : ℕ). process (labelled c k) (oneAtATime cs)) (add-comm 1 (length cs) ∙ add-one (length cs))
 
+-- "A call names 0 to 8 target keys"
+abbrev pub FewTargets : Call → Type 0
+FewTargets c = length (targetsOf c) ≤ 8
+
 -- THE RUN: what has been claimed, with the outcome of the session, is one-at-a-time processing of the accepted calls
 record Good (x : Run) : Type 0 where
   valid : Valid (x .now)
@@ -79,6 +85,7 @@ record Good (x : Run) : Type 0 where
   bound : workSteps (x .taken) + weightOf (x .now) ≤ 73 * length (x .accepted)
   labels : x .now .last ≡ length (x .accepted)
   plain : Plain (length (x .accepted)) (oneAtATime (x .accepted))
+  few : Each FewTargets (x .accepted)
 
 good-start : Good start
 good-start = record {
@@ -87,6 +94,7 @@ good-start = record {
   bound = omega arith;
   labels = refl;
   plain = record { labelling = tt; size = refl };
+  few = tt;
 }
 
 weight-last : (cs : List Labelled) (c : Labelled) → weightOfCalls (cs ++ (c ∷ [])) ≡ weightOfCalls cs + weightOfCall c
@@ -117,6 +125,7 @@ good-accepted c x g f v =
       bound = omega (arith, g .bound, size, weight-call c s (suc (s .last)) f, weight-last (s .topStream) d);
       labels = omega (arith, g .labels, size);
       plain = rw (oneAtATime-last (x .accepted) c, size) (plain-process c (length (x .accepted)) (oneAtATime (x .accepted)) (g .plain));
+      few = each-append FewTargets (x .accepted) (c ∷ []) (g .few) (f .few, tt);
     }
 
 good-call : (c : Call) (x : Run) → Good x → Good (onCall c x (accept c (x .now)))
@@ -137,6 +146,7 @@ good-step t x g = go (step t (x .now)) (step-valid t (x .now) (g .valid)) (step-
       bound = omega (arith, b, g .bound, work-append (x .taken) (t ∷ []), work-cons t []);
       labels = a .last ∙ g .labels;
       plain = g .plain;
+      few = g .few;
     }
 
 good-drain : (x : Run) → Good x → Good (onDrain x (drain (x .now)))
@@ -148,6 +158,7 @@ good-drain x g =
       bound = omega (arith, h .lighter, g .bound, work-append (x .taken) ((drain (x .now)) .took));
       labels = h .last ∙ g .labels;
       plain = g .plain;
+      few = g .few;
     }
 
 good-claim : (l : ℕ) (x : Run) → Good x → Good (onClaim x (claim l (x .now)))
@@ -161,6 +172,7 @@ good-claim l x g = go (claim l (x .now)) (claim-valid l (x .now) (g .valid))
       bound = g .bound;
       labels = g .labels;
       plain = g .plain;
+      few = g .few;
     }
 
 good-events : (es : List Event) (x : Run) → Good x → Good (events es x)
@@ -327,6 +339,27 @@ demand3 es =
       drained = drain-ends (x .now) (g .valid);
       valid = g .valid;
     }
+
+-- each call accepted has at most eight targets
+pub few-targets : (es : List Event) → Each FewTargets ((run es) .accepted)
+few-targets es = good-events es start good-start .few
+
+-- a result that was claimed or is stored is that of one-at-a-time processing
+found-counted : (l : ℕ) (r : Result) (rs : List Result) → find l rs ≡ some r → (r .label ≡ l) × (1 ≤ sum (copies r) rs)
+found-counted l r [] e = absurd (none-some e)
+found-counted l r (q ∷ rs) e = go (eqb (q .label) l) refl e (found-counted l r rs)
+  where
+    go : (b : Bool) → eqb (q .label) l ≡ b → cond b (some q) (find l rs) ≡ some r → (find l rs ≡ some r → (r .label ≡ l) × (1 ≤ sum (copies r) rs)) → (r .label ≡ l) × (1 ≤ sum (copies r) (q ∷ rs))
+    go true f e ih =
+        let k : q ≡ r = some-same e in
+        (ap (λ (x : Result). x .label) (sym k) ∙ eqb-true (q .label) l f, omega (arith, copies-self r, ap (copies r) k))
+    go false f e ih = (ih e .0, omega (arith, ih e .1))
+
+pub found-right : (es : List Event) (l : ℕ) (r : Result) → find l ((run es) .claimed ++ (run es) .now .results) ≡ some r → find l ((oneAtATime ((run es) .accepted)) .results) ≡ some r
+found-right es l r e =
+    let x = run es in
+    let f = found-counted l r (x .claimed ++ x .now .results) e in
+    ap (λ (j : ℕ). find j ((oneAtATime (x .accepted)) .results)) (sym (f .0)) ∙ result-right x (good-events es start good-start) r (f .1)
 
 -- a label stands once: among the results that were claimed, or in the session
 pub label-once : (es : List Event) (l : ℕ) → count l (labelsOfResults ((run es) .claimed)) + count l (live ((run es) .now)) ≤ 1

@@ -339,6 +339,10 @@ drain-next s g t e =
 pub drain-rests : (s : Session) (r : ℕ) → drainStep s ≡ refused r → drain s ≡ record { end = s; took = [] }
 drain-rests s r e = let o = drain-once s in o .2 ∙ ap (λ (y : Answer Taken). drainOn (drainFor (o .0)) y s) e
 
+-- "With none pending it is accepted and takes no step."
+pub drain-idle : (s : Session) → Valid s → pending s ≡ [] → drain s ≡ record { end = s; took = [] }
+drain-idle s g e = let r = pending-resting s g e in drain-rests s 21 (rw (r .units, r .calls))
+
 -- every step that drain takes is an admit, realise, move or finish
 works-for : (n : ℕ) (s : Session) → workSteps ((drainFor n s) .took) ≡ length ((drainFor n s) .took)
 works-for zero s = refl
