@@ -17,7 +17,7 @@ use Rattle.graph.specs.OneAtATime.{oneAtATime}
 use Rattle.graph.specs.Sessions.{Session, pending, labelsOfResults}
 use Rattle.graph.specs.Steps as graph
 use Rattle.graph.specs.Allowed.{allowed}
-use Rattle.graph.specs.Drain.{drain}
+use Rattle.graph.specs.Drain.{Drained, drain}
 use Rattle.graph.specs.Runs.{Run, start, find, ofKind, workSteps}
 use Rattle.graph.specs.Runs as graphRuns
 use Rattle.graph.specs.Valid.{Each, Given, Valid}
@@ -25,7 +25,7 @@ use Rattle.graph.proofs.Answers.{isDone, by-bool}
 use Rattle.graph.proofs.Effects.{costs}
 use Rattle.graph.proofs.Verdicts.{step-done}
 use Rattle.graph.proofs.Validity.{valid-fresh}
-use Rattle.graph.proofs.Drains.{work-cons, drain-drains, drain-works}
+use Rattle.graph.proofs.Drains.{work-cons, drain-drains, drain-idle, drain-works}
 use Rattle.graph.proofs.Demand3 as sessions
 use Rattle.text.specs.Text.{ascii}
 use Rattle.lines.specs.Forms.{work, drain as drainForm, stepText}
@@ -34,7 +34,7 @@ use Rattle.panel.specs.declared.tally.Tally.{Tally}
 use Rattle.panel.specs.Tally.{upBy, each, counted, zeros}
 use Rattle.panel.proofs.TallyLaws.{counted-kinds, up-from-zero}
 use Rattle.valid.specs.Values.{encode}
-use Rattle.host.specs.Entries.{ImageOf, served, Stepped, stepMade, Steps}
+use Rattle.host.specs.Entries.{ImageOf, served, Stepped, stepServed, stepMade, Steps}
 use Rattle.runs.specs.Runs.{Sent, step, claim, Runs, opening, after, acceptedLines, TextsOf, noLine, aLine, Pending, Wrote, ClaimedIn, here, there, WouldWrite, OneTally, lastTally}
 use Rattle.runs.specs.Demand.{ResultOf, claimed, unclaimed, HasResult, ClaimsMeant, Progress, StepLines, NonePending, Cleared, Demand3, PendingOrResult, isPending, hasResult}
 use Rattle.host.proofs.Determined.{step-once}
@@ -178,14 +178,22 @@ module _ (es : List Sent) (h : Runs opening es) where
   unfolding ascii
   drain-line = record { short = omega arith; fits = refl; same = refl }
 
+  drain-made : (t : Tally) (r : Stepped) → Steps (after opening es) (stepText drainForm) t r → r ≡ stepMade (encode s) t s drainForm
+  drain-made t r k = step-once (subst (λ (i : List ℕ). Steps i (stepText drainForm) t r) image k) (served s (own s v) drainForm drain-line refl)
+
   clears : (t : Tally) (r : Stepped) → Steps (after opening es) (stepText drainForm) t r → Cleared r
   clears t r k =
-      let same : r ≡ stepMade (encode s) t s drainForm = step-once (subst (λ (i : List ℕ). Steps i (stepText drainForm) t r) image k) (served s (own s v) drainForm drain-line refl) in
-      subst Cleared (sym same)
+      subst Cleared (sym (drain-made t r k))
       (record {
         answer = refl;
         none = λ l p. true≢false (sym (pending-only ((drain s) .end) (drain-drains s v .valid) l p) ∙ ap (contains l) (d .drained));
       })
+
+  idles : NonePending es → (t : Tally) (r : Stepped) → Steps (after opening es) (stepText drainForm) t r → r ≡ record { answer = pos 0; image = after opening es; tally = t }
+  idles np t r k =
+      drain-made t r k
+      ∙ ap (λ (q : Drained). stepServed (encode s) t (q .took) (done (q .end))) (drain-idle s v (no-more np))
+      ∙ (λ i. record { answer = pos 0; image = sym image i; tally = t })
 
   pub holding : ImageOf (after opening es) s
   holding = subst (λ (i : List ℕ). ImageOf i s) (sym image) (own s v)
@@ -215,4 +223,5 @@ module _ (es : List Sent) (h : Runs opening es) where
         );
         drained = one-by-one;
         cleared = clears;
+        idle = idles;
       }

@@ -23,12 +23,12 @@ use Rattle.valid.specs.Values.{encode}
 use Rattle.host.specs.Entries.{ImageOf, Stepped, ClaimMade, Steps}
 use Rattle.runs.specs.Runs.{Sent, call, step, claim, Input, inputsOf, Runs, opening, after, isServed, acceptedLines, labelsGiven, labelsFrom, TextsOf, Pending, Allowed, Wrote, ClaimedIn, WouldWrite, GraphOf, Taken, OneTally, lastTally}
 
--- label l has a result, that of one-at-a-time processing: "the value and the `left` in the line that its claim wrote or, while
--- unclaimed, would write given room"
+-- label l has this result: "the value and the `left` in the line that its claim wrote or, while unclaimed, would write given room"
 pub data ResultOf (es : List Sent) (l : ℕ) (q : Result) : Type 0 where
   claimed : ClaimedIn l q es → ResultOf es l q
   unclaimed : ((out : List ℕ) → length (resultText q) ≤ length out → WouldWrite (after opening es) out l q) → ResultOf es l q
 
+-- label l has a result, that of one-at-a-time processing
 pub record HasResult (es : List Sent) (meant : List Result) (l : ℕ) : Type 0 where
   pub result : Result
   pub given : ResultOf es l result
@@ -103,6 +103,8 @@ pub record Demand3 (es : List Sent) : Type 0 where
   pub drained : StepLines (encode ((drain session) .end)) (after opening es) ((drain session) .took)
   -- a drain is served, and leaves none pending
   pub cleared : (t : Tally) (r : Stepped) → Steps (after opening es) (stepText drains) t r → Cleared r
+  -- "With none pending it is accepted and takes no step."
+  pub idle : NonePending es → (t : Tally) (r : Stepped) → Steps (after opening es) (stepText drains) t r → r ≡ record { answer = pos 0; image = after opening es; tally = t }
 
 -- what is sent has one run from the image that opening writes, and demand 3 holds of it
 pub record RunOf (is : List Input) : Type 0 where
