@@ -1,5 +1,5 @@
 -- Nested and flat: the two views of one session. The flat session has the nodes from the last station on, and one queue of
--- operations, oldest first: the last station's streamlet, then the one before it, .., then the top stream.
+-- operations, in the order of the work: the last station's streamlet, then the one before it, .., then the top stream.
 -- Assumes nothing.
 use mathlib.Core.Path.{_≡_}
 use Prim.Native.Nat.{ℕ, zero, suc, _+_}
