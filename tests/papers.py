@@ -1,8 +1,8 @@
 #!/usr/bin/env python3
 """papers.py: tests that the pages stay true to the repository.
 
-README.md has each crate of crates.txt in its table; no page and no source names what is outside the
-repository; each path that a page names exists, and each name that docs/PROMISES.md cites is in the
+README.md has each crate of crates.txt in its table, and crates.txt the crates that each one's sources
+use; no page and no source names what is outside the repository; each path that a page names exists, and each name that docs/PROMISES.md cites is in the
 sources, in the file beside it if one is given. The last line is 'N passed, M failed'.
 """
 import re
@@ -33,6 +33,24 @@ def crates():
     listed = re.findall(r"^(\w+):", (TOP / "crates.txt").read_text(), re.M)
     table = (TOP / "README.md").read_text().split("## Crates\n", 1)[1].split("\n## ", 1)[0]
     return sorted(set(listed) ^ set(re.findall(r"^\| (\w+) \|", table, re.M)) - {"crate"})
+
+
+def dependencies():
+    """Where crates.txt differs from the crates that the sources use; a comment names those that are only handed on."""
+    lines = re.findall(r"^(\w+):([^#\n]*)(?:#(.*))?$", (TOP / "crates.txt").read_text(), re.M)
+    kit = {"check", "io", "libc"}
+    for crate, listed, comment in lines:
+        used = set()
+        for path in files(TOP / "crates" / crate):
+            if path.suffix in {".rt", ".antt"}:
+                text = path.read_text()
+                used |= set(re.findall(r"\buse Rattle·(\w+)", text))
+                used |= set(re.findall(r"^use (\w+)(?:::|;)", text, re.M)) if path.suffix == ".rt" else set()
+                used |= {name for name in kit if path.suffix == ".rt" and f"{name}::" in text}
+        used &= {name for name, _, _ in lines} | kit
+        handed = set(re.findall(r"\w+", comment))
+        for name in sorted((used - {crate}) ^ set(listed.split()) - handed):
+            yield f"{crate}: {name}"
 
 
 def outside():
@@ -74,6 +92,7 @@ def names():
 def main():
     tests = [
         ("a crate that README.md's table or crates.txt lacks", crates()),
+        ("crates.txt differs from what the sources use", dependencies()),
         ("what is outside the repository is named", outside()),
         ("a path that does not exist", paths()),
         ("docs/PROMISES.md: a name that the sources lack", names()),

@@ -8,17 +8,20 @@ use mathlib.Core.List.{List, [], _∷_, _++_}
 use lib.Dec.{leb}
 use lib.ListN.{length}
 use borrow.Author.Tests.{leb-false}
-use Rattle.graph.specs.Calls.{Call, isAdd, numbersOf, operandsOf, targetsOf, areWords, formTests}
+use Rattle.graph.specs.Calls.{Call, numbersOf, operandsOf, targetsOf, formTests}
+use Rattle.graph.specs.OneAtATime.{isAdd, Labelled, labelled, isOp}
+use Rattle.graph.specs.Words.{areWords}
 use Rattle.graph.specs.KeyLists.{areKeys, rising}
-use Rattle.graph.specs.OneAtATime.{Labelled, labelled}
-use Rattle.graph.specs.Refusals.{Answer, refused, done, Test, on, firstOf, unless}
+use Rattle.graph.specs.Refusals.{Answer, refused, done, Test, on, unless}
+use Rattle.graph.specs.RefusalOrder.{firstOf}
 use Rattle.graph.proofs.Validity.{Sort, adds, operates, sort}
-use Rattle.queue.specs.Flat.{Flat, isOp, addsQueued}
-use Rattle.worksteps.specs.FlatSteps.{withQueue}
-use Rattle.worksteps.specs.FlatEvents.{flatLive, flatAccept, acceptedAs}
-use Rattle.state.specs.State.{held, Shows, withLast}
-use Rattle.live.specs.Live.{Live, Works}
-use Rattle.calls.specs.Accepting.{flatLiveTests, flatAcceptRest}
+use Rattle.flat.specs.Flat.{Flat}
+use Rattle.flat.specs.Inner.Queues.{addsQueued, liveIn}
+use Rattle.flat.specs.Inner.FlatSteps.{withQueue}
+use Rattle.flat.specs.Inner.FlatEvents.{flatAccept, acceptedAs}
+use Rattle.state.specs.Inner.State.{flatIn, Shows, withLast}
+use Rattle.state.specs.Inner.ValidImage.{ValidImage, Works}
+use Rattle.calls.specs.Inner.Accepting.{flatLiveTests, flatAcceptRest}
 use Rattle.calls.proofs.Room.{queue-room}
 
 -- THE TESTS
@@ -35,13 +38,13 @@ first-refuses (t ∷ ts) a h = go (t .applies) h (first-refuses ts a)
 
 -- none of 14 and 15 applies
 record Open (f : Flat) : Type 0 where
-  pub few : leb 64 (flatLive f) ≡ false
+  pub few : leb 64 (length (liveIn f)) ≡ false
   pub labels : leb 65535 (f .last) ≡ false
 
 open-of : (f : Flat) → firstOf (flatLiveTests f) ≡ 0 → Open f
-open-of f e = go (leb 64 (flatLive f)) (leb 65535 (f .last)) refl refl e
+open-of f e = go (leb 64 (length (liveIn f))) (leb 65535 (f .last)) refl refl e
   where
-    go : (a b : Bool) → leb 64 (flatLive f) ≡ a → leb 65535 (f .last) ≡ b → _≡_ {A = ℕ} (cond a 14 (cond b 15 0)) 0 → Open f
+    go : (a b : Bool) → leb 64 (length (liveIn f)) ≡ a → leb 65535 (f .last) ≡ b → _≡_ {A = ℕ} (cond a 14 (cond b 15 0)) 0 → Open f
     go true b p q e = absurd (omega arith)
     go false true p q e = absurd (omega arith)
     go false false p q e = record { few = p; labels = q }
@@ -91,19 +94,19 @@ pub record Spare (f : Flat) : Type 0 where
   pub queue : length (f .queue) < 64
   pub labels : f .last < 65535
 
-pub spare : (s : List ℕ) → Live s → firstOf (flatLiveTests (held s)) ≡ 0 → Spare (held s)
+pub spare : (s : List ℕ) → ValidImage s → firstOf (flatLiveTests (flatIn s)) ≡ 0 → Spare (flatIn s)
 spare s g e =
-    let o = open-of (held s) e in
-    record { queue = queue-room s g (o .few); labels = leb-false 65535 (held s .last) (o .labels) }
+    let o = open-of (flatIn s) e in
+    record { queue = queue-room s g (o .few); labels = leb-false 65535 (flatIn s .last) (o .labels) }
 
 -- THE WRITES: the call, the last label
-pub accepted-shown : (s t u : List ℕ) (x y : Labelled) (m : ℕ) → y ≡ x → m ≡ suc (held s .last)
-    → Shows (withQueue (held s) (held s .queue ++ (record { place = 65; opens = true; call = y } ∷ []))) t → Shows (withLast (held t) m) u → Shows (acceptedAs x (held s)) u
+pub accepted-shown : (s t u : List ℕ) (x y : Labelled) (m : ℕ) → y ≡ x → m ≡ suc (flatIn s .last)
+    → Shows (withQueue (flatIn s) (flatIn s .queue ++ (record { place = 65; opens = true; call = y } ∷ []))) t → Shows (withLast (flatIn t) m) u → Shows (acceptedAs x (flatIn s)) u
 accepted-shown s t u x y m e em a b =
     record {
       proper = b .proper;
       shows =
           b .shows
           ∙ ap (λ (g : Flat). withLast g m) (a .shows)
-          ∙ (λ i. withLast (withQueue (held s) (held s .queue ++ (record { place = 65; opens = true; call = e i } ∷ []))) (em i));
+          ∙ (λ i. withLast (withQueue (flatIn s) (flatIn s .queue ++ (record { place = 65; opens = true; call = e i } ∷ []))) (em i));
     }

@@ -11,24 +11,23 @@ use Rattle.graph.specs.Acceptance.{takeResult}
 use Rattle.graph.specs.KeyLists.{contains, rising}
 use Rattle.graph.specs.Refusals.{refused, done}
 use Rattle.graph.specs.Sessions.{labelsOfResults}
-use Rattle.queue.specs.Flat.{Flat, queued}
-use Rattle.worksteps.specs.FlatEvents.{flatClaim}
-use Rattle.state.specs.Results.{noResult, placeOf, takenAt}
+use Rattle.flat.specs.Flat.{Flat}
+use Rattle.flat.specs.Inner.Queues.{queued}
+use Rattle.flat.specs.Inner.FlatEvents.{flatClaim}
+use Rattle.state.specs.Inner.Results.{noResult, placeOf, takenAt}
 use Rattle.state.proofs.ResultLaws.{take-there, take-missing}
-use Rattle.calls.specs.Claiming.{Finds}
+use Rattle.calls.specs.declared.claim.Claim.the-variants.{Refused, At}
+use Rattle.calls.specs.Inner.Claiming.{FindsFlat}
 
 module _ (l : ℕ) (f : Flat) where
-  finds-refused : (n : ℕ) → (n ≡ 0 → ⊥) → flatClaim l f ≡ refused n → Finds l f (record { refusal = n; at = 0 })
-  finds-refused n h e = record { number = rw e; within = λ z. absurd (h z); taken = λ z. absurd (h z) }
-
   -- a label never given
-  never : (leb 1 l && leb l (f .last)) ≡ false → Finds l f (record { refusal = 30; at = 0 })
-  never e = finds-refused 30 (λ z. omega arith) (ap (λ (b : Bool). cond b (cond (contains l (queued (f .queue))) (refused 31) (takeResult l (f .results))) (refused 30)) e)
+  never : (leb 1 l && leb l (f .last)) ≡ false → FindsFlat l f (Refused 30)
+  never e = ap (λ (b : Bool). cond b (cond (contains l (queued (f .queue))) (refused 31) (takeResult l (f .results))) (refused 30)) e
 
-  pub finds-zero : l ≡ 0 → Finds l f (record { refusal = 30; at = 0 })
+  pub finds-zero : l ≡ 0 → FindsFlat l f (Refused 30)
   finds-zero e = never (rw (lt-leb 1 l (omega arith)))
 
-  pub finds-above : f .last < l → Finds l f (record { refusal = 30; at = 0 })
+  pub finds-above : f .last < l → FindsFlat l f (Refused 30)
   finds-above h = never (rw (lt-leb l (f .last) h) (go (leb 1 l)))
     where
       go : (b : Bool) → (b && false) ≡ false
@@ -37,18 +36,18 @@ module _ (l : ℕ) (f : Flat) where
 
   -- and one that was
   module _ (low : 1 ≤ l) (high : l ≤ f .last) where
-    pub finds-pending : contains l (queued (f .queue)) ≡ true → Finds l f (record { refusal = 31; at = 0 })
-    finds-pending e = finds-refused 31 (λ z. omega arith) (rw (le-leb 1 l low, le-leb l (f .last) high, e))
+    pub finds-pending : contains l (queued (f .queue)) ≡ true → FindsFlat l f (Refused 31)
+    finds-pending e = rw (le-leb 1 l low, le-leb l (f .last) high, e)
 
     module _ (free : contains l (queued (f .queue)) ≡ false) where
       claim-results : flatClaim l f ≡ takeResult l (f .results)
       claim-results = rw (le-leb 1 l low, le-leb l (f .last) high, free)
 
-      pub finds-claimed : rising (labelsOfResults (f .results)) ≡ true → (placeOf (l - 1) (f .results) < length (f .results) → getD (f .results) (placeOf (l - 1) (f .results)) noResult .label ≡ l → ⊥) → Finds l f (record { refusal = 32; at = 0 })
-      finds-claimed o n = finds-refused 32 (λ z. omega arith) (claim-results ∙ take-missing l low (f .results) o n)
+      pub finds-claimed : rising (labelsOfResults (f .results)) ≡ true → (placeOf (l - 1) (f .results) < length (f .results) → getD (f .results) (placeOf (l - 1) (f .results)) noResult .label ≡ l → ⊥) → FindsFlat l f (Refused 32)
+      finds-claimed o n = claim-results ∙ take-missing l low (f .results) o n
 
-      pub finds-at : (p : ℕ) → p ≡ placeOf (l - 1) (f .results) → p < length (f .results) → getD (f .results) p noResult .label ≡ l → Finds l f (record { refusal = 0; at = p })
-      finds-at p e h is =
-          let t : flatClaim l f ≡ done (takenAt p (f .results)) =
-          claim-results ∙ take-there l low (f .results) (omega (arith, e)) (ap (λ (q : ℕ). getD (f .results) q noResult .label) (sym e) ∙ is) ∙ ap (λ (q : ℕ). done (takenAt q (f .results))) (sym e) in
-          record { number = rw t; within = λ z. h; taken = λ z. t }
+      pub finds-at : (p : ℕ) → p ≡ placeOf (l - 1) (f .results) → p < length (f .results) → getD (f .results) p noResult .label ≡ l → FindsFlat l f (At p)
+      finds-at p e h is = (
+        h,
+        claim-results ∙ take-there l low (f .results) (omega (arith, e)) (ap (λ (q : ℕ). getD (f .results) q noResult .label) (sym e) ∙ is) ∙ ap (λ (q : ℕ). done (takenAt q (f .results))) (sym e),
+      )

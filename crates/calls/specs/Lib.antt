@@ -1,3 +1,1 @@
-pub mod Accepting
-pub mod Admission
-pub mod Claiming
+pub mod Inner

@@ -1,6 +1,4 @@
 // Acceptance of a call whose form is good: the tests on the session, then the next label and a place in the top stream.
-use crate::waiting::adds_waiting;
-use crate::waiting::labels_waiting;
 use graph::act::Act;
 use graph::keys::Keys;
 use records::labels::Labels;
@@ -8,6 +6,8 @@ use state::nodes;
 use state::operation::Operation;
 use state::ops;
 use state::results;
+use waiting::adds_waiting;
+use waiting::labels_waiting;
 ghost use mathlib.Core.Path.{_≡_};
 ghost use mathlib.Core.Bool.{true};
 ghost use Prim.Native.Nat.{suc, _+_};
@@ -16,18 +16,17 @@ ghost use lib.ListN.{length};
 ghost use Rattle.graph.specs.Acts.{isMap};
 ghost use Rattle.graph.specs.OneAtATime.{addOf, operation};
 ghost use Rattle.graph.specs.Packed.{listed, packed};
-ghost use Rattle.graph.specs.Refusals.{firstOf};
-ghost use Rattle.queue.specs.Flat.{addsQueued};
-ghost use Rattle.worksteps.specs.FlatEvents.{flatLive};
-ghost use Rattle.state.specs.Operations.{Bounded};
-ghost use Rattle.state.specs.State.{held, Proper};
-ghost use Rattle.live.specs.Live.{Live, Works};
-ghost use Rattle.calls.specs.Accepting.{flatLiveTests, flatAcceptRest};
+ghost use Rattle.graph.specs.RefusalOrder.{firstOf};
+ghost use Rattle.flat.specs.Inner.Queues.{addsQueued, liveIn};
+ghost use Rattle.state.specs.Inner.Operations.{Bounded};
+ghost use Rattle.state.specs.Inner.State.{flatIn, Proper};
+ghost use Rattle.state.specs.Inner.ValidImage.{ValidImage, Works};
+ghost use Rattle.calls.specs.Inner.Accepting.{flatLiveTests, flatAcceptRest};
 
 // How many calls are live: their labels wait in the queue or among the results.
 pub fn live_total(image: &[u8]) -> usize
     requires { ⌜ Proper (now image) ⌝ }
-    ensures { λ r. ⌜ Bounded (flatLive (held (now (image .entry)))) 320 r ⌝ }
+    ensures { λ r. ⌜ Bounded (length (liveIn (flatIn (now (image .entry))))) 320 r ⌝ }
 {
     labels_waiting(image) + results::total(image)
 }
@@ -35,7 +34,7 @@ pub fn live_total(image: &[u8]) -> usize
 // Nodes and waiting adds are 64 together.
 fn adds_spent(image: &[u8]) -> bool
     requires { ⌜ Proper (now image) ⌝ }
-    ensures { λ r. ⌜ r ≡ leb 64 (length (held (now (image .entry)) .nodes) + addsQueued (held (now (image .entry)) .queue)) ⌝ }
+    ensures { λ r. ⌜ r ≡ leb 64 (length (flatIn (now (image .entry)) .nodes) + addsQueued (flatIn (now (image .entry)) .queue)) ⌝ }
 {
     64 <= nodes::total(image) + adds_waiting(image)
 }
@@ -43,7 +42,7 @@ fn adds_spent(image: &[u8]) -> bool
 // The refusal of any call whose form is good, or 0.
 fn refusal(image: &[u8]) -> u32
     requires { ⌜ Proper (now image) ⌝ }
-    ensures { λ r. ⌜ r ≡ firstOf (flatLiveTests (held (now (image .entry)))) ⌝ }
+    ensures { λ r. ⌜ r ≡ firstOf (flatLiveTests (flatIn (now (image .entry)))) ⌝ }
 {
     if 64 <= live_total(image) {
         return 14;
@@ -55,8 +54,8 @@ fn refusal(image: &[u8]) -> u32
 }
 
 pub fn accept_add(image: &mut [u8], value: u32) -> u32
-    requires { ⌜ Live (now image) ⌝ }
-    ensures { λ r. ⌜ Works (flatAcceptRest (addOf (suc (held (now (image .entry)) .last)) value) (held (now (image .entry)))) (now (image .entry)) (now (image .exit)) r ⌝ }
+    requires { ⌜ ValidImage (now image) ⌝ }
+    ensures { λ r. ⌜ Works (flatAcceptRest (addOf (suc (flatIn (now (image .entry)) .last)) value) (flatIn (now (image .entry)))) (now (image .entry)) (now (image .exit)) r ⌝ }
 {
     if adds_spent(image) {
         return 13;
@@ -73,8 +72,8 @@ pub fn accept_add(image: &mut [u8], value: u32) -> u32
 
 // A call that visits nodes: what it does, what it holds at first, and its targets, zeros after them.
 pub fn accept_operation(image: &mut [u8], act: Act, start: u32, targets: Keys) -> u32
-    requires { ⌜ (Live (now image)) × (targets ≡ packed (listed targets)) × (isMap act ≡ true → start ≡ 0) ⌝ }
-    ensures { λ r. ⌜ Works (flatAcceptRest (operation act start (listed targets) (suc (held (now (image .entry)) .last))) (held (now (image .entry)))) (now (image .entry)) (now (image .exit)) r ⌝ }
+    requires { ⌜ (ValidImage (now image)) × (targets ≡ packed (listed targets)) × (isMap act ≡ true → start ≡ 0) ⌝ }
+    ensures { λ r. ⌜ Works (flatAcceptRest (operation act start (listed targets) (suc (flatIn (now (image .entry)) .last))) (flatIn (now (image .entry)))) (now (image .entry)) (now (image .exit)) r ⌝ }
 {
     let n = refusal(image);
     if n != 0 {

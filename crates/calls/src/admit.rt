@@ -9,16 +9,16 @@ ghost use mathlib.Core.Bool.{true, false};
 ghost use Prim.Native.Nat.{_+_, _<_};
 ghost use lib.ListN.{length, getD};
 ghost use Rattle.graph.specs.Steps.{admit};
-ghost use Rattle.queue.specs.Flat.{isOp};
-ghost use Rattle.worksteps.specs.FlatSteps.{noOp, flatStep};
-ghost use Rattle.state.specs.State.{held, Proper, Shows};
-ghost use Rattle.live.specs.Live.{Live, Works};
-ghost use Rattle.calls.specs.Admission.{admittedAt};
+ghost use Rattle.graph.specs.OneAtATime.{isOp};
+ghost use Rattle.flat.specs.Inner.FlatSteps.{noOp, flatStep};
+ghost use Rattle.state.specs.Inner.State.{flatIn, Proper, Shows};
+ghost use Rattle.state.specs.Inner.ValidImage.{ValidImage, Works};
+ghost use Rattle.calls.specs.Inner.Admission.{admittedAt};
 
 // The add at w makes its node, and its result is the node's key.
 fn admit_add(image: &mut [u8], w: usize)
-    requires { ⌜ (Proper (now image)) × (w < length (held (now image) .queue)) × (isOp ((getD (held (now image) .queue) w noOp) .call) ≡ false) × (length (held (now image) .nodes) < 64) × (length (held (now image) .results) < 64) ⌝ }
-    ensures { λ _. ⌜ Shows (admittedAt w (held (now (image .entry)))) (now (image .exit)) ⌝ }
+    requires { ⌜ (Proper (now image)) × (w < length (flatIn (now image) .queue)) × (isOp ((getD (flatIn (now image) .queue) w noOp) .call) ≡ false) × (length (flatIn (now image) .nodes) < 64) × (length (flatIn (now image) .results) < 64) ⌝ }
+    ensures { λ _. ⌜ Shows (admittedAt w (flatIn (now (image .entry)))) (now (image .exit)) ⌝ }
 {
     let a = ops::add_at(image, w);
     let n = nodes::total(image);
@@ -30,8 +30,8 @@ fn admit_add(image: &mut [u8], w: usize)
 
 // With no nodes the operation at w finishes at once.
 fn admit_operation(image: &mut [u8], w: usize)
-    requires { ⌜ (Live (now image)) × (w < length (held (now image) .queue)) × (isOp ((getD (held (now image) .queue) w noOp) .call) ≡ true) ⌝ }
-    ensures { λ _. ⌜ Shows (admittedAt w (held (now (image .entry)))) (now (image .exit)) ⌝ }
+    requires { ⌜ (ValidImage (now image)) × (w < length (flatIn (now image) .queue)) × (isOp ((getD (flatIn (now image) .queue) w noOp) .call) ≡ true) ⌝ }
+    ensures { λ _. ⌜ Shows (admittedAt w (flatIn (now (image .entry)))) (now (image .exit)) ⌝ }
 {
     let n = nodes::total(image);
     if n == 0 {
@@ -42,8 +42,8 @@ fn admit_operation(image: &mut [u8], w: usize)
 }
 
 pub fn admit(image: &mut [u8]) -> u32
-    requires { ⌜ Live (now image) ⌝ }
-    ensures { λ r. ⌜ Works (flatStep admit (held (now (image .entry)))) (now (image .entry)) (now (image .exit)) r ⌝ }
+    requires { ⌜ ValidImage (now image) ⌝ }
+    ensures { λ r. ⌜ Works (flatStep admit (flatIn (now (image .entry)))) (now (image .entry)) (now (image .exit)) r ⌝ }
 {
     let w = ops::first_at(image, 65);
     if w == ops::total(image) {

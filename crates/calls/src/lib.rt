@@ -2,4 +2,3 @@
 pub mod accept;
 pub mod admit;
 pub mod claim;
-pub mod waiting;

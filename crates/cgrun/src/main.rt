@@ -8,7 +8,7 @@ use text::cut::part_to;
 ghost use mathlib.Core.Path.{_≡_};
 ghost use Prim.Native.Nat.{_+_, _≤_, _<_, _^_};
 ghost use lib.ListN.{length};
-ghost use Rattle.cgrun.specs.Reading.{RoomToServe, RestWithin};
+ghost use Rattle.cgrun.specs.Inner.Rooms.{RoomToServe, RestWithin};
 
 // A line is 10 from this length on, whatever follows.
 const LONG: usize = 256;

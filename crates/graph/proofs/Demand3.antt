@@ -6,12 +6,12 @@ use native.Mathlib.Nat.{add-zero, add-suc, suc-add, add-comm}
 use native.Mathlib.Numerals.{add-one}
 use native.Mathlib.Omega.{arith}
 use mathlib.Core.Bool.{Bool, true, false, cond, _&&_}
-use mathlib.Core.List.{List, [], _∷_, _++_, append-assoc, append-nil}
+use mathlib.Core.List.{List, [], _∷_, _++_}
 use mathlib.Core.Option.{Option, none, some}
 use lib.Dec.{eqb}
 use lib.ListN.{length, length-append}
 use borrow.Author.Tests.{eqb-true, eqb-false, ne-eqb, eq-eqb}
-use Rattle.graph.specs.Refusals.{Answer, refused, done, andThen}
+use Rattle.graph.specs.Refusals.{Answer, refused, done}
 use Rattle.graph.specs.KeyLists.{contains, sameKeys}
 use Rattle.graph.specs.Calls.{Call, targetsOf}
 use Rattle.graph.specs.Nodes.{Node, Op, Result, visitOp, stored}
@@ -21,7 +21,8 @@ use Rattle.graph.specs.Steps.{Step, step}
 use Rattle.graph.specs.Acceptance.{accepted, accept, Claimed, claim}
 use Rattle.graph.specs.Drain.{backmost, drain}
 use Rattle.graph.specs.Valid.{Each, Valid, count}
-use Rattle.graph.specs.Runs.{Event, calls, steps, drains, claims, Run, onCall, onStep, onDrain, onClaim, events, start, run, stepEvents, workSteps, stepAll, find, SameResult, Demand3, SameOutcome}
+use Rattle.graph.specs.EventRuns.{Event, calls, steps, drains, claims, EventRun, onCall, onStep, onDrain, onClaim, events, start, run, SameSessionResult, SessionDemand3, SameOutcome}
+use Rattle.graph.specs.Counts.{quotedSteps, resultOfLabel}
 use Rattle.graph.proofs.Answers.{Holds, holds, holds-at, and-left, and-right, eqb-same}
 use Rattle.graph.proofs.Striking.{same-eq, same-refl}
 use Rattle.graph.proofs.Effects.{costs}
@@ -79,10 +80,10 @@ abbrev pub FewTargets : Call → Type 0
 FewTargets c = length (targetsOf c) ≤ 8
 
 -- THE RUN: what has been claimed, with the outcome of the session, is one-at-a-time processing of the accepted calls
-record Good (x : Run) : Type 0 where
+record Good (x : EventRun) : Type 0 where
   valid : Valid (x .now)
   balance : (w : Result → ℕ) → plus (sum w (x .claimed)) (outcome w (x .now)) ≡ seen w (oneAtATime (x .accepted))
-  bound : workSteps (x .taken) + weightOf (x .now) ≤ 73 * length (x .accepted)
+  bound : quotedSteps (x .taken) + weightOf (x .now) ≤ 73 * length (x .accepted)
   labels : x .now .last ≡ length (x .accepted)
   plain : Plain (length (x .accepted)) (oneAtATime (x .accepted))
   few : Each FewTargets (x .accepted)
@@ -109,7 +110,7 @@ weight-call c s l f = go (sort c l)
     go (adds v i e) = rw e (omega arith)
     go (operates a h i e) = rw e (omega (arith, f .few))
 
-good-accepted : (c : Call) (x : Run) → Good x → Fits c (x .now) → Valid (accepted c (x .now)) → Good (onCall c x (done (accepted c (x .now))))
+good-accepted : (c : Call) (x : EventRun) → Good x → Fits c (x .now) → Valid (accepted c (x .now)) → Good (onCall c x (done (accepted c (x .now))))
 good-accepted c x g f v =
     let s = x .now in
     let d = labelled c (suc (s .last)) in
@@ -128,14 +129,14 @@ good-accepted c x g f v =
       few = each-append FewTargets (x .accepted) (c ∷ []) (g .few) (f .few, tt);
     }
 
-good-call : (c : Call) (x : Run) → Good x → Good (onCall c x (accept c (x .now)))
+good-call : (c : Call) (x : EventRun) → Good x → Good (onCall c x (accept c (x .now)))
 good-call c x g = go (accept c (x .now)) (accept-valid c (x .now) (g .valid))
   where
     go : (y : Answer Session) → Holds (Accepts c (x .now)) y → Good (onCall c x y)
     go (refused r) h = g
     go (done t) (holds h) = rw (h .is) (good-accepted c x g (h .fits) (rw (h .is) at h .valid))
 
-good-step : (t : Step) (x : Run) → Good x → Good (onStep t x (step t (x .now)))
+good-step : (t : Step) (x : EventRun) → Good x → Good (onStep t x (step t (x .now)))
 good-step t x g = go (step t (x .now)) (step-valid t (x .now) (g .valid)) (step-lighter t (x .now) (g .valid)) (λ w. step-same w t (x .now))
   where
     go : (y : Answer Session) → Holds (Stepped (x .now)) y → Holds (Lighter (costs t) (x .now)) y → ((w : Result → ℕ) → Holds (Same w (x .now)) y) → Good (onStep t x y)
@@ -149,7 +150,7 @@ good-step t x g = go (step t (x .now)) (step-valid t (x .now) (g .valid)) (step-
       few = g .few;
     }
 
-good-drain : (x : Run) → Good x → Good (onDrain x (drain (x .now)))
+good-drain : (x : EventRun) → Good x → Good (onDrain x (drain (x .now)))
 good-drain x g =
     let h = drain-drains (x .now) (g .valid) in
     record {
@@ -161,7 +162,7 @@ good-drain x g =
       few = g .few;
     }
 
-good-claim : (l : ℕ) (x : Run) → Good x → Good (onClaim x (claim l (x .now)))
+good-claim : (l : ℕ) (x : EventRun) → Good x → Good (onClaim x (claim l (x .now)))
 good-claim l x g = go (claim l (x .now)) (claim-valid l (x .now) (g .valid))
   where
     go : (y : Answer Claimed) → Holds (ValidClaim (x .now)) y → Good (onClaim x y)
@@ -175,7 +176,7 @@ good-claim l x g = go (claim l (x .now)) (claim-valid l (x .now) (g .valid))
       few = g .few;
     }
 
-good-events : (es : List Event) (x : Run) → Good x → Good (events es x)
+good-events : (es : List Event) (x : EventRun) → Good x → Good (events es x)
 good-events [] x g = g
 good-events (calls c ∷ es) x g = good-events es _ (good-call c x g)
 good-events (steps t ∷ es) x g = good-events es _ (good-step t x g)
@@ -210,7 +211,7 @@ copies-self r = rw (same-self r)
 
 -- a result that one-at-a-time processing has is the one that its label finds there
 record Finds (i : ℕ) (r : Result) (rs : List Result) : Type 0 where
-  finds : find (r .label) rs ≡ some r
+  finds : resultOfLabel (r .label) rs ≡ some r
   low : i ≤ r .label
 
 finds-counted : (i : ℕ) (r : Result) (rs : List Result) → Labelling i rs → 1 ≤ sum (copies r) rs → Finds i r rs
@@ -227,7 +228,7 @@ finds-counted i r (q ∷ rs) d h = go (sameResult r q) refl (finds-counted (suc 
         record { finds = rw (ne-eqb (q .label) (r .label) (λ (k : q .label ≡ r .label). omega (arith, f .low, d .0))) (f .finds); low = omega (arith, f .low) }
 
 -- what was claimed or is stored is a result of one-at-a-time processing
-result-right : (x : Run) → Good x → (r : Result) → 1 ≤ sum (copies r) (x .claimed ++ x .now .results) → find (r .label) ((oneAtATime (x .accepted)) .results) ≡ some r
+result-right : (x : EventRun) → Good x → (r : Result) → 1 ≤ sum (copies r) (x .claimed ++ x .now .results) → resultOfLabel (r .label) ((oneAtATime (x .accepted)) .results) ≡ some r
 result-right x g r h =
     finds-counted 1 r ((oneAtATime (x .accepted)) .results) (g .plain .labelling) (omega (arith, h, sum-append (copies r) (x .claimed) (x .now .results), ap (λ (y : Seen). y .total) (g .balance (copies r)))) .finds
 
@@ -259,7 +260,7 @@ record Has (l : ℕ) (rs : List Result) : Type 0 where
   which : Result
   among : 1 ≤ sum (copies which) rs
   names : which .label ≡ l
-  found : find l rs ≡ some which
+  found : resultOfLabel l rs ≡ some which
 
 has-counted : (l : ℕ) (rs : List Result) → 1 ≤ sum (byLabel (is l)) rs → Has l rs
 has-counted l [] h = absurd (omega arith)
@@ -271,8 +272,8 @@ has-counted l (r ∷ rs) h = go (eqb l (r .label)) refl (has-counted l rs) h
         let f = ih (omega arith) in
         record { which = f .which; among = omega (arith, f .among); names = f .names; found = rw (ne-eqb (r .label) l (λ (q : r .label ≡ l). eqb-false l (r .label) e (sym q))) (f .found) }
 
-results-same : (x : Run) → Good x → (l : ℕ) → 1 ≤ l → l ≤ length (x .accepted) → contains l (pending (x .now)) ≡ false →
-    SameResult l (x .claimed ++ x .now .results) ((oneAtATime (x .accepted)) .results)
+results-same : (x : EventRun) → Good x → (l : ℕ) → 1 ≤ l → l ≤ length (x .accepted) → contains l (pending (x .now)) ≡ false →
+    SameSessionResult l (x .claimed ++ x .now .results) ((oneAtATime (x .accepted)) .results)
 results-same x g l h k e =
     let all = (oneAtATime (x .accepted)) .results in
     let f : Has l (x .claimed ++ x .now .results) = has-counted l _ (omega (
@@ -289,10 +290,10 @@ results-same x g l h k e =
     record {
       result = f .which;
       here = f .found;
-      there = ap (λ (j : ℕ). find j all) (sym (f .names)) ∙ result-right x g (f .which) (f .among);
+      there = ap (λ (j : ℕ). resultOfLabel j all) (sym (f .names)) ∙ result-right x g (f .which) (f .among);
     }
 
-claims-right : (x : Run) → Good x → (pre post : List Result) (r : Result) → x .claimed ≡ pre ++ (r ∷ post) → find (r .label) ((oneAtATime (x .accepted)) .results) ≡ some r
+claims-right : (x : EventRun) → Good x → (pre post : List Result) (r : Result) → x .claimed ≡ pre ++ (r ∷ post) → resultOfLabel (r .label) ((oneAtATime (x .accepted)) .results) ≡ some r
 claims-right x g pre post r e =
     result-right x g r (omega (arith, sum-append (copies r) (x .claimed) (x .now .results), ap (sum (copies r)) e, sum-append (copies r) pre (r ∷ post), copies-self r))
 
@@ -303,27 +304,14 @@ resting-graph w (s ∷ ss) e =
     let f = no-units (backmost ss) (s .units) (s .node .key) e in
     rw (f .1) (ap (λ (r : List Node). s .node ∷ r) (resting-graph w ss (f .0)))
 
-graph-same : (x : Run) → Good x → pending (x .now) ≡ [] → graphOf (x .now .stations) ≡ (oneAtATime (x .accepted)) .nodes
+graph-same : (x : EventRun) → Good x → pending (x .now) ≡ [] → graphOf (x .now .stations) ≡ (oneAtATime (x .accepted)) .nodes
 graph-same x g e =
     let r = pending-resting (x .now) (g .valid) e in
     let w : Result → ℕ = λ q. 0 in
     sym (resting-graph w (x .now .stations) (r .units)) ∙ ap (λ (cs : List Labelled). (admitting w cs (x .now .stations)) .nodes) (sym (r .calls)) ∙ ap (λ (y : Seen). y .nodes) (g .balance w)
 
--- DRAIN: its steps, sent as events
-after-steps : (ts : List Step) (x : Run) (u : Session) → stepAll ts (x .now) ≡ done u →
-    events (stepEvents ts) x ≡ record { now = u; accepted = x .accepted; claimed = x .claimed; taken = x .taken ++ ts }
-after-steps [] x u e =
-    let p : x .now ≡ u = cc in
-    λ i. record { now = p i; accepted = x .accepted; claimed = x .claimed; taken = sym (append-nil (x .taken)) i }
-after-steps (t ∷ ts) x u e = go (step t (x .now)) (after-steps ts) e
-  where
-    go : (y : Answer Session) → ((z : Run) (v : Session) → stepAll ts (z .now) ≡ done v → events (stepEvents ts) z ≡ record { now = v; accepted = z .accepted; claimed = z .claimed; taken = z .taken ++ ts }) →
-        andThen y (stepAll ts) ≡ done u → events (stepEvents ts) (onStep t x y) ≡ record { now = u; accepted = x .accepted; claimed = x .claimed; taken = x .taken ++ (t ∷ ts) }
-    go (refused r) ih e = absurd (let z : _≡_ {A = ℕ} 0 1 = cc in omega arith)
-    go (done v) ih e = ih (onStep t x (done v)) u e ∙ (λ i. record { now = u; accepted = x .accepted; claimed = x .claimed; taken = append-assoc (x .taken) (t ∷ []) ts i })
-
 -- ONE THEOREM
-pub demand3 : (es : List Event) → Demand3 (run es)
+pub demand3 : (es : List Event) → SessionDemand3 (run es)
 demand3 es =
     let x = run es in
     let g = good-events es start good-start in
@@ -335,8 +323,7 @@ demand3 es =
       progress = valid-progress (x .now) (g .valid);
       bound = omega (arith, g .bound);
       oneByOne = drain-drains (x .now) (g .valid) .steps;
-      sameSteps = sym (after-steps ((drain (x .now)) .took) x ((drain (x .now)) .end) (drain-drains (x .now) (g .valid) .steps));
-      drained = drain-ends (x .now) (g .valid);
+      cleared = drain-ends (x .now) (g .valid);
       valid = g .valid;
     }
 
@@ -345,21 +332,21 @@ pub few-targets : (es : List Event) → Each FewTargets ((run es) .accepted)
 few-targets es = good-events es start good-start .few
 
 -- a result that was claimed or is stored is that of one-at-a-time processing
-found-counted : (l : ℕ) (r : Result) (rs : List Result) → find l rs ≡ some r → (r .label ≡ l) × (1 ≤ sum (copies r) rs)
+found-counted : (l : ℕ) (r : Result) (rs : List Result) → resultOfLabel l rs ≡ some r → (r .label ≡ l) × (1 ≤ sum (copies r) rs)
 found-counted l r [] e = absurd (none-some e)
 found-counted l r (q ∷ rs) e = go (eqb (q .label) l) refl e (found-counted l r rs)
   where
-    go : (b : Bool) → eqb (q .label) l ≡ b → cond b (some q) (find l rs) ≡ some r → (find l rs ≡ some r → (r .label ≡ l) × (1 ≤ sum (copies r) rs)) → (r .label ≡ l) × (1 ≤ sum (copies r) (q ∷ rs))
+    go : (b : Bool) → eqb (q .label) l ≡ b → cond b (some q) (resultOfLabel l rs) ≡ some r → (resultOfLabel l rs ≡ some r → (r .label ≡ l) × (1 ≤ sum (copies r) rs)) → (r .label ≡ l) × (1 ≤ sum (copies r) (q ∷ rs))
     go true f e ih =
         let k : q ≡ r = some-same e in
         (ap (λ (x : Result). x .label) (sym k) ∙ eqb-true (q .label) l f, omega (arith, copies-self r, ap (copies r) k))
     go false f e ih = (ih e .0, omega (arith, ih e .1))
 
-pub found-right : (es : List Event) (l : ℕ) (r : Result) → find l ((run es) .claimed ++ (run es) .now .results) ≡ some r → find l ((oneAtATime ((run es) .accepted)) .results) ≡ some r
+pub found-right : (es : List Event) (l : ℕ) (r : Result) → resultOfLabel l ((run es) .claimed ++ (run es) .now .results) ≡ some r → resultOfLabel l ((oneAtATime ((run es) .accepted)) .results) ≡ some r
 found-right es l r e =
     let x = run es in
     let f = found-counted l r (x .claimed ++ x .now .results) e in
-    ap (λ (j : ℕ). find j ((oneAtATime (x .accepted)) .results)) (sym (f .0)) ∙ result-right x (good-events es start good-start) r (f .1)
+    ap (λ (j : ℕ). resultOfLabel j ((oneAtATime (x .accepted)) .results)) (sym (f .0)) ∙ result-right x (good-events es start good-start) r (f .1)
 
 -- a label stands once: among the results that were claimed, or in the session
 pub label-once : (es : List Event) (l : ℕ) → count l (labelsOfResults ((run es) .claimed)) + count l (live ((run es) .now)) ≤ 1
@@ -377,7 +364,7 @@ label-once es l =
     )
 
 -- COROLLARY: what two lists that accept the same calls, and end with none pending, have in common
-same-find : {l : ℕ} {rs qs all : List Result} → SameResult l rs all → SameResult l qs all → SameResult l rs qs
+same-find : {l : ℕ} {rs qs all : List Result} → SameSessionResult l rs all → SameSessionResult l qs all → SameSessionResult l rs qs
 same-find f g = record { result = f .result; here = f .here; there = g .here ∙ sym (g .there) ∙ f .there }
 
 pub same-outcome : (es fs : List Event) → (run es) .accepted ≡ (run fs) .accepted → pending ((run es) .now) ≡ [] → pending ((run fs) .now) ≡ [] → SameOutcome (run es) (run fs)

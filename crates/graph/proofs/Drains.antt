@@ -16,9 +16,10 @@ use Rattle.graph.specs.OneAtATime.{Labelled, addOf, opOf}
 use Rattle.graph.specs.Sessions.{Station, station, Session, labelsOfUnit, labelsOfUnits, labelsOfStations, labelsOfCalls, labelsOfResults, pending}
 use Rattle.graph.specs.Steps.{Step, admit, realise, move, finish, join, split, swap, fuse, step, anyHits}
 use Rattle.graph.specs.Allowed.{fromKey, anyFinishes, rule, allowed}
-use Rattle.graph.specs.Drain.{orHere, backmost, Taken, taking, orElse, drainStepAt, drainStep, Drained, drainOn, drainFor, enoughSteps, drain}
+use Rattle.graph.specs.Drain.{orHere, backmost, AfterStep, taking, orElse, drainStepAt, drainStep, Drained, drainOn, drainFor, enoughSteps, drain}
 use Rattle.graph.specs.Valid.{Each, ValidOp, ValidUnit, ValidStation, ValidCall, KeysFall, Valid}
-use Rattle.graph.specs.Runs.{workSteps, stepAll, Progress}
+use Rattle.graph.specs.Counts.{quotedSteps}
+use Rattle.graph.specs.EventRuns.{stepAll, SessionProgress}
 use Rattle.graph.proofs.Answers.{Holds, refuses, holds, holds-at, isDone, isDone-map, or-left, eqb-same}
 use Rattle.graph.proofs.Effects.{costs}
 use Rattle.graph.proofs.OutcomeKept.{Same, step-same}
@@ -117,19 +118,19 @@ pending-resting s g e =
     let z : length (pending s) ≡ 0 = ap length e in
     record { units = no-labels-stations (s .stations) (g .stations) (omega arith); calls = no-labels-calls (s .topStream) (g .topStream) (omega arith) }
 
-pub valid-progress : (s : Session) → Valid s → (l : ℕ) → contains l (pending s) ≡ true → Progress s
+pub valid-progress : (s : Session) → Valid s → (l : ℕ) → contains l (pending s) ≡ true → SessionProgress s
 valid-progress s g l h = go (backmost (s .stations)) refl
   where
-    waiting : (cs : List Labelled) → s .topStream ≡ cs → backmost (s .stations) ≡ none → Progress s
+    waiting : (cs : List Labelled) → s .topStream ≡ cs → backmost (s .stations) ≡ none → SessionProgress s
     waiting [] p e = absurd (true≢false (sym h ∙ ap (contains l) (resting-pending s (record { units = e; calls = p }))))
     waiting (c ∷ cs) p e = record { what = admit; work = refl; fine = rw p }
 
-    at : (k : ℕ) → Able k (fromKey k (s .stations)) → Progress s
+    at : (k : ℕ) → Able k (fromKey k (s .stations)) → SessionProgress s
     at k (realises e) = record { what = realise k; work = refl; fine = e }
     at k (finishes e) = record { what = finish k; work = refl; fine = e }
     at k (moves e) = record { what = move k; work = refl; fine = e }
 
-    go : (b : Option ℕ) → backmost (s .stations) ≡ b → Progress s
+    go : (b : Option ℕ) → backmost (s .stations) ≡ b → SessionProgress s
     go none e = waiting (s .topStream) refl e
     go (some k) e = at k (able-backmost (s .stations) k (g .falling) (g .stations) e .able)
 
@@ -161,7 +162,7 @@ refused-resting s g e = go (backmost (s .stations)) refl e
         ∙ ap₂ _||_ (taking-done (realise k) s) (done-else (taking (finish k) s) _ ∙ ap₂ _||_ (taking-done (finish k) s) (taking-done (move k) s))) ∙ e))
 
 -- a step that drain takes
-pub record Took (s : Session) (t : Taken) : Type 0 where
+pub record Took (s : Session) (t : AfterStep) : Type 0 where
   pub did : step (t .what) s ≡ done (t .to)
   pub cost : costs (t .what) ≡ 1
 
@@ -187,7 +188,7 @@ drain-took s = go (backmost (s .stations))
 pub done-holds : {P : Session → Type 0} {x : Answer Session} {u : Session} → x ≡ done u → Holds P x → P u
 done-holds {P} e h = holds-at (rw e at h)
 
-pub work-cons : (t : Step) (ts : List Step) → workSteps (t ∷ ts) ≡ costs t + workSteps ts
+pub work-cons : (t : Step) (ts : List Step) → quotedSteps (t ∷ ts) ≡ costs t + quotedSteps ts
 work-cons admit ts = omega arith
 work-cons (realise k) ts = omega arith
 work-cons (move k) ts = omega arith
@@ -197,7 +198,7 @@ work-cons (split k i j) ts = omega arith
 work-cons (swap k i) ts = omega arith
 work-cons (fuse k i) ts = omega arith
 
-pub work-append : (xs ys : List Step) → workSteps (xs ++ ys) ≡ workSteps xs + workSteps ys
+pub work-append : (xs ys : List Step) → quotedSteps (xs ++ ys) ≡ quotedSteps xs + quotedSteps ys
 work-append [] ys = omega arith
 work-append (x ∷ xs) ys = omega (arith, work-cons x (xs ++ ys), work-cons x xs, work-append xs ys)
 
@@ -205,7 +206,7 @@ work-append (x ∷ xs) ys = omega (arith, work-cons x (xs ++ ys), work-cons x xs
 pub record Drains (s : Session) (d : Drained) : Type 0 where
   pub valid : Valid (d .end)
   pub last : d .end .last ≡ s .last
-  pub lighter : workSteps (d .took) + weightOf (d .end) ≤ weightOf s
+  pub lighter : quotedSteps (d .took) + weightOf (d .end) ≤ weightOf s
   pub same : (w : Result → ℕ) → Same w s (d .end)
   pub steps : stepAll (d .took) s ≡ done (d .end)
 
@@ -219,13 +220,13 @@ pub record Next (s : Session) (u : Session) : Type 0 where
   pub lighter : 1 + weightOf u ≤ weightOf s
   pub same : (w : Result → ℕ) → Same w s u
 
-pub next : (s : Session) → Valid s → (t : Taken) → Took s t → Next s (t .to)
+pub next : (s : Session) → Valid s → (t : AfterStep) → Took s t → Next s (t .to)
 next s g t h =
     let v : Stepped s (t .to) = done-holds (h .did) (step-valid (t .what) s g) in
     let l : Lighter (costs (t .what)) s (t .to) = done-holds (h .did) (step-lighter (t .what) s g) in
     record { valid = v .valid; last = v .last; lighter = omega (arith, l, h .cost); same = λ w. done-holds (h .did) (step-same w (t .what) s) }
 
-drains-more : (s : Session) (t : Taken) (d : Drained) → Took s t → Next s (t .to) → Drains (t .to) d → Drains s (record { end = d .end; took = t .what ∷ d .took })
+drains-more : (s : Session) (t : AfterStep) (d : Drained) → Took s t → Next s (t .to) → Drains (t .to) d → Drains s (record { end = d .end; took = t .what ∷ d .took })
 drains-more s t d h n i = record {
   valid = i .valid;
   last = i .last ∙ n .last;
@@ -238,25 +239,25 @@ pub drains-for : (n : ℕ) (s : Session) → Valid s → Drains s (drainFor n s)
 drains-for zero s g = drains-none s g
 drains-for (suc n) s g = go (drainStep s) (drain-took s) (drains-for n)
   where
-    go : (x : Answer Taken) → Holds (Took s) x → ((u : Session) → Valid u → Drains u (drainFor n u)) → Drains s (drainOn (drainFor n) x s)
+    go : (x : Answer AfterStep) → Holds (Took s) x → ((u : Session) → Valid u → Drains u (drainFor n u)) → Drains s (drainOn (drainFor n) x s)
     go (refused r) h ih = drains-none s g
     go (done t) (holds h) ih =
         let x = next s g t h in
         drains-more s t (drainFor n (t .to)) h x (ih (t .to) (x .valid))
 
 -- a session without weight takes no step of drain
-weightless : (s : Session) → Valid s → weightOf s ≤ 0 → (t : Taken) → Took s t → ⊥
+weightless : (s : Session) → Valid s → weightOf s ≤ 0 → (t : AfterStep) → Took s t → ⊥
 weightless s g h t k = omega (arith, next s g t k .lighter)
 
 ends-for : (n : ℕ) (s : Session) → Valid s → weightOf s ≤ n → Resting ((drainFor n s) .end)
 ends-for zero s g h = go (drainStep s) refl (drain-took s)
   where
-    go : (x : Answer Taken) → drainStep s ≡ x → Holds (Took s) x → Resting s
+    go : (x : Answer AfterStep) → drainStep s ≡ x → Holds (Took s) x → Resting s
     go (refused r) e k = refused-resting s g (ap isDone e)
     go (done t) e (holds k) = absurd (weightless s g h t k)
 ends-for (suc n) s g h = go (drainStep s) refl (drain-took s) (ends-for n)
   where
-    go : (x : Answer Taken) → drainStep s ≡ x → Holds (Took s) x → ((u : Session) → Valid u → weightOf u ≤ n → Resting ((drainFor n u) .end)) → Resting ((drainOn (drainFor n) x s) .end)
+    go : (x : Answer AfterStep) → drainStep s ≡ x → Holds (Took s) x → ((u : Session) → Valid u → weightOf u ≤ n → Resting ((drainFor n u) .end)) → Resting ((drainOn (drainFor n) x s) .end)
     go (refused r) e k ih = refused-resting s g (ap isDone e)
     go (done t) e (holds k) ih =
         let x = next s g t k in
@@ -307,7 +308,7 @@ rests-for : (m : ℕ) (s : Session) → Valid s → weightOf s ≤ 0 → drainFo
 rests-for zero s g h = refl
 rests-for (suc m) s g h = go (drainStep s) (drain-took s)
   where
-    go : (x : Answer Taken) → Holds (Took s) x → drainOn (drainFor m) x s ≡ record { end = s; took = [] }
+    go : (x : Answer AfterStep) → Holds (Took s) x → drainOn (drainFor m) x s ≡ record { end = s; took = [] }
     go (refused r) j = refl
     go (done t) (holds j) = absurd (weightless s g h t j)
 
@@ -316,7 +317,7 @@ enough zero m s g h k = sym (rests-for m s g h)
 enough (suc n) zero s g h k = rests-for (suc n) s g k
 enough (suc n) (suc m) s g h k = go (drainStep s) (drain-took s) (enough n m)
   where
-    go : (x : Answer Taken) → Holds (Took s) x → ((u : Session) → Valid u → weightOf u ≤ n → weightOf u ≤ m → drainFor n u ≡ drainFor m u) → drainOn (drainFor n) x s ≡ drainOn (drainFor m) x s
+    go : (x : Answer AfterStep) → Holds (Took s) x → ((u : Session) → Valid u → weightOf u ≤ n → weightOf u ≤ m → drainFor n u ≡ drainFor m u) → drainOn (drainFor n) x s ≡ drainOn (drainFor m) x s
     go (refused r) j ih = refl
     go (done t) (holds j) ih =
         let x = next s g t j in
@@ -328,29 +329,29 @@ drain-once : (s : Session) → (n : ℕ) × (enoughSteps ≡ suc n) × (drain s 
 unfolding enoughSteps
 drain-once s = (4671, refl, refl)
 
-pub drain-next : (s : Session) → Valid s → (t : Taken) → drainStep s ≡ done t → drain s ≡ record { end = (drain (t .to)) .end; took = t .what ∷ (drain (t .to)) .took }
+pub drain-next : (s : Session) → Valid s → (t : AfterStep) → drainStep s ≡ done t → drain s ≡ record { end = (drain (t .to)) .end; took = t .what ∷ (drain (t .to)) .took }
 drain-next s g t e =
     let x = next s g t (holds-at (rw e at (drain-took s))) in
     let o = drain-once s in
     let n : ℕ = o .0 in
     let f : drainFor n (t .to) ≡ drain (t .to) = enough n enoughSteps (t .to) (x .valid) (omega (arith, x .lighter, weight-enough s g, o .1)) (weight-enough (t .to) (x .valid)) in
-    o .2 ∙ ap (λ (y : Answer Taken). drainOn (drainFor n) y s) e ∙ (λ i. record { end = (f i) .end; took = t .what ∷ (f i) .took })
+    o .2 ∙ ap (λ (y : Answer AfterStep). drainOn (drainFor n) y s) e ∙ (λ i. record { end = (f i) .end; took = t .what ∷ (f i) .took })
 
 pub drain-rests : (s : Session) (r : ℕ) → drainStep s ≡ refused r → drain s ≡ record { end = s; took = [] }
-drain-rests s r e = let o = drain-once s in o .2 ∙ ap (λ (y : Answer Taken). drainOn (drainFor (o .0)) y s) e
+drain-rests s r e = let o = drain-once s in o .2 ∙ ap (λ (y : Answer AfterStep). drainOn (drainFor (o .0)) y s) e
 
 -- "With none pending it is accepted and takes no step."
 pub drain-idle : (s : Session) → Valid s → pending s ≡ [] → drain s ≡ record { end = s; took = [] }
 drain-idle s g e = let r = pending-resting s g e in drain-rests s 21 (rw (r .units, r .calls))
 
 -- every step that drain takes is an admit, realise, move or finish
-works-for : (n : ℕ) (s : Session) → workSteps ((drainFor n s) .took) ≡ length ((drainFor n s) .took)
+works-for : (n : ℕ) (s : Session) → quotedSteps ((drainFor n s) .took) ≡ length ((drainFor n s) .took)
 works-for zero s = refl
 works-for (suc n) s = go (drainStep s) (drain-took s) (works-for n)
   where
-    go : (x : Answer Taken) → Holds (Took s) x → ((u : Session) → workSteps ((drainFor n u) .took) ≡ length ((drainFor n u) .took)) → workSteps ((drainOn (drainFor n) x s) .took) ≡ length ((drainOn (drainFor n) x s) .took)
+    go : (x : Answer AfterStep) → Holds (Took s) x → ((u : Session) → quotedSteps ((drainFor n u) .took) ≡ length ((drainFor n u) .took)) → quotedSteps ((drainOn (drainFor n) x s) .took) ≡ length ((drainOn (drainFor n) x s) .took)
     go (refused r) h ih = refl
     go (done t) (holds h) ih = omega (arith, work-cons (t .what) ((drainFor n (t .to)) .took), h .cost, ih (t .to))
 
-pub drain-works : (s : Session) → workSteps ((drain s) .took) ≡ length ((drain s) .took)
+pub drain-works : (s : Session) → quotedSteps ((drain s) .took) ≡ length ((drain s) .took)
 drain-works s = works-for enoughSteps s

@@ -8,7 +8,7 @@ use mathlib.Core.Option.{Option, none, some}
 use lib.Dec.{eqb}
 use borrow.Author.Tests.{eqb-true, eqb-false, eq-eqb, ne-eqb}
 use Rattle.graph.specs.Nodes.{Result}
-use Rattle.graph.specs.Runs.{find}
+use Rattle.graph.specs.Counts.{resultOfLabel}
 
 abbrev isSome : Option Result → Bool
 isSome none = false
@@ -24,20 +24,20 @@ none-some e = true≢false (sym (ap isSome e))
 pub some-same : {r q : Result} → some r ≡ some q → r ≡ q
 some-same {r} e = ap (resultIn r) e
 
-pub find-here : (l : ℕ) (r : Result) (rs : List Result) → r .label ≡ l → find l (r ∷ rs) ≡ some r
-find-here l r rs e = ap (λ (b : Bool). cond b (some r) (find l rs)) (eq-eqb (r .label) l e)
+pub find-here : (l : ℕ) (r : Result) (rs : List Result) → r .label ≡ l → resultOfLabel l (r ∷ rs) ≡ some r
+find-here l r rs e = ap (λ (b : Bool). cond b (some r) (resultOfLabel l rs)) (eq-eqb (r .label) l e)
 
-pub find-skip : (l : ℕ) (r : Result) (rs : List Result) → (r .label ≡ l → ⊥) → find l (r ∷ rs) ≡ find l rs
-find-skip l r rs n = ap (λ (b : Bool). cond b (some r) (find l rs)) (ne-eqb (r .label) l n)
+pub find-skip : (l : ℕ) (r : Result) (rs : List Result) → (r .label ≡ l → ⊥) → resultOfLabel l (r ∷ rs) ≡ resultOfLabel l rs
+find-skip l r rs n = ap (λ (b : Bool). cond b (some r) (resultOfLabel l rs)) (ne-eqb (r .label) l n)
 
 pub data Where (l : ℕ) (q r : Result) (rs : List Result) : Type 0 where
   first-of : r .label ≡ l → r ≡ q → Where l q r rs
-  later : (r .label ≡ l → ⊥) → find l rs ≡ some q → Where l q r rs
+  later : (r .label ≡ l → ⊥) → resultOfLabel l rs ≡ some q → Where l q r rs
 
-pub where-found : (l : ℕ) (q r : Result) (rs : List Result) → find l (r ∷ rs) ≡ some q → Where l q r rs
+pub where-found : (l : ℕ) (q r : Result) (rs : List Result) → resultOfLabel l (r ∷ rs) ≡ some q → Where l q r rs
 where-found l q r rs e = go (eqb (r .label) l) refl e
   where
-    go : (b : Bool) → eqb (r .label) l ≡ b → cond b (some r) (find l rs) ≡ some q → Where l q r rs
+    go : (b : Bool) → eqb (r .label) l ≡ b → cond b (some r) (resultOfLabel l rs) ≡ some q → Where l q r rs
     go true d e = first-of (eqb-true (r .label) l d) (some-same e)
     go false d e = later (eqb-false (r .label) l d) e
 
@@ -50,6 +50,6 @@ or-cond : (b : Bool) (r : Result) (p q : Option Result) → cond b (some r) (orT
 or-cond true r p q = refl
 or-cond false r p q = refl
 
-pub find-append : (l : ℕ) (rs qs : List Result) → find l (rs ++ qs) ≡ orThat (find l rs) (find l qs)
+pub find-append : (l : ℕ) (rs qs : List Result) → resultOfLabel l (rs ++ qs) ≡ orThat (resultOfLabel l rs) (resultOfLabel l qs)
 find-append l [] qs = refl
-find-append l (r ∷ rs) qs = ap (cond (eqb (r .label) l) (some r)) (find-append l rs qs) ∙ or-cond (eqb (r .label) l) r (find l rs) (find l qs)
+find-append l (r ∷ rs) qs = ap (cond (eqb (r .label) l) (some r)) (find-append l rs qs) ∙ or-cond (eqb (r .label) l) r (resultOfLabel l rs) (resultOfLabel l qs)

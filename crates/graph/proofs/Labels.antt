@@ -117,7 +117,7 @@ units-append : (v : ℕ → ℕ) (us vs : List (List Op)) → total v (labelsOfU
 units-append v [] vs = omega arith
 units-append v (u ∷ us) vs = omega (arith, units-append v us vs, total-append v (labelsOfUnit u) (labelsOfUnits (us ++ vs)), total-append v (labelsOfUnit u) (labelsOfUnits us))
 
-enter-total : (v : ℕ → ℕ) (o : Op) (ss : List Station) → sum (byLabel v) ((enter o ss) .gone) + total v (labelsOfStations ((enter o ss) .now)) ≡ total v (o .labels) + total v (labelsOfStations ss)
+enter-total : (v : ℕ → ℕ) (o : Op) (ss : List Station) → sum (byLabel v) ((enter o ss) .newResults) + total v (labelsOfStations ((enter o ss) .now)) ≡ total v (o .labels) + total v (labelsOfStations ss)
 enter-total v o [] = omega (arith, stored-total v (o .labels) (answer (o .act) (o .held)) (o .targets))
 enter-total v o (s ∷ ss) =
     let new = (o ∷ []) ∷ [] in

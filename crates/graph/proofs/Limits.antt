@@ -1,6 +1,6 @@
 -- The limits of nodes, operations and results: what acts and fuses keep, so does every effect.
 -- Assumes nothing.
-use mathlib.Core.Path.{_≡_, refl}
+use mathlib.Core.Path.{_≡_, refl, _∙_}
 use Prim.Native.Nat.{ℕ, zero, suc, _+_, _*_, _≤_, _<_}
 use native.Mathlib.Nat.{mod-lt}
 use native.Mathlib.Omega.{arith}
@@ -12,15 +12,17 @@ use borrow.Author.Tests.{leb-true, leb-false, ltb-true, lt-ltb}
 use Rattle.graph.specs.declared.affine.Affine.{Affine}
 use Rattle.graph.specs.declared.act.Act.{Act}
 use Rattle.graph.specs.declared.act.Act.the-variants.{Map, Link, Unlink, Sum, Top, Pick, Near}
-use Rattle.graph.specs.Affine.{modulus, plus}
-use Rattle.graph.specs.KeyLists.{contains, strike, above, rising, isFull, sameKeys}
+use Rattle.graph.specs.Words.{modulus}
+use Rattle.graph.specs.Affine.{plus}
+use Rattle.graph.specs.KeyLists.{isKey, areKeys, contains, strike, above, rising, isFull, sameKeys}
 use Rattle.graph.specs.Acts.{isMap, affineOf, newValue, newLinks, newHeld, answer}
 use Rattle.graph.specs.Nodes.{Node, Op, actOn, actBy, resultsFor, stored, newNode, addResult}
 use Rattle.graph.specs.Sessions.{Station}
 use Rattle.graph.specs.Steps.{Change, putUnit, mayFuse, fused}
-use Rattle.graph.specs.Valid.{Each, Key, ValidTargets, ValidNode, ValidAct, ValidHeld, ValidOp, ValidUnit, ValidStation, ValidResult}
+use Rattle.graph.specs.Valid.{Each, ValidTargets, ValidNode, ValidAct, ValidHeld, ValidOp, ValidUnit, ValidStation, ValidResult}
 use Rattle.graph.proofs.Answers.{and-left, and-right, and-both}
 use Rattle.graph.proofs.Striking.{strike-le}
+use Rattle.graph.proofs.KeyLaws.{areKeys-snoc, areKeys-strike}
 use Rattle.graph.proofs.Effects.{Reshaped, joined, cut, swapped, fusing, before, after, Effect, realised, moved, finished, reshaped, further}
 
 module _ {A : Type 0} (P : A → Type 0) where
@@ -49,14 +51,6 @@ cond-lt true x y m g h = g
 cond-lt false x y m g h = h
 
 -- striking
-cond-each : (P : ℕ → Type 0) (b : Bool) (t : ℕ) (ts : List ℕ) → P t → Each P ts → Each P (cond b ts (t ∷ ts))
-cond-each P true t ts g h = h
-cond-each P false t ts g h = (g, h)
-
-each-strike : (k : ℕ) (ts : List ℕ) → Each Key ts → Each Key (strike k ts)
-each-strike k [] h = tt
-each-strike k (t ∷ ts) h = cond-each Key (eqb k t) t (strike k ts) (h .0) (each-strike k ts (h .1))
-
 pub above-lower : (i j : ℕ) (ts : List ℕ) → i ≤ j → above j ts ≡ true → above i ts ≡ true
 above-lower i j [] h e = refl
 above-lower i j (t ∷ ts) h e = and-both (lt-ltb i t (omega (arith, ltb-true j t (and-left _ _ e)))) (and-right (ltb j t) _ e)
@@ -82,7 +76,7 @@ rising-strike k (t ∷ ts) e = go (eqb k t) (above-strike k t ts e)
     go false h = h
 
 valid-strike : (k : ℕ) (ts : List ℕ) → ValidTargets ts → ValidTargets (strike k ts)
-valid-strike k ts h = record { few = omega (arith, strike-le k ts, h .few); keys = each-strike k ts (h .keys); rise = rising-strike k ts (h .rise) }
+valid-strike k ts h = record { few = omega (arith, strike-le k ts, h .few); keys = areKeys-strike k ts (h .keys); rise = rising-strike k ts (h .rise) }
 
 -- acts
 valid-value : (a : Act) (v : ℕ) → v < modulus → newValue a v < modulus
@@ -96,16 +90,16 @@ valid-value (Near k) v h = h
 
 record ValidLinks (ls : List ℕ) : Type 0 where
   few : length ls ≤ 8
-  keys : Each Key ls
+  keys : areKeys ls ≡ true
 
-valid-linked : (k : ℕ) (ls : List ℕ) (b : Bool) → isFull ls ≡ b → Key k → ValidLinks ls → ValidLinks (cond b ls (ls ++ (k ∷ [])))
+valid-linked : (k : ℕ) (ls : List ℕ) (b : Bool) → isFull ls ≡ b → isKey k ≡ true → ValidLinks ls → ValidLinks (cond b ls (ls ++ (k ∷ [])))
 valid-linked k ls true e g h = h
-valid-linked k ls false e g h = record { few = omega (arith, leb-false 8 (length ls) e, length-append ls (k ∷ [])); keys = each-append Key ls (k ∷ []) (h .keys) (g, tt) }
+valid-linked k ls false e g h = record { few = omega (arith, leb-false 8 (length ls) e, length-append ls (k ∷ [])); keys = areKeys-snoc ls k ∙ and-both (h .keys) g }
 
 valid-links : (a : Act) (ls : List ℕ) → ValidAct a → ValidLinks ls → ValidLinks (newLinks a ls)
 valid-links (Map m) ls g h = h
 valid-links (Link k) ls g h = valid-linked k ls (isFull ls) refl g h
-valid-links (Unlink k) ls g h = record { few = omega (arith, strike-le k ls, h .few); keys = each-strike k ls (h .keys) }
+valid-links (Unlink k) ls g h = record { few = omega (arith, strike-le k ls, h .few); keys = areKeys-strike k ls (h .keys) }
 valid-links Sum ls g h = h
 valid-links Top ls g h = h
 valid-links Pick ls g h = h
@@ -163,10 +157,10 @@ valid-stored o g = go (o .labels)
     go (l ∷ ls) = (record { value = valid-answer (o .act) (o .held) (g .held); left = g .targets }, go ls)
 
 pub valid-newNode : (n v : ℕ) → v < modulus → ValidNode (newNode n v)
-valid-newNode n v h = record { value = h; few = omega arith; keys = tt }
+valid-newNode n v h = record { value = h; few = omega arith; keys = refl }
 
 pub valid-addResult : (l n : ℕ) → n < 64 → ValidResult (addResult l n)
-valid-addResult l n h = record { value = omega (arith, lit≤ {m = 65} {n = modulus} tt); left = record { few = omega arith; keys = tt; rise = refl } }
+valid-addResult l n h = record { value = omega (arith, lit≤ {m = 65} {n = modulus} tt); left = record { few = omega arith; keys = refl; rise = refl } }
 
 -- units
 valid-reshaped : {us vs : List (List Op)} → Reshaped us vs → Each ValidUnit us → Each ValidUnit vs
@@ -185,7 +179,7 @@ valid-put (o ∷ os) us g h = (record { some = omega arith; ops = g }, h)
 
 pub record ValidChange (c : Change) : Type 0 where
   pub now : Each ValidStation (c .now)
-  pub gone : Each ValidResult (c .gone)
+  pub newResults : Each ValidResult (c .newResults)
 
 pub valid-effect : {k : ℕ} {ss : List Station} {c : Change} → Effect k ss c → Each ValidStation ss → ValidChange c
 valid-effect (realised n pre o post us ss e h) g =
@@ -194,20 +188,20 @@ valid-effect (realised n pre o post us ss e h) g =
     let new : Each ValidOp (pre ++ (actBy o n ∷ post)) = each-append ValidOp pre (actBy o n ∷ post) (each-left ValidOp pre (o ∷ post) ops) (valid-actBy o n (here .0) (g .0 .node), here .1) in
     record {
       now = (record { node = valid-actOn o n (here .0) (g .0 .node); units = (record { some = omega (arith, length-append pre (actBy o n ∷ post)); ops = new }, g .0 .units .1) }, g .1);
-      gone = tt;
+      newResults = tt;
     }
 valid-effect (moved n u us s ss e) g = record {
   now = (record { node = g .0 .node; units = g .0 .units .1 }, (record { node = g .1 .0 .node; units = each-append ValidUnit (s .units) (u ∷ []) (g .1 .0 .units) (g .0 .units .0, tt) }, g .1 .1));
-  gone = tt;
+  newResults = tt;
 }
 valid-effect (finished n pre o post us ss e) g =
     let ops = g .0 .units .0 .ops in
     let here : Each ValidOp (o ∷ post) = each-right ValidOp pre (o ∷ post) ops in
     record {
       now = (record { node = g .0 .node; units = valid-put (pre ++ post) us (each-append ValidOp pre post (each-left ValidOp pre (o ∷ post) ops) (here .1)) (g .0 .units .1) }, g .1);
-      gone = valid-stored o (here .0);
+      newResults = valid-stored o (here .0);
     }
-valid-effect (reshaped n ss h) g = record { now = (record { node = g .0 .node; units = valid-reshaped h (g .0 .units) }, g .1); gone = tt }
+valid-effect (reshaped n ss h) g = record { now = (record { node = g .0 .node; units = valid-reshaped h (g .0 .units) }, g .1); newResults = tt }
 valid-effect (further s h) g =
     let x = valid-effect h (g .1) in
-    record { now = (g .0, x .now); gone = x .gone }
+    record { now = (g .0, x .now); newResults = x .newResults }

@@ -7,7 +7,7 @@ use native.Mathlib.Omega.{arith}
 use mathlib.Core.Bool.{Bool, true, false, cond}
 use mathlib.Core.List.{List, [], _∷_, _++_}
 use mathlib.Core.Option.{Option, none, some}
-use lib.ListN.{length, length-append}
+use lib.ListN.{length}
 use Rattle.graph.specs.declared.act.Act.{Act}
 use Rattle.graph.specs.declared.act.Act.the-variants.{Link}
 use Rattle.graph.specs.Affine.{plus}
@@ -16,7 +16,8 @@ use Rattle.graph.specs.Acts.{newHeld, answer}
 use Rattle.graph.specs.Calls.{Call, link, targetsOf}
 use Rattle.graph.specs.Nodes.{Node, Op, Result, hits, actBy, addResult}
 use Rattle.graph.specs.OneAtATime.{World, labelled, passOp, process, processFrom, oneAtATime}
-use Rattle.graph.specs.Runs.{Event, run, find}
+use Rattle.graph.specs.EventRuns.{Event, run}
+use Rattle.graph.specs.Counts.{resultOfLabel}
 use Rattle.graph.proofs.Found.{some-same, find-here, find-skip, orThat, find-append}
 use Rattle.graph.specs.Valid.{Each}
 use Rattle.graph.proofs.Striking.{strike-less}
@@ -81,17 +82,17 @@ process-one c l x = go (sort c l)
         let q : Op = passOp o (x .nodes) in
         rw e (record { result = record { label = l; value = answer (q .act) (q .held); left = q .targets }; label = refl; more = rw (pass-labels o (x .nodes)) })
 
-later-keep : (m l : ℕ) (cs : List Call) (x : World) (q : Result) → find m (x .results) ≡ some q → find m ((processFrom l cs x) .results) ≡ some q
+later-keep : (m l : ℕ) (cs : List Call) (x : World) (q : Result) → resultOfLabel m (x .results) ≡ some q → resultOfLabel m ((processFrom l cs x) .results) ≡ some q
 later-keep m l [] x q e = e
 later-keep m l (c ∷ cs) x q e =
     let a = process-one c l x in
-    later-keep m (suc l) cs (process (labelled c l) x) q (ap (find m) (a .more) ∙ find-append m (x .results) (a .result ∷ []) ∙ ap (λ (p : Option Result). orThat p (find m (a .result ∷ []))) e)
+    later-keep m (suc l) cs (process (labelled c l) x) q (ap (resultOfLabel m) (a .more) ∙ find-append m (x .results) (a .result ∷ []) ∙ ap (λ (p : Option Result). orThat p (resultOfLabel m (a .result ∷ []))) e)
 
-earlier-miss : (m l : ℕ) (cs : List Call) (x : World) → l + length cs ≤ m → find m (x .results) ≡ none → find m ((processFrom l cs x) .results) ≡ none
+earlier-miss : (m l : ℕ) (cs : List Call) (x : World) → l + length cs ≤ m → resultOfLabel m (x .results) ≡ none → resultOfLabel m ((processFrom l cs x) .results) ≡ none
 earlier-miss m l [] x h e = e
 earlier-miss m l (c ∷ cs) x h e =
     let a = process-one c l x in
-    earlier-miss m (suc l) cs (process (labelled c l) x) (omega arith) (ap (find m) (a .more) ∙ find-append m (x .results) (a .result ∷ []) ∙ ap (λ (p : Option Result). orThat p (find m (a .result ∷ []))) e ∙ find-skip m (a .result) [] (λ q. omega (arith, a .label, q)))
+    earlier-miss m (suc l) cs (process (labelled c l) x) (omega arith) (ap (resultOfLabel m) (a .more) ∙ find-append m (x .results) (a .result ∷ []) ∙ ap (λ (p : Option Result). orThat p (resultOfLabel m (a .result ∷ []))) e ∙ find-skip m (a .result) [] (λ q. omega (arith, a .label, q)))
 
 process-append : (l : ℕ) (bs cs : List Call) (x : World) → processFrom l (bs ++ cs) x ≡ processFrom (l + length bs) cs (processFrom l bs x)
 process-append l [] cs x = ap (λ (m : ℕ). processFrom m cs x) (sym (add-zero l))
@@ -99,7 +100,7 @@ process-append l (b ∷ bs) cs x =
     process-append (suc l) bs cs (process (labelled b l) x) ∙ ap (λ (m : ℕ). processFrom m cs (processFrom (suc l) bs (process (labelled b l) x))) (suc-add l (length bs) ∙ sym (add-suc l (length bs)))
 
 -- of one-at-a-time processing: the lists are those of the nodes as the calls before leave them
-pub link-count : (before later : List Call) (k : ℕ) (to : List ℕ) → length to ≤ 8 → (r : Result) → find (suc (length before)) ((oneAtATime (before ++ (link k to ∷ later))) .results) ≡ some r →
+pub link-count : (before later : List Call) (k : ℕ) (to : List ℕ) → length to ≤ 8 → (r : Result) → resultOfLabel (suc (length before)) ((oneAtATime (before ++ (link k to ∷ later))) .results) ≡ some r →
     r .value ≡ fullTargets to ((oneAtATime before) .nodes)
 link-count before later k to h r e =
     let m : ℕ = suc (length before) in
@@ -109,11 +110,11 @@ link-count before later k to h r e =
     let c : Counts k (0 + fullTargets to (x .nodes)) q = pass-counts k o (x .nodes) refl (omega (arith, h)) in
     let own : Result = record { label = m; value = answer (q .act) (q .held); left = q .targets } in
     let new : (process (labelled (link k to) m) x) .results ≡ x .results ++ (own ∷ []) = rw (pass-labels o (x .nodes)) in
-    let none-yet : find m (x .results) ≡ none = earlier-miss m 1 before (record { nodes = []; results = [] }) (omega arith) refl in
-    let found : find m ((process (labelled (link k to) m) x) .results) ≡ some own = ap (find m) new ∙ find-append m (x .results) (own ∷ []) ∙ ap (λ (p : Option Result). orThat p (find m (own ∷ []))) none-yet ∙ find-here m own [] refl in
+    let none-yet : resultOfLabel m (x .results) ≡ none = earlier-miss m 1 before (record { nodes = []; results = [] }) (omega arith) refl in
+    let found : resultOfLabel m ((process (labelled (link k to) m) x) .results) ≡ some own = ap (resultOfLabel m) new ∙ find-append m (x .results) (own ∷ []) ∙ ap (λ (p : Option Result). orThat p (resultOfLabel m (own ∷ []))) none-yet ∙ find-here m own [] refl in
     let one : 1 + length before ≡ m = omega arith in
     let all : oneAtATime (before ++ (link k to ∷ later)) ≡ processFrom (suc m) later (process (labelled (link k to) m) x) = process-append 1 before (link k to ∷ later) (record { nodes = []; results = [] }) ∙ ap (λ (n : ℕ). processFrom n (link k to ∷ later) x) one in
-    let same : own ≡ r = some-same (sym (later-keep m (suc m) later (process (labelled (link k to) m) x) own found) ∙ sym (ap (λ (y : World). find m (y .results)) all) ∙ e) in
+    let same : own ≡ r = some-same (sym (later-keep m (suc m) later (process (labelled (link k to) m) x) own found) ∙ sym (ap (λ (y : World). resultOfLabel m (y .results)) all) ∙ e) in
     let held : answer (q .act) (q .held) ≡ q .held = ap (λ (a : Act). answer a (q .held)) (c .act) in
     omega (arith, c .held, held, ap (λ (y : Result). y .value) same)
 
@@ -124,10 +125,10 @@ pub record LinkResult (to : List ℕ) (ns : List Node) (r : Result) : Type 0 whe
   pub few : r .value ≤ length to
 
 pub link-result : (es : List Event) (before later : List Call) (k : ℕ) (to : List ℕ) → (run es) .accepted ≡ before ++ (link k to ∷ later) →
-    (r : Result) → find (suc (length before)) ((run es) .claimed ++ (run es) .now .results) ≡ some r → LinkResult to ((oneAtATime before) .nodes) r
+    (r : Result) → resultOfLabel (suc (length before)) ((run es) .claimed ++ (run es) .now .results) ≡ some r → LinkResult to ((oneAtATime before) .nodes) r
 link-result es before later k to a r e =
     let m : ℕ = suc (length before) in
     let all : Each FewTargets (before ++ (link k to ∷ later)) = subst (Each FewTargets) a (few-targets es) in
     let own = each-right FewTargets before (link k to ∷ later) all in
-    let count = link-count before later k to (own .0) r (ap (λ (cs : List Call). find m ((oneAtATime cs) .results)) (sym a) ∙ found-right es m r e) in
+    let count = link-count before later k to (own .0) r (ap (λ (cs : List Call). resultOfLabel m ((oneAtATime cs) .results)) (sym a) ∙ found-right es m r e) in
     record { exact = count; few = omega (arith, count, full-few to ((oneAtATime before) .nodes)) }

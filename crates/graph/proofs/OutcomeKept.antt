@@ -145,7 +145,7 @@ module _ (w : Result → ℕ) where
       rw (append-assoc u (flat us) post, append-assoc u (flat vs) post, ← append-assoc pre u (flat us ++ post), ← append-assoc pre u (flat vs ++ post)) (alike h ss (pre ++ u) post)
 
   -- what a step at a station keeps, whatever comes in
-  effect-kept : {k : ℕ} {ss : List Station} {c : Change} → Effect k ss c → (os : List Op) → through w ss os ≡ plus (sum w (c .gone)) (through w (c .now) os)
+  effect-kept : {k : ℕ} {ss : List Station} {c : Change} → Effect k ss c → (os : List Op) → through w ss os ≡ plus (sum w (c .newResults)) (through w (c .now) os)
   effect-kept (realised n pre o post us ss e h) os =
       let X = post ++ (flat us ++ os) in
       rw (append-assoc (pre ++ (o ∷ post)) (flat us) os, append-assoc (pre ++ (actBy o n ∷ post)) (flat us) os, append-assoc pre (o ∷ post) (flat us ++ os), append-assoc pre (actBy o n ∷ post) (flat us ++ os))
@@ -162,7 +162,7 @@ module _ (w : Result → ℕ) where
 
   -- what the top stream makes of the stations depends on nothing else of them
   entering-same : (o : Op) (k : ℕ) (ss ts : List Station) → length ts ≡ length ss → ((os : List Op) → through w ss os ≡ plus k (through w ts os)) →
-      (sum w ((enter o ss) .gone) ≡ sum w ((enter o ts) .gone)) × (length ((enter o ts) .now) ≡ length ((enter o ss) .now)) × ((os : List Op) → through w ((enter o ss) .now) os ≡ plus k (through w ((enter o ts) .now) os))
+      (sum w ((enter o ss) .newResults) ≡ sum w ((enter o ts) .newResults)) × (length ((enter o ts) .now) ≡ length ((enter o ss) .now)) × ((os : List Op) → through w ((enter o ss) .now) os ≡ plus k (through w ((enter o ts) .now) os))
   entering-same o k [] [] e h = (refl, refl, h)
   entering-same o k [] (t ∷ ts) e h = absurd (omega arith)
   entering-same o k (s ∷ ss) [] e h = absurd (omega arith)
@@ -186,11 +186,11 @@ module _ (w : Result → ℕ) where
 
   step-at : (k : ℕ) (t : Step) (s : Session) → Holds (Same s) (stepAt k t s)
   step-at k t s = holds-map _ (λ c h.
-      ap (plus _) (admitting-same (s .topStream) (sum w (c .gone)) (s .stations) (c .now) (effect-size h) (effect-kept h)) ∙ storing (c .gone) (s .results) _) (effect-at k t (s .stations))
+      ap (plus _) (admitting-same (s .topStream) (sum w (c .newResults)) (s .stations) (c .now) (effect-size h) (effect-kept h)) ∙ storing (c .newResults) (s .results) _) (effect-at k t (s .stations))
 
   step-admit : (s : Session) (cs : List Labelled) → Holds (λ t. plus (sum w (s .results)) (admitting w cs (s .stations)) ≡ outcome w t) (admitHead s cs)
   step-admit s [] = refuses
-  step-admit s (c ∷ cs) = holds (storing ((admitted c (s .stations)) .gone) (s .results) _)
+  step-admit s (c ∷ cs) = holds (storing ((admitted c (s .stations)) .newResults) (s .results) _)
 
   pub step-same : (t : Step) (s : Session) → Holds (Same s) (step t s)
   step-same t s = by-station (λ t. Same s) s (step-admit s (s .topStream)) (λ k t. step-at k t s) t

@@ -9,16 +9,17 @@ use mathlib.Core.List.{List, [], _∷_}
 use mathlib.Core.Option.{some}
 use lib.Dec.{eqb, ltb, leb}
 use borrow.Author.Tests.{eq-eqb, eqb-true, eqb-false, ltb-true, ne-eqb}
-use Rattle.graph.specs.Refusals.{Answer, refused, done, mapDone, andThen, numberOf, Test, firstOf, risesFrom, unless}
+use Rattle.graph.specs.Refusals.{Answer, refused, done, mapDone, andThen, Test, unless}
+use Rattle.graph.specs.RefusalOrder.{numberOf, firstOf, risesFrom, claimTests}
 use Rattle.graph.specs.KeyLists.{contains}
 use Rattle.graph.specs.Calls.{Call}
 use Rattle.graph.specs.Nodes.{Result}
 use Rattle.graph.specs.Sessions.{Session, labelsOfResults, pending}
 use Rattle.graph.specs.Steps.{Step, admit, realise, move, finish, join, split, swap, fuse}
 use Rattle.graph.specs.Allowed.{stepTests}
-use Rattle.graph.specs.Acceptance.{callTests, accepted, accept, Claimed, takeResult, claimTests, claim}
+use Rattle.graph.specs.Acceptance.{callTests, accepted, accept, Claimed, takeResult, claim}
 use Rattle.graph.specs.Valid.{Each}
-use Rattle.graph.specs.Runs.{find}
+use Rattle.graph.specs.Counts.{resultOfLabel}
 use Rattle.graph.proofs.Answers.{Holds, refuses, holds, holds-map, and-left, and-right}
 use Rattle.graph.proofs.Verdicts.{Says, says-map}
 
@@ -114,11 +115,11 @@ claim-number l s = go (leb 1 l && leb l (s .last)) (contains l (pending s)) (con
     go true false false x h = h
 
 -- what is taken is the result that the label finds
-pub take-found : (l : ℕ) (rs : List Result) → Holds (λ (c : Claimed). find l rs ≡ some (c .result)) (takeResult l rs)
+pub take-found : (l : ℕ) (rs : List Result) → Holds (λ (c : Claimed). resultOfLabel l rs ≡ some (c .result)) (takeResult l rs)
 take-found l [] = refuses
 take-found l (r ∷ rs) = go (eqb (r .label) l) (take-found l rs)
   where
-    go : (b : Bool) {x : Answer Claimed} → Holds (λ (c : Claimed). find l rs ≡ some (c .result)) x →
-        Holds (λ (c : Claimed). cond b (some r) (find l rs) ≡ some (c .result)) (cond b (done (record { result = r; others = rs })) (mapDone (λ c. record { result = c .result; others = r ∷ c .others }) x))
+    go : (b : Bool) {x : Answer Claimed} → Holds (λ (c : Claimed). resultOfLabel l rs ≡ some (c .result)) x →
+        Holds (λ (c : Claimed). cond b (some r) (resultOfLabel l rs) ≡ some (c .result)) (cond b (done (record { result = r; others = rs })) (mapDone (λ c. record { result = c .result; others = r ∷ c .others }) x))
     go true h = holds refl
     go false h = holds-map _ (λ c e. e) h

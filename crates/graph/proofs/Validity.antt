@@ -10,15 +10,15 @@ use lib.ListN.{length}
 use borrow.Author.Tests.{leb-true, leb-false, le-leb, ltb-true, ne-eqb, eqb-true, not-false}
 use Rattle.graph.specs.declared.act.Act.{Act}
 use Rattle.graph.specs.Refusals.{Answer, refused, done, mapDone, Test, unless}
-use Rattle.graph.specs.Affine.{modulus}
+use Rattle.graph.specs.Words.{modulus, areWords}
 use Rattle.graph.specs.KeyLists.{isKey, areKeys, above, rising, contains}
-use Rattle.graph.specs.Calls.{Call, add, map, link, unlink, sum, top, pick, near, numbersOf, operandsOf, targetsOf, isAdd, areWords}
+use Rattle.graph.specs.Calls.{Call, add, map, link, unlink, sum, top, pick, near, numbersOf, operandsOf, targetsOf}
+use Rattle.graph.specs.OneAtATime.{isAdd, Labelled, addOf, opOf, operation, labelled}
 use Rattle.graph.specs.Nodes.{Op, Result, addResult}
-use Rattle.graph.specs.OneAtATime.{Labelled, addOf, opOf, operation, labelled}
 use Rattle.graph.specs.Sessions.{Station, Session, fresh, insert, store, labelsOfStations, labelsOfCalls, labelsOfResults, pending, live, addsIn}
 use Rattle.graph.specs.Steps.{Step, Change, enter, admitted, changed, admitHead, stepAt, step}
 use Rattle.graph.specs.Acceptance.{callTests, accepted, accept, Claimed, takeResult, claim, keeping}
-use Rattle.graph.specs.Valid.{Each, Key, ValidAct, ValidHeld, mostLabels, ValidOp, ValidUnit, ValidStation, ValidCall, ValidResult, KeysFall, count, Given, Valid}
+use Rattle.graph.specs.Valid.{Each, ValidAct, ValidHeld, mostLabels, ValidOp, ValidUnit, ValidStation, ValidCall, ValidResult, KeysFall, count, Given, Valid}
 use Rattle.graph.proofs.Answers.{Holds, refuses, holds, holds-map, holds-cond, by-bool, and-left, and-right, and-both, test-most}
 use Rattle.graph.proofs.Effects.{Effect, realised, moved, finished, reshaped, further, effect-at, effect-size, by-station}
 use Rattle.graph.proofs.Limits.{each-append, above-lower, rising-above, ValidChange, valid-effect, valid-stored, valid-newNode, valid-addResult}
@@ -74,7 +74,7 @@ local-at k t s g = holds-map _ (λ c h.
       falling = effect-falling h (g .falling);
       stations = x .now;
       topStream = g .topStream;
-      results = each-store (c .gone) (s .results) (x .gone) (g .results);
+      results = each-store (c .newResults) (s .results) (x .newResults) (g .results);
       room = omega (arith, effect-size h, g .room);
     }) (effect-at k t (s .stations))
 
@@ -85,12 +85,12 @@ record Entered (ss : List Station) (c : Change) : Type 0 where
   size : length (c .now) ≡ length ss
 
 entered : (o : Op) (ss : List Station) → ValidOp o → KeysFall ss → Each ValidStation ss → Entered ss (enter o ss)
-entered o [] v f g = record { falling = tt; change = record { now = tt; gone = valid-stored o v }; size = refl }
+entered o [] v f g = record { falling = tt; change = record { now = tt; newResults = valid-stored o v }; size = refl }
 entered o (s ∷ ss) v f g = record {
   falling = f;
   change = record {
     now = (record { node = g .0 .node; units = each-append ValidUnit (s .units) ((o ∷ []) ∷ []) (g .0 .units) (record { some = omega arith; ops = (v, tt) }, tt) }, g .1);
-    gone = tt;
+    newResults = tt;
   };
   size = refl;
 }
@@ -110,7 +110,7 @@ local-admit s (opOf o ∷ cs) v r g =
       falling = x .falling;
       stations = x .change .now;
       topStream = v .1;
-      results = each-store ((enter o (s .stations)) .gone) (s .results) (x .change .gone) (g .results);
+      results = each-store ((enter o (s .stations)) .newResults) (s .results) (x .change .newResults) (g .results);
       room = omega (arith, x .size);
     })
 
@@ -125,10 +125,10 @@ record Stores (s t : Session) : Type 0 where
 
 admit-stores : (s : Session) (cs : List Labelled) → Holds (Stores s) (admitHead s cs)
 admit-stores s [] = refuses
-admit-stores s (c ∷ cs) = holds {a = changed s cs (admitted c (s .stations))} (record { new = (admitted c (s .stations)) .gone; kept = refl; last = refl })
+admit-stores s (c ∷ cs) = holds {a = changed s cs (admitted c (s .stations))} (record { new = (admitted c (s .stations)) .newResults; kept = refl; last = refl })
 
 at-stores : (k : ℕ) (t : Step) (s : Session) → Holds (Stores s) (stepAt k t s)
-at-stores k t s = holds-map _ (λ c h. record { new = c .gone; kept = refl; last = refl }) (effect-at k t (s .stations))
+at-stores k t s = holds-map _ (λ c h. record { new = c .newResults; kept = refl; last = refl }) (effect-at k t (s .stations))
 
 step-stores : (t : Step) (s : Session) → Holds (Stores s) (step t s)
 step-stores t s = by-station (λ t. Stores s) s (admit-stores s (s .topStream)) (λ k t. at-stores k t s) t
@@ -292,24 +292,18 @@ accept-fits c s = holds-unless (callTests c s) (accepted c s) (λ h.
 word : (v : ℕ) (vs : List ℕ) → areWords (v ∷ vs) ≡ true → v < modulus
 word v vs e = ltb-true v modulus (and-left _ _ e)
 
-keys-each : (ts : List ℕ) → areKeys ts ≡ true → Each Key ts
-keys-each [] e = tt
-keys-each (t ∷ ts) e =
-    let k : isKey t ≡ true = and-left _ _ e in
-    ((leb-true 1 t (and-left _ _ k), leb-true t 64 (and-right (leb 1 t) _ k)), keys-each ts (and-right (isKey t) _ e))
-
-valid-operation : (a : Act) (h : ℕ) (ts : List ℕ) (l : ℕ) → ValidAct a → ValidHeld a h → 1 ≤ mostLabels a → Each Key ts → length ts ≤ 8 → rising ts ≡ true → ValidCall (operation a h ts l)
+valid-operation : (a : Act) (h : ℕ) (ts : List ℕ) (l : ℕ) → ValidAct a → ValidHeld a h → 1 ≤ mostLabels a → areKeys ts ≡ true → length ts ≤ 8 → rising ts ≡ true → ValidCall (operation a h ts l)
 valid-operation a h ts l va vh m k f r = record { act = va; held = vh; targets = record { few = f; keys = k; rise = r }; named = omega arith; few = m }
 
 pub valid-labelled : (c : Call) (s : Session) (l : ℕ) → Fits c s → ValidCall (labelled c l)
 valid-labelled (add v) s l f = word v [] (f .words)
-valid-labelled (map a b ts) s l f = valid-operation _ 0 ts l (word a (b ∷ ts) (f .words), word b ts (and-right (ltb a modulus) _ (f .words))) refl (omega arith) (keys-each ts (f .keys)) (f .few) (f .rise)
-valid-labelled (link k ts) s l f = let g = keys-each (k ∷ ts) (f .keys) in valid-operation _ 0 ts l (g .0) (lit≤ tt) (omega arith) (g .1) (f .few) (f .rise)
-valid-labelled (unlink k ts) s l f = let g = keys-each (k ∷ ts) (f .keys) in valid-operation _ 0 ts l (g .0) refl (omega arith) (g .1) (f .few) (f .rise)
-valid-labelled (sum x ts) s l f = valid-operation _ x ts l tt (word x ts (f .words)) (omega arith) (keys-each ts (f .keys)) (f .few) (f .rise)
-valid-labelled (top x ts) s l f = valid-operation _ x ts l tt (word x ts (f .words)) (omega arith) (keys-each ts (f .keys)) (f .few) (f .rise)
-valid-labelled (pick x ts) s l f = valid-operation _ x ts l tt (word x ts (f .words)) (omega arith) (keys-each ts (f .keys)) (f .few) (f .rise)
-valid-labelled (near k x ts) s l f = let g = keys-each (k ∷ ts) (f .keys) in valid-operation _ x ts l (g .0) (word x (k ∷ ts) (f .words)) (omega arith) (g .1) (f .few) (f .rise)
+valid-labelled (map a b ts) s l f = valid-operation _ 0 ts l (word a (b ∷ ts) (f .words), word b ts (and-right (ltb a modulus) _ (f .words))) refl (omega arith) (f .keys) (f .few) (f .rise)
+valid-labelled (link k ts) s l f = valid-operation _ 0 ts l (and-left _ _ (f .keys)) (lit≤ tt) (omega arith) (and-right (isKey k) _ (f .keys)) (f .few) (f .rise)
+valid-labelled (unlink k ts) s l f = valid-operation _ 0 ts l (and-left _ _ (f .keys)) refl (omega arith) (and-right (isKey k) _ (f .keys)) (f .few) (f .rise)
+valid-labelled (sum x ts) s l f = valid-operation _ x ts l tt (word x ts (f .words)) (omega arith) (f .keys) (f .few) (f .rise)
+valid-labelled (top x ts) s l f = valid-operation _ x ts l tt (word x ts (f .words)) (omega arith) (f .keys) (f .few) (f .rise)
+valid-labelled (pick x ts) s l f = valid-operation _ x ts l tt (word x ts (f .words)) (omega arith) (f .keys) (f .few) (f .rise)
+valid-labelled (near k x ts) s l f = valid-operation _ x ts l (and-left _ _ (f .keys)) (word x (k ∷ ts) (f .words)) (omega arith) (and-right (isKey k) _ (f .keys)) (f .few) (f .rise)
 
 -- a call with its label is an add, or an operation with that label alone
 pub data Sort (c : Call) (l : ℕ) : Type 0 where

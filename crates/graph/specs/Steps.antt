@@ -1,6 +1,6 @@
 -- The work steps: document 01, section 'Work steps'. In brackets: the rules of the published CG Calculus, arXiv 1911.10982.
 -- Assumes nothing.
-use Prim.Native.Nat.{ℕ, zero, suc}
+use Prim.Native.Nat.{ℕ, zero, suc, _-_}
 use mathlib.Core.Bool.{Bool, cond, _&&_, _||_}
 use mathlib.Core.List.{List, [], _∷_, _++_}
 use lib.Dec.{eqb, leb, ltb}
@@ -29,13 +29,13 @@ pub data Step : Type 0 where
 -- what a step makes of the stations, from some station on, and the results that it stores
 pub record Change : Type 0 where
   pub now : List Station
-  pub gone : List Result
+  pub newResults : List Result
 
 abbrev pub only : List Station → Change
-only ss = record { now = ss; gone = [] }
+only ss = record { now = ss; newResults = [] }
 
 abbrev pub behind : Station → Change → Change
-behind s c = record { now = s ∷ c .now; gone = c .gone }
+behind s c = record { now = s ∷ c .now; newResults = c .newResults }
 
 -- a step at the station with key k, which sees the stations behind it; 20: "no node with that key"
 abbrev pub at : ℕ → (Station → List Station → Answer Change) → List Station → Answer Change
@@ -58,10 +58,22 @@ firstOp p (o ∷ os) =
     cond (p o) (done (record { before = []; op = o; after = os }))
     (mapDone (λ f. record { before = o ∷ f .before; op = f .op; after = f .after }) (firstOp p os))
 
--- a step on the head unit, which is unit number 1; 21: "no unit of that number"
-abbrev pub onHead : (List Op → List (List Op) → Answer Change) → List (List Op) → Answer Change
-onHead f [] = refused 21
-onHead f (u ∷ us) = f u us
+-- the units from number i on, counted from 1: none where there is no unit of that number
+abbrev pub fromUnit : ℕ → List (List Op) → List (List Op)
+fromUnit zero us = []
+fromUnit (suc i) us = drop i us
+
+-- what f says of the first unit, and of the first two; `short` where there are not as many. The head unit is the first, number 1;
+-- 21: there is none
+module _ {A : Type 0} where
+  abbrev pub firstUnit : A → (List Op → A) → List (List Op) → A
+  firstUnit short f [] = short
+  firstUnit short f (u ∷ us) = f u
+
+  abbrev pub firstTwo : A → (List Op → List Op → A) → List (List Op) → A
+  firstTwo short f [] = short
+  firstTwo short f (u ∷ []) = short
+  firstTwo short f (u ∷ v ∷ us) = f u v
 
 -- REALISE (MAP, FOLD): "in the head unit, the first operation that targets this node acts and strikes the
 -- key. Allowed where there is one."
@@ -69,7 +81,7 @@ abbrev pub afterRealise : Node → List (List Op) → List Station → FirstOp �
 afterRealise n us ss f = only (station (actOn (f .op) n) ((f .before ++ (actBy (f .op) n ∷ f .after)) ∷ us) ∷ ss)
 
 abbrev pub realiseAt : Node → List Station → List (List Op) → Answer Change
-realiseAt n ss = onHead (λ u us. mapDone (afterRealise n us ss) (firstOp (λ o. hits o n) u))
+realiseAt n ss us = mapDone (afterRealise n (drop 1 us) ss) (firstUnit (refused 21) (firstOp (λ o. hits o n)) us)
 
 -- MOVE (PROP): "the head unit goes to the next station's tail. Allowed where no operation in it targets this node and the
 -- station isn't last."
@@ -81,7 +93,7 @@ moveUnit n u us [] = refused 22
 moveUnit n u us (s ∷ ss) = cond (anyHits u n) (refused 22) (done (only (station n us ∷ atTail u s ∷ ss)))
 
 abbrev pub moveAt : Node → List Station → List (List Op) → Answer Change
-moveAt n ss = onHead (λ u us. moveUnit n u us ss)
+moveAt n ss us = firstUnit (refused 21) (λ u. moveUnit n u (drop 1 us) ss) us
 
 -- FINISH (COMPLETE, LAST): "in the head unit, the first operation that has no targets left, or, at the last station,
 -- doesn't target this node, stores its result and goes; allowed where there is one. An emptied unit goes too."
@@ -90,24 +102,18 @@ putUnit [] us = us
 putUnit (o ∷ os) us = (o ∷ os) ∷ us
 
 abbrev pub afterFinish : Node → List (List Op) → List Station → FirstOp → Change
-afterFinish n us ss f = record { now = station n (putUnit (f .before ++ f .after) us) ∷ ss; gone = stored (f .op) }
+afterFinish n us ss f = record { now = station n (putUnit (f .before ++ f .after) us) ∷ ss; newResults = stored (f .op) }
 
 abbrev pub finishAt : Node → List Station → List (List Op) → Answer Change
-finishAt n ss = onHead (λ u us. mapDone (afterFinish n us ss) (firstOp (λ o. mayFinish o n (isNil ss)) u))
+finishAt n ss us = mapDone (afterFinish n (drop 1 us) ss) (firstUnit (refused 21) (firstOp (λ o. mayFinish o n (isNil ss))) us)
 
--- a step on unit number i, and on units i and i + 1; 21: "no unit of that number, or no unit after it where two are needed"
+-- a step on unit number i, and on units i and i + 1: what it makes of them stands in their place, the units before and after stay; 21:
+-- "no unit of that number, or no unit after it where two are needed"
 abbrev pub unitAt : ℕ → (List Op → Answer (List (List Op))) → List (List Op) → Answer (List (List Op))
-unitAt zero f us = refused 21
-unitAt (suc i) f [] = refused 21
-unitAt (suc zero) f (u ∷ us) = mapDone (λ xs. xs ++ us) (f u)
-unitAt (suc (suc i)) f (u ∷ us) = mapDone (λ xs. u ∷ xs) (unitAt (suc i) f us)
+unitAt i f us = mapDone (λ xs. take (i - 1) us ++ (xs ++ drop i us)) (firstUnit (refused 21) f (fromUnit i us))
 
 abbrev pub pairAt : ℕ → (List Op → List Op → Answer (List (List Op))) → List (List Op) → Answer (List (List Op))
-pairAt zero f us = refused 21
-pairAt (suc i) f [] = refused 21
-pairAt (suc zero) f (u ∷ []) = refused 21
-pairAt (suc zero) f (u ∷ v ∷ us) = mapDone (λ xs. xs ++ us) (f u v)
-pairAt (suc (suc i)) f (u ∷ us) = mapDone (λ xs. u ∷ xs) (pairAt (suc i) f us)
+pairAt i f us = mapDone (λ xs. take (i - 1) us ++ (xs ++ drop (suc i) us)) (firstTwo (refused 21) f (fromUnit i us))
 
 -- JOIN (BATCH): "units 1 and 2 become one"
 abbrev pub joinUnits : List Op → List Op → Answer (List (List Op))
@@ -120,13 +126,14 @@ maySplit j u = leb 1 j && ltb j (length u)
 abbrev pub splitUnit : ℕ → List Op → Answer (List (List Op))
 splitUnit j u = cond (maySplit j u) (done (take j u ∷ drop j u ∷ [])) (refused 22)
 
--- steps on "two neighbouring one-operation units"
-abbrev pub onSingles : (Op → Op → Answer (List (List Op))) → List Op → List Op → Answer (List (List Op))
-onSingles f [] v = refused 22
-onSingles f (o ∷ p ∷ os) v = refused 22
-onSingles f (o ∷ []) [] = refused 22
-onSingles f (o ∷ []) (q ∷ r ∷ os) = refused 22
-onSingles f (o ∷ []) (q ∷ []) = f o q
+-- "two neighbouring one-operation units": what f says of their operations; `other` of any other two units
+module _ {A : Type 0} where
+  abbrev pub onSingles : A → (Op → Op → A) → List Op → List Op → A
+  onSingles other f [] v = other
+  onSingles other f (o ∷ p ∷ os) v = other
+  onSingles other f (o ∷ []) [] = other
+  onSingles other f (o ∷ []) (q ∷ r ∷ os) = other
+  onSingles other f (o ∷ []) (q ∷ []) = f o q
 
 -- SWAP (REORDERD, REORDERRR; not REORDERRW): "Allowed where their remaining targets are disjoint or both are folds."
 abbrev pub maySwap : Op → Op → Bool
@@ -152,15 +159,15 @@ onUnits f s ss = mapDone (λ us. only (station (s .node) us ∷ ss)) (f (s .unit
 -- ADMIT (ADD, FIRST, EMPTY): "takes the top stream's head. An add makes its node and stores the result. Another call
 -- becomes a unit of its own at the tail of the first streamlet; with no nodes it finishes, all targets left."
 abbrev pub enter : Op → List Station → Change
-enter o [] = record { now = []; gone = stored o }
+enter o [] = record { now = []; newResults = stored o }
 enter o (s ∷ ss) = only (atTail (o ∷ []) s ∷ ss)
 
 abbrev pub admitted : Labelled → List Station → Change
-admitted (addOf l v) ss = record { now = station (newNode (length ss) v) [] ∷ ss; gone = addResult l (length ss) ∷ [] }
+admitted (addOf l v) ss = record { now = station (newNode (length ss) v) [] ∷ ss; newResults = addResult l (length ss) ∷ [] }
 admitted (opOf o) ss = enter o ss
 
 abbrev pub changed : Session → List Labelled → Change → Session
-changed s cs c = record { stations = c .now; topStream = cs; results = store (c .gone) (s .results); last = s .last }
+changed s cs c = record { stations = c .now; topStream = cs; results = store (c .newResults) (s .results); last = s .last }
 
 -- 21: "no waiting call"
 abbrev pub admitHead : Session → List Labelled → Answer Session
@@ -175,8 +182,8 @@ atStation (move k) s ss = moveAt (s .node) ss (s .units)
 atStation (finish k) s ss = finishAt (s .node) ss (s .units)
 atStation (join k i) s ss = onUnits (pairAt i joinUnits) s ss
 atStation (split k i j) s ss = onUnits (unitAt i (splitUnit j)) s ss
-atStation (swap k i) s ss = onUnits (pairAt i (onSingles swapOps)) s ss
-atStation (fuse k i) s ss = onUnits (pairAt i (onSingles fuseOps)) s ss
+atStation (swap k i) s ss = onUnits (pairAt i (onSingles (refused 22) swapOps)) s ss
+atStation (fuse k i) s ss = onUnits (pairAt i (onSingles (refused 22) fuseOps)) s ss
 
 abbrev pub stepAt : ℕ → Step → Session → Answer Session
 stepAt k t s = mapDone (changed s (s .topStream)) (at k (atStation t) (s .stations))

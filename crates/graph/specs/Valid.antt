@@ -8,8 +8,8 @@ use lib.Dec.{eqb}
 use lib.ListN.{length}
 use Rattle.graph.specs.declared.act.Act.{Act}
 use Rattle.graph.specs.declared.act.Act.the-variants.{Map, Link, Unlink, Sum, Top, Pick, Near}
-use Rattle.graph.specs.Affine.{modulus}
-use Rattle.graph.specs.KeyLists.{rising}
+use Rattle.graph.specs.KeyLists.{isKey, areKeys, rising}
+use Rattle.graph.specs.Words.{modulus}
 use Rattle.graph.specs.Nodes.{Node, Op, Result}
 use Rattle.graph.specs.OneAtATime.{Labelled, addOf, opOf}
 use Rattle.graph.specs.Sessions.{Station, Session, live, addsIn, labelsOfResults}
@@ -19,29 +19,26 @@ module _ {A : Type 0} (P : A → Type 0) where
   Each [] = Unit {0}
   Each (x ∷ xs) = P x × Each xs
 
-abbrev pub Key : ℕ → Type 0
-Key k = (1 ≤ k) × (k ≤ 64)
-
 -- targets and `left`: "0 to 8 keys, strictly rising"
 pub record ValidTargets (ts : List ℕ) : Type 0 where
   pub few : length ts ≤ 8
-  pub keys : Each Key ts
+  pub keys : areKeys ts ≡ true
   pub rise : rising ts ≡ true
 
 -- "A link list holds at most 8 keys, repeats allowed"
 pub record ValidNode (n : Node) : Type 0 where
   pub value : n .value < modulus
   pub few : length (n .links) ≤ 8
-  pub keys : Each Key (n .links)
+  pub keys : areKeys (n .links) ≡ true
 
 abbrev pub ValidAct : Act → Type 0
 ValidAct (Map m) = (m .a < modulus) × (m .b < modulus)
-ValidAct (Link k) = Key k
-ValidAct (Unlink k) = Key k
+ValidAct (Link k) = isKey k ≡ true
+ValidAct (Unlink k) = isKey k ≡ true
 ValidAct Sum = Unit {0}
 ValidAct Top = Unit {0}
 ValidAct Pick = Unit {0}
-ValidAct (Near k) = Key k
+ValidAct (Near k) = isKey k ≡ true
 
 -- a held value is any 32-bit number; map and unlink hold none, so theirs is zero
 abbrev pub ValidHeld : Act → ℕ → Type 0

@@ -12,16 +12,17 @@ use Rattle.graph.specs.declared.task.Task.{Task}
 use Rattle.graph.specs.Refusals.{Answer, refused, done, andThen}
 use Rattle.graph.specs.Steps.{move}
 use Rattle.graph.proofs.Answers.{and-left, and-right, Holds, refuses, holds, holds-cond, holds-at}
-use Rattle.queue.specs.Flat.{Flat, isOp, isAt}
-use Rattle.worksteps.specs.FlatSteps.{firstIn, mapFrom, noOp, moveTo, withQueue, hitsKey, ruleHolds, headUnit, onFirstOp, moveFlat, known, atKey, flatStep}
-use Rattle.worksteps.proofs.Turns.{any-first}
-use Rattle.state.specs.State.{held}
-use Rattle.live.specs.Live.{Live}
-use Rattle.units.specs.declared.Spot.{Spot}
-use Rattle.units.specs.Numbered.{Span, locate, spotted}
-use Rattle.units.proofs.Located.{at-within, end-within, head-located, Stands, located-stands, stands, spanOf, spot-yes, then-no, then-yes}
+use Rattle.flat.specs.Flat.{Flat}
+use Rattle.graph.specs.OneAtATime.{isOp}
+use Rattle.flat.specs.Inner.Queues.{isAt}
+use Rattle.flat.specs.Inner.FlatSteps.{firstIn, mapFrom, noOp, moveTo, withQueue, hitsKey, ruleHolds, headUnit, onFirstOp, moveFlat, known, atKey, flatStep}
+use Rattle.flat.proofs.Turns.{any-first}
+use Rattle.state.specs.Inner.State.{flatIn}
+use Rattle.state.specs.Inner.ValidImage.{ValidImage}
+use Rattle.units.specs.Inner.Numbered.{Span, locate}
+use Rattle.units.proofs.Located.{at-within, end-within, head-located, Stands, located-stands, stands}
 use Rattle.units.proofs.Standing.{op-at, unit-place}
-use Rattle.headsteps.specs.Heads.{foundBefore, firstFor, locateFirst}
+use Rattle.headsteps.specs.Inner.Heads.{NoAdds, foundBefore, firstFor, locateFirst}
 
 -- KEYS
 pub record InNodes (k : ℕ) (f : Flat) : Type 0 where
@@ -50,20 +51,26 @@ module _ (t : Task) (k : ℕ) (f : Flat) where
           let p = firstIn (ruleHolds t k) (s .start) (s .end) (f .queue) in
           at (s .end) p (ltb p (s .end))
 
-  module _ (u : Spot) (e : locateFirst t k f ≡ spotted u) (g : ℕ → ℕ → Flat → Flat) where
-    pub first-no : (u .refusal ≡ 0 → ⊥) → atKey k (headUnit k (onFirstOp (ruleHolds t k) g)) f ≡ refused (u .refusal)
-    first-no n = first-located g ∙ then-no u e _ n
+  module _ (g : ℕ → ℕ → Flat → Flat) where
+    pub first-no : {n : ℕ} → locateFirst t k f ≡ refused n → atKey k (headUnit k (onFirstOp (ruleHolds t k) g)) f ≡ refused n
+    first-no e = first-located g ∙ ap (λ (y : Answer Span). andThen y (λ s. done (g (s .start) (s .end) f))) e
 
-    pub first-yes : u .refusal ≡ 0 → atKey k (headUnit k (onFirstOp (ruleHolds t k) g)) f ≡ done (g (u .start) (u .end) f)
-    first-yes z = first-located g ∙ then-yes u e _ z
+    pub first-yes : {u : Span} → locateFirst t k f ≡ done u → atKey k (headUnit k (onFirstOp (ruleHolds t k) g)) f ≡ done (g (u .start) (u .end) f)
+    first-yes e = first-located g ∙ ap (λ (y : Answer Span). andThen y (λ s. done (g (s .start) (s .end) f))) e
+
+  pub first-none : {n : ℕ} → locate k 1 f ≡ refused n → locateFirst t k f ≡ refused n
+  first-none e = ap (λ (y : Answer Span). andThen y (firstFor t k (f .queue))) e
 
   -- p is what the search gave
-  module _ (u : Spot) (e : locate k 1 f ≡ spotted u) (z : u .refusal ≡ 0) (p : ℕ) (is : p ≡ firstIn (ruleHolds t k) (u .start) (u .end) (f .queue)) where
+  module _ (u : Span) (e : locate k 1 f ≡ done u) (p : ℕ) (is : p ≡ firstIn (ruleHolds t k) (u .start) (u .end) (f .queue)) where
+    found-by : locateFirst t k f ≡ foundBefore (u .end) p
+    found-by = ap (λ (y : Answer Span). andThen y (firstFor t k (f .queue))) e ∙ ap (foundBefore (u .end)) (sym is)
+
     pub first-past : u .end ≤ p → locateFirst t k f ≡ refused 22
-    first-past h = then-yes u e _ z ∙ ap (foundBefore (u .end)) (sym is) ∙ rw (le-ltb p (u .end) h)
+    first-past h = found-by ∙ rw (le-ltb p (u .end) h)
 
     pub first-inside : p < u .end → locateFirst t k f ≡ done (record { start = p; end = u .end })
-    first-inside h = then-yes u e _ z ∙ ap (foundBefore (u .end)) (sym is) ∙ rw (lt-ltb p (u .end) h)
+    first-inside h = found-by ∙ rw (lt-ltb p (u .end) h)
 
   -- what is known of the one that was found
   record Found (s : Span) : Type 0 where
@@ -91,23 +98,29 @@ module _ (t : Task) (k : ℕ) (f : Flat) where
           }))
           (λ b. refuses)
 
-pub record FoundOp (image : List ℕ) (k : ℕ) (u : Spot) : Type 0 where
-  pub node : known k (held image) ≡ true
+pub record FoundOp (image : List ℕ) (k : ℕ) (u : Span) : Type 0 where
+  pub node : known k (flatIn image) ≡ true
   pub inside : u .start < u .end
-  pub fits : u .end ≤ length (held image .queue)
-  pub op : isOp ((getD (held image .queue) (u .start) noOp) .call) ≡ true
+  pub fits : u .end ≤ length (flatIn image .queue)
+  pub op : isOp ((getD (flatIn image .queue) (u .start) noOp) .call) ≡ true
 
-pub found-op : (image : List ℕ) → Live image → (t : Task) (k : ℕ) (u : Spot) → locateFirst t k (held image) ≡ spotted u → u .refusal ≡ 0 → FoundOp image k u
-found-op image live t k u e z =
-    let w : Found t k (held image) (spanOf u) = holds-at (rw (spot-yes u e z) at (found-there t k (held image))) in
-    record { node = w .node; inside = w .inside; fits = w .fits; op = op-at image live k (u .start) (w .node) (w .at) }
+pub found-op : (image : List ℕ) → ValidImage image → (t : Task) (k : ℕ) (u : Span) → locateFirst t k (flatIn image) ≡ done u → FoundOp image k u
+found-op image holds-valid t k u e =
+    let w : Found t k (flatIn image) u = holds-at (rw e at (found-there t k (flatIn image))) in
+    record { node = w .node; inside = w .inside; fits = w .fits; op = op-at image holds-valid k (u .start) (w .node) (w .at) }
+
+-- the head unit has no add
+pub head-ops : (image : List ℕ) → ValidImage image → (k : ℕ) (u : Span) → locate k 1 (flatIn image) ≡ done u → NoAdds (u .start) (u .end) (flatIn image .queue)
+head-ops image holds-valid k u e i lo hi =
+    let w = stands k 1 (flatIn image) u e in
+    op-at image holds-valid k i (w .node) (unit-place k (flatIn image .queue) (u .start) i (w .first) lo (omega (arith, w .size)))
 
 -- MOVE
-module _ (k : ℕ) (f : Flat) (u : Spot) (e : locate k 1 f ≡ spotted u) where
-  pub move-none : (u .refusal ≡ 0 → ⊥) → flatStep (move k) f ≡ refused (u .refusal)
-  move-none n = head-located k f (moveFlat k) ∙ then-no u e _ n
+module _ (k : ℕ) (f : Flat) where
+  pub move-none : {n : ℕ} → locate k 1 f ≡ refused n → flatStep (move k) f ≡ refused n
+  move-none e = head-located k f (moveFlat k) ∙ ap (λ (y : Answer Span). andThen y (λ s. moveFlat k (s .start) (s .end) f)) e
 
-  module _ (z : u .refusal ≡ 0) where
+  module _ (u : Span) (e : locate k 1 f ≡ done u) where
     -- what is known of the head unit
     pub record Head : Type 0 where
       pub low : 1 ≤ k
@@ -116,11 +129,11 @@ module _ (k : ℕ) (f : Flat) (u : Spot) (e : locate k 1 f ≡ spotted u) where
 
     pub head : Head
     head =
-        let w = stands k 1 f (spanOf u) (spot-yes u e z) in
+        let w = stands k 1 f u e in
         record { low = in-nodes k f (w .node) .low; before = omega (arith, w .size); fits = omega (arith, w .size, end-within k (f .queue) (u .start) (at-within k (f .queue) (u .start) (w .first))) }
 
     move-is : flatStep (move k) f ≡ moveFlat k (u .start) (u .end) f
-    move-is = head-located k f (moveFlat k) ∙ then-yes u e _ z
+    move-is = head-located k f (moveFlat k) ∙ ap (λ (y : Answer Span). andThen y (λ s. moveFlat k (s .start) (s .end) f)) e
 
     pub move-last : k ≡ 1 → flatStep (move k) f ≡ refused 22
     move-last one = move-is ∙ rw (eq-eqb k 1 one)

@@ -4,7 +4,7 @@ use mathlib.Core.Path.{_≡_, refl, sym, _∙_, ap, subst}
 use Prim.Native.Nat.{ℕ, suc, _+_, _-_, _≤_, _<_}
 use native.Mathlib.Numerals.{add-one}
 use native.Mathlib.Omega.{arith}
-use mathlib.Core.Bool.{Bool, true, false, cond}
+use mathlib.Core.Bool.{Bool, true, false, cond, true≢false}
 use mathlib.Core.List.{List, [], _++_, map}
 use lib.Dec.{eqb, ltb}
 use lib.ListN.{length, take, drop, getD, set, length-append, length-map, length-drop}
@@ -14,34 +14,46 @@ use Rattle.graph.specs.declared.act.Act.{Act}
 use Rattle.graph.specs.declared.keys.Keys.{Keys}
 use Rattle.graph.specs.declared.task.Task.{Task}
 use Rattle.graph.specs.declared.task.Task.the-variants.{Acts, Finishes, Passes}
-use Rattle.graph.specs.Lists.{removeAt}
 use Rattle.graph.specs.Acts.{isMap, newValue, newLinks, newHeld, answer}
-use Rattle.graph.specs.Nodes.{Node, Op, Result, actOn, actBy, resultsFor, stored}
-use Rattle.graph.specs.Tasks.{sameTask}
-use Rattle.graph.specs.OneAtATime.{opOf}
+use Rattle.graph.specs.Nodes.{Node, Result, actOn, actBy, resultsFor, stored}
+use Rattle.graph.specs.Tasks.{taskRule, sameTask}
+use Rattle.graph.specs.OneAtATime.{Labelled, addOf, opOf, isOp}
 use Rattle.graph.specs.Packed.{listed, packed}
 use Rattle.graph.specs.Sessions.{Session, store}
 use Rattle.graph.proofs.AffineLaws.{map-of}
 use Rattle.graph.proofs.KeyLaws.{listed-packed}
 use Rattle.graph.proofs.Tasks.{acts-exactly, finishes-exactly, passes-exactly}
-use Rattle.queue.specs.Flat.{Tagged, Flat, flat, nest, carried, labelsIn}
-use Rattle.worksteps.specs.FlatSteps.{alter, mapFrom, firstIn, noOp, noNode, openAs, withOp, withQueue, opIn, taskAt, ruleHolds, actAt, takeOut, finishPlace, handOn}
-use Rattle.worksteps.proofs.Turns.{first-stop, first-next, first-end, alter-length, mapFrom-none, mapFrom-next}
-use Rattle.worksteps.proofs.Facts.{labels-room}
-use Rattle.valid.specs.Values.{labelsOf}
+use Rattle.flat.specs.Flat.{Tagged, Flat, flat}
+use Rattle.flat.specs.Inner.Nested.{nest, ofOp}
+use Rattle.flat.specs.Inner.Queues.{labelsIn, removeAt}
+use Rattle.flat.specs.Inner.FlatSteps.{alter, mapFrom, firstIn, noOp, noNode, openAs, withOp, withQueue, taskAt, ruleHolds, actAt, takeOut, finishPlace, handOn}
+use Rattle.flat.proofs.Turns.{first-stop, first-next, first-end, alter-length, mapFrom-none, mapFrom-next}
+use Rattle.flat.proofs.Facts.{labels-room}
+use Rattle.valid.specs.Inner.Decoded.{labelsOf}
 use Rattle.state.specs.declared.nodes.Body.{Body}
 use Rattle.state.specs.declared.operation.Operation.{Operation}
-use Rattle.state.specs.Operations.{opValue, Carries, Bounded}
-use Rattle.state.specs.Results.{IsBody, nodeWith}
-use Rattle.state.specs.State.{held, Proper, Shows, withNodes, withResults}
-use Rattle.live.specs.Live.{Live}
-use Rattle.headsteps.specs.Heads.{bodyValue}
+use Rattle.state.specs.Inner.Operations.{opValue, Carries, Bounded}
+use Rattle.state.specs.Inner.Results.{IsBody, nodeWith}
+use Rattle.state.specs.Inner.State.{flatIn, Proper, Shows, withNodes, withResults}
+use Rattle.state.specs.Inner.ValidImage.{ValidImage}
+use Rattle.headsteps.specs.Inner.Heads.{bodyValue}
 
 -- WHICH TASK RULE HOLDS
 rule-holds : (t : Task) (k : ℕ) (x : Tagged) → sameTask t (taskAt k x) ≡ ruleHolds t k x
-rule-holds Acts k x = acts-exactly (opIn x) (record { key = k; value = 0; links = [] }) (eqb k 1)
-rule-holds Finishes k x = finishes-exactly (opIn x) (record { key = k; value = 0; links = [] }) (eqb k 1)
-rule-holds Passes k x = passes-exactly (opIn x) (record { key = k; value = 0; links = [] }) (eqb k 1)
+rule-holds t k x = go t (x .call)
+  where
+    go : (t : Task) (w : Labelled) → sameTask t (taskAt k (record { place = x .place; opens = x .opens; call = w })) ≡ ruleHolds t k (record { place = x .place; opens = x .opens; call = w })
+    go Acts (addOf l v) = refl
+    go Finishes (addOf l v) = refl
+    go Passes (addOf l v) = refl
+    go Acts (opOf o) = acts-exactly o (record { key = k; value = 0; links = [] }) (eqb k 1)
+    go Finishes (opOf o) = finishes-exactly o (record { key = k; value = 0; links = [] }) (eqb k 1)
+    go Passes (opOf o) = passes-exactly o (record { key = k; value = 0; links = [] }) (eqb k 1)
+
+-- an operation's rule is by its targets
+pub rule-of : (k : ℕ) (w : Labelled) → isOp w ≡ true → taskRule (ofOp [] (λ o. o .targets) w) k (eqb k 1) ≡ ofOp Passes (λ o. taskRule (o .targets) k (eqb k 1)) w
+rule-of k (addOf l v) e = absurd (true≢false (sym e))
+rule-of k (opOf o) e = refl
 
 pub rule-told : (t : Task) (k : ℕ) (x : Tagged) (found : Task) (b : Bool) → found ≡ taskAt k x → b ≡ sameTask t found → ruleHolds t k x ≡ b
 rule-told t k x found b at same = sym (same ∙ ap (sameTask t) at ∙ rule-holds t k x)
@@ -80,36 +92,36 @@ module _ (f : Flat) (k p : ℕ) (o : Operation) (b : Body) (carries : Carries ((
   pub act-shown : (v : ℕ) (ls : Keys) (a : Operation) (t u : List ℕ) → v ≡ newValue (o .act) (b .value) → ls ≡ packed (newLinks (o .act) (listed (b .links)))
       → Shows (withNodes f (set (f .nodes) (k - 1) (nodeWith (getD (f .nodes) (k - 1) noNode) v (listed ls)))) t
       → Carries (opOf (actBy (opValue o) (bodyValue b))) a
-      → Shows (withQueue (held t) (set (held t .queue) p (withOp (getD (held t .queue) p noOp) (opValue a)))) u
+      → Shows (withQueue (flatIn t) (set (flatIn t .queue) p (withOp (getD (flatIn t .queue) p noOp) (opValue a)))) u
       → Shows (actAt k p (getD (f .queue) p noOp) (getD (f .nodes) (k - 1) noNode) f) u
   act-shown v ls a t u ve le first acted second =
       let x : Tagged = getD (f .queue) p noOp in
       let n : Node = getD (f .nodes) (k - 1) noNode in
-      let op : opValue o ≡ opIn x = sym (ap carried (carries .is)) in
-      let node : nodeWith n v (listed ls) ≡ actOn (opIn x) n = node-acted n b body (o .act) v ls ve le ∙ ap (λ (y : Op). actOn y n) op in
-      let call : opValue a ≡ actBy (opIn x) n = sym (ap carried (acted .is)) ∙ ap (actBy (opValue o)) (body-is n b body) ∙ ap (λ (y : Op). actBy y n) op in
+      let node : nodeWith n v (listed ls) ≡ actOn (opValue o) n = node-acted n b body (o .act) v ls ve le in
+      let call : opValue a ≡ actBy (opValue o) n = sym (ap (ofOp (opValue a) (λ q. q)) (acted .is)) ∙ ap (actBy (opValue o)) (body-is n b body) in
       subst (λ (g : Flat). Shows g u)
-      (λ i. record { nodes = set (f .nodes) (k - 1) (node i); queue = set (f .queue) p (withOp x (call i)); results = f .results; last = f .last })
+      ((λ i. record { nodes = set (f .nodes) (k - 1) (node i); queue = set (f .queue) p (withOp x (call i)); results = f .results; last = f .last })
+      ∙ (λ i. actAt k p (record { place = x .place; opens = x .opens; call = sym (carries .is) i }) n f))
       (subst (λ (g : Flat). Shows (withQueue g (set (g .queue) p (withOp (getD (g .queue) p noOp) (opValue a)))) u) (first .shows) second)
 
 -- new nodes leave the queue as it was
-pub still-queued : (f : Flat) (ns : List Node) (t : List ℕ) (p : ℕ) → Shows (withNodes f ns) t → p < length (f .queue) → p < length (held t .queue)
+pub still-queued : (f : Flat) (ns : List Node) (t : List ℕ) (p : ℕ) → Shows (withNodes f ns) t → p < length (f .queue) → p < length (flatIn t .queue)
 still-queued f ns t p first h = subst (λ (g : Flat). p < length (g .queue)) (sym (first .shows)) h
 
 -- A MOVE from h, which is at j: t is the image by then
 abbrev pub Moved : List ℕ → (Tagged → Tagged) → ℕ → ℕ → List ℕ → Type 0
-Moved s f h j t = Shows (withQueue (held s) (mapFrom f h j (held s .queue))) t
+Moved s f h j t = Shows (withQueue (flatIn s) (mapFrom f h j (flatIn s .queue))) t
 
 module _ (s : List ℕ) (f : Tagged → Tagged) (h : ℕ) where
   pub moved-none : Proper s → Moved s f h h s
-  moved-none proper = record { proper = proper; shows = ap (withQueue (held s)) (sym (mapFrom-none f h (held s .queue))) }
+  moved-none proper = record { proper = proper; shows = ap (withQueue (flatIn s)) (sym (mapFrom-none f h (flatIn s .queue))) }
 
-  module _ (j : ℕ) (t : List ℕ) (low : h ≤ j) (inside : j < length (held s .queue)) (so : Moved s f h j t) where
-    pub moved-in : j < length (held t .queue)
+  module _ (j : ℕ) (t : List ℕ) (low : h ≤ j) (inside : j < length (flatIn s .queue)) (so : Moved s f h j t) where
+    pub moved-in : j < length (flatIn t .queue)
     moved-in =
-        let q : List Tagged = held s .queue in
+        let q : List Tagged = flatIn s .queue in
         let m : List Tagged = map f (slice h j q) in
-        let e : length (held t .queue) ≡ length (take h q ++ (m ++ drop j q)) = ap (λ (g : Flat). length (g .queue)) (so .shows) in
+        let e : length (flatIn t .queue) ≡ length (take h q ++ (m ++ drop j q)) = ap (λ (g : Flat). length (g .queue)) (so .shows) in
         omega (
           arith,
           e,
@@ -121,10 +133,10 @@ module _ (s : List ℕ) (f : Tagged → Tagged) (h : ℕ) where
           length-drop j q,
         )
 
-    pub moved-next : (u : List ℕ) → Shows (withQueue (held t) (alter j f (held t .queue))) u → Moved s f h (j + 1) u
+    pub moved-next : (u : List ℕ) → Shows (withQueue (flatIn t) (alter j f (flatIn t .queue))) u → Moved s f h (j + 1) u
     moved-next u w =
-        let q : List Tagged = held s .queue in
-        subst (λ (l : List Tagged). Shows (withQueue (held s) l) u) (mapFrom-next f h j q noOp low inside ∙ ap (λ (m : ℕ). mapFrom f h m q) (sym (add-one j)))
+        let q : List Tagged = flatIn s .queue in
+        subst (λ (l : List Tagged). Shows (withQueue (flatIn s) l) u) (mapFrom-next f h j q noOp low inside ∙ ap (λ (m : ℕ). mapFrom f h m q) (sym (add-one j)))
         (subst (λ (g : Flat). Shows (withQueue g (alter j f (g .queue))) u) (so .shows) w)
 
 -- A FINISH
@@ -144,27 +156,27 @@ module _ (p e : ℕ) (x : Tagged) (q : List Tagged) where
 
 -- the mark is handed on first, and then the operation goes
 pub taken-shown : (f : Flat) (p e : ℕ) (t u : List ℕ) → Shows (withQueue f (handOn p e (getD (f .queue) p noOp) (f .queue))) t
-    → Shows (withQueue (held t) (removeAt p (held t .queue))) u → Shows (withQueue f (takeOut p e (getD (f .queue) p noOp) (f .queue))) u
+    → Shows (withQueue (flatIn t) (removeAt p (flatIn t .queue))) u → Shows (withQueue f (takeOut p e (getD (f .queue) p noOp) (f .queue))) u
 taken-shown f p e t u first second = subst (λ (g : Flat). Shows (withQueue g (removeAt p (g .queue))) u) (first .shows) second
 
 -- the labels of an operation have room among the results
-pub room-for : (image : List ℕ) (p : ℕ) (o : Operation) → Live image → p < length (held image .queue) → Carries ((getD (held image .queue) p noOp) .call) o
-    → length (held image .results) + length (labelsOf (o .labels)) ≤ 64
-room-for image p o live h carries =
-    let s : Session = nest (held image) in
-    let within : p < length (flat s .queue) = subst (λ (f : Flat). p < length (f .queue)) (sym (live .flat)) h in
-    subst (λ (l : List ℕ). length (held image .results) + length l ≤ 64)
-    (ap (λ (f : Flat). labelsIn ((getD (f .queue) p noOp) .call)) (live .flat) ∙ ap labelsIn (carries .is))
-    (labels-room s (live .valid) p within)
+pub room-for : (image : List ℕ) (p : ℕ) (o : Operation) → ValidImage image → p < length (flatIn image .queue) → Carries ((getD (flatIn image .queue) p noOp) .call) o
+    → length (flatIn image .results) + length (labelsOf (o .labels)) ≤ 64
+room-for image p o holds-valid h carries =
+    let s : Session = nest (flatIn image) in
+    let within : p < length (flat s .queue) = subst (λ (f : Flat). p < length (f .queue)) (sym (holds-valid .flat)) h in
+    subst (λ (l : List ℕ). length (flatIn image .results) + length l ≤ 64)
+    (ap (λ (f : Flat). labelsIn ((getD (f .queue) p noOp) .call)) (holds-valid .flat) ∙ ap labelsIn (carries .is))
+    (labels-room s (holds-valid .valid) p within)
 
 -- the operation is taken out first, and then its results are stored
 pub finish-shown : (f : Flat) (p e : ℕ) (o : Operation) (v : ℕ) (t u : List ℕ) → Carries ((getD (f .queue) p noOp) .call) o → v ≡ answer (o .act) (o .held)
     → Shows (withQueue f (takeOut p e (getD (f .queue) p noOp) (f .queue))) t
-    → Shows (withResults (held t) (store (resultsFor (labelsOf (o .labels)) v (listed (o .targets))) (held t .results))) u
+    → Shows (withResults (flatIn t) (store (resultsFor (labelsOf (o .labels)) v (listed (o .targets))) (flatIn t .results))) u
     → Shows (finishPlace p e (getD (f .queue) p noOp) f) u
 finish-shown f p e o v t u carries ve first second =
     let x : Tagged = getD (f .queue) p noOp in
-    let gone : resultsFor (labelsOf (o .labels)) v (listed (o .targets)) ≡ stored (opIn x) =
-    ap (λ (w : ℕ). resultsFor (labelsOf (o .labels)) w (listed (o .targets))) ve ∙ ap stored (sym (ap carried (carries .is))) in
+    let gone : resultsFor (labelsOf (o .labels)) v (listed (o .targets)) ≡ ofOp [] stored (x .call) =
+    ap (λ (w : ℕ). resultsFor (labelsOf (o .labels)) w (listed (o .targets))) ve ∙ ap (ofOp [] stored) (sym (carries .is)) in
     subst (λ (rs : List Result). Shows (record { nodes = f .nodes; queue = takeOut p e x (f .queue); results = store rs (f .results); last = f .last }) u) gone
     (subst (λ (g : Flat). Shows (withResults g (store (resultsFor (labelsOf (o .labels)) v (listed (o .targets))) (g .results))) u) (first .shows) second)

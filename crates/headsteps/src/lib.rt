@@ -8,27 +8,25 @@ use state::operation::Operation;
 use state::ops;
 use state::results;
 use units::Spot;
-use units::refuse;
 use units::unit_at;
 ghost use mathlib.Core.Path.{_≡_};
 ghost use mathlib.Core.Bool.{true};
 ghost use Prim.Native.Nat.{_-_, _≤_, _<_};
 ghost use lib.ListN.{length, getD};
 ghost use Rattle.graph.specs.Nodes.{actBy};
-ghost use Rattle.graph.specs.OneAtATime.{opOf};
+ghost use Rattle.graph.specs.OneAtATime.{opOf, isOp};
 ghost use Rattle.graph.specs.Steps.{realise, move, finish};
-ghost use Rattle.queue.specs.Flat.{isOp};
-ghost use Rattle.worksteps.specs.FlatSteps.{noOp, noNode, moveTo, mapFrom, firstIn, withQueue, taskAt, ruleHolds, actAt, takeOut, finishPlace, known, flatStep, handOn};
-ghost use Rattle.state.specs.Operations.{opValue, Normal, Carries, Bounded};
-ghost use Rattle.state.specs.State.{held, Proper, Shows};
-ghost use Rattle.live.specs.Live.{Live, Works};
-ghost use Rattle.units.specs.Numbered.{spotted};
-ghost use Rattle.headsteps.specs.Heads.{bodyValue, locateFirst};
+ghost use Rattle.flat.specs.Inner.FlatSteps.{noOp, noNode, moveTo, mapFrom, firstIn, withQueue, taskAt, ruleHolds, actAt, takeOut, finishPlace, known, flatStep, handOn};
+ghost use Rattle.state.specs.Inner.Operations.{opValue, Normal, Carries, Bounded};
+ghost use Rattle.state.specs.Inner.State.{flatIn, Proper, Shows};
+ghost use Rattle.state.specs.Inner.ValidImage.{ValidImage, Works};
+ghost use Rattle.units.specs.Inner.Numbered.{spotted};
+ghost use Rattle.headsteps.specs.Inner.Heads.{bodyValue, NoAdds, locateFirst};
 
 // The task rule that holds for the operation at i, at the station with key k.
 fn task_at(image: &[u8], k: u8, i: usize) -> Task
-    requires { ⌜ (Proper (now image)) × (i < length (held (now image) .queue)) ⌝ }
-    ensures { λ r. ⌜ r ≡ taskAt k (getD (held (now (image .entry)) .queue) i noOp) ⌝ }
+    requires { ⌜ (Proper (now image)) × (i < length (flatIn (now image) .queue)) × (isOp ((getD (flatIn (now image) .queue) i noOp) .call) ≡ true) ⌝ }
+    ensures { λ r. ⌜ r ≡ taskAt k (getD (flatIn (now (image .entry)) .queue) i noOp) ⌝ }
 {
     let targets = ops::targets_at(image, i);
     task_of(targets, k, k == 1)
@@ -36,8 +34,8 @@ fn task_at(image: &[u8], k: u8, i: usize) -> Task
 
 // The first operation from h up to e that this task rule holds for, at the station with key k; e where there is none.
 pub fn first_for(image: &[u8], task: Task, k: u8, h: usize, e: usize) -> usize
-    requires { ⌜ (Proper (now image)) × (h ≤ e) × (e ≤ length (held (now image) .queue)) ⌝ }
-    ensures { λ r. ⌜ Bounded (firstIn (ruleHolds task k) h e (held (now (image .entry)) .queue)) e r ⌝ }
+    requires { ⌜ (Proper (now image)) × (h ≤ e) × (e ≤ length (flatIn (now image) .queue)) × (NoAdds h e (flatIn (now image) .queue)) ⌝ }
+    ensures { λ r. ⌜ Bounded (firstIn (ruleHolds task k) h e (flatIn (now (image .entry)) .queue)) e r ⌝ }
 {
     let mut i = h;
     while i < e {
@@ -69,8 +67,8 @@ fn acted(o: Operation, n: Body) -> Operation
 
 // The operation at p acts at the node with key k, and strikes that node's key.
 pub fn act_at(image: &mut [u8], k: u8, p: usize)
-    requires { ⌜ (Proper (now image)) × (known k (held (now image)) ≡ true) × (p < length (held (now image) .queue)) × (isOp ((getD (held (now image) .queue) p noOp) .call) ≡ true) ⌝ }
-    ensures { λ _. ⌜ Shows (actAt k p (getD (held (now (image .entry)) .queue) p noOp) (getD (held (now (image .entry)) .nodes) (k - 1) noNode) (held (now (image .entry)))) (now (image .exit)) ⌝ }
+    requires { ⌜ (Proper (now image)) × (known k (flatIn (now image)) ≡ true) × (p < length (flatIn (now image) .queue)) × (isOp ((getD (flatIn (now image) .queue) p noOp) .call) ≡ true) ⌝ }
+    ensures { λ _. ⌜ Shows (actAt k p (getD (flatIn (now (image .entry)) .queue) p noOp) (getD (flatIn (now (image .entry)) .nodes) (k - 1) noNode) (flatIn (now (image .entry)))) (now (image .exit)) ⌝ }
 {
     let i = (k - 1) as usize;
     let o = ops::operation_at(image, p);
@@ -86,8 +84,8 @@ pub fn act_at(image: &mut [u8], k: u8, p: usize)
 
 // The unit from h up to e goes to the next station's tail: in the queue only its place changes.
 pub fn move_unit(image: &mut [u8], k: u8, h: usize, e: usize)
-    requires { ⌜ (Proper (now image)) × (1 ≤ k) × (h ≤ e) × (e ≤ length (held (now image) .queue)) ⌝ }
-    ensures { λ _. ⌜ Shows (withQueue (held (now (image .entry))) (mapFrom (moveTo (k - 1)) h e (held (now (image .entry)) .queue))) (now (image .exit)) ⌝ }
+    requires { ⌜ (Proper (now image)) × (1 ≤ k) × (h ≤ e) × (e ≤ length (flatIn (now image) .queue)) ⌝ }
+    ensures { λ _. ⌜ Shows (withQueue (flatIn (now (image .entry))) (mapFrom (moveTo (k - 1)) h e (flatIn (now (image .entry)) .queue))) (now (image .exit)) ⌝ }
 {
     let next = k - 1;
     let mut i = h;
@@ -99,8 +97,8 @@ pub fn move_unit(image: &mut [u8], k: u8, h: usize, e: usize)
 
 // The mark of the operation at p goes to the next of its unit, which ends at e.
 fn hand_on(image: &mut [u8], p: usize, e: usize)
-    requires { ⌜ (Proper (now image)) × (p < e) × (e ≤ length (held (now image) .queue)) ⌝ }
-    ensures { λ _. ⌜ Shows (withQueue (held (now (image .entry))) (handOn p e (getD (held (now (image .entry)) .queue) p noOp) (held (now (image .entry)) .queue))) (now (image .exit)) ⌝ }
+    requires { ⌜ (Proper (now image)) × (p < e) × (e ≤ length (flatIn (now image) .queue)) ⌝ }
+    ensures { λ _. ⌜ Shows (withQueue (flatIn (now (image .entry))) (handOn p e (getD (flatIn (now (image .entry)) .queue) p noOp) (flatIn (now (image .entry)) .queue))) (now (image .exit)) ⌝ }
 {
     let next = p + 1;
     if e <= next {
@@ -112,8 +110,8 @@ fn hand_on(image: &mut [u8], p: usize, e: usize)
 
 // The operation at p, of a unit that ends at e, leaves the queue.
 fn take_out(image: &mut [u8], p: usize, e: usize)
-    requires { ⌜ (Proper (now image)) × (p < e) × (e ≤ length (held (now image) .queue)) ⌝ }
-    ensures { λ _. ⌜ Shows (withQueue (held (now (image .entry))) (takeOut p e (getD (held (now (image .entry)) .queue) p noOp) (held (now (image .entry)) .queue))) (now (image .exit)) ⌝ }
+    requires { ⌜ (Proper (now image)) × (p < e) × (e ≤ length (flatIn (now image) .queue)) ⌝ }
+    ensures { λ _. ⌜ Shows (withQueue (flatIn (now (image .entry))) (takeOut p e (getD (flatIn (now (image .entry)) .queue) p noOp) (flatIn (now (image .entry)) .queue))) (now (image .exit)) ⌝ }
 {
     hand_on(image, p, e);
     ops::remove(image, p);
@@ -121,8 +119,8 @@ fn take_out(image: &mut [u8], p: usize, e: usize)
 
 // The operation at p, of a unit that ends at e, leaves the queue and stores its results.
 pub fn finish_at(image: &mut [u8], p: usize, e: usize)
-    requires { ⌜ (Live (now image)) × (p < e) × (e ≤ length (held (now image) .queue)) × (isOp ((getD (held (now image) .queue) p noOp) .call) ≡ true) ⌝ }
-    ensures { λ _. ⌜ Shows (finishPlace p e (getD (held (now (image .entry)) .queue) p noOp) (held (now (image .entry)))) (now (image .exit)) ⌝ }
+    requires { ⌜ (ValidImage (now image)) × (p < e) × (e ≤ length (flatIn (now image) .queue)) × (isOp ((getD (flatIn (now image) .queue) p noOp) .call) ≡ true) ⌝ }
+    ensures { λ _. ⌜ Shows (finishPlace p e (getD (flatIn (now (image .entry)) .queue) p noOp) (flatIn (now (image .entry)))) (now (image .exit)) ⌝ }
 {
     let o = ops::operation_at(image, p);
     take_out(image, p, e);
@@ -135,66 +133,65 @@ pub fn finish_at(image: &mut [u8], p: usize, e: usize)
 
 // In the head unit, the first operation that this task rule holds for: its place, and where the unit ends.
 fn first_in_head(image: &[u8], task: Task, k: u8) -> Spot
-    requires { ⌜ Proper (now image) ⌝ }
-    ensures { λ r. ⌜ locateFirst task k (held (now (image .entry))) ≡ spotted r ⌝ }
+    requires { ⌜ ValidImage (now image) ⌝ }
+    ensures { λ r. ⌜ locateFirst task k (flatIn (now (image .entry))) ≡ spotted r ⌝ }
 {
-    let u = unit_at(image, k, 1);
-    if u.refusal != 0 {
-        return u;
-    }
-    let e = u.end;
-    let p = first_for(image, task, k, u.start, e);
-    if p == e {
-        return refuse(22);
-    }
-    Spot {
-        refusal: 0,
-        start: p,
-        end: e,
+    match unit_at(image, k, 1) {
+        Spot::Refused(n) => Spot::Refused(n),
+        Spot::At(h, e) => {
+            let p = first_for(image, task, k, h, e);
+            if p == e {
+                return Spot::Refused(22);
+            }
+            Spot::At(p, e)
+        }
     }
 }
 
 // In the head unit, the first operation that targets the node acts and strikes its key.
 pub fn realise(image: &mut [u8], k: u8) -> u32
-    requires { ⌜ Live (now image) ⌝ }
-    ensures { λ r. ⌜ Works (flatStep (realise k) (held (now (image .entry)))) (now (image .entry)) (now (image .exit)) r ⌝ }
+    requires { ⌜ ValidImage (now image) ⌝ }
+    ensures { λ r. ⌜ Works (flatStep (realise k) (flatIn (now (image .entry)))) (now (image .entry)) (now (image .exit)) r ⌝ }
 {
-    let found = first_in_head(image, Task::Acts, k);
-    if found.refusal != 0 {
-        return found.refusal;
+    match first_in_head(image, Task::Acts, k) {
+        Spot::Refused(n) => n,
+        Spot::At(p, _) => {
+            act_at(image, k, p);
+            0
+        }
     }
-    act_at(image, k, found.start);
-    0
 }
 
 // In the head unit, the first operation that may finish stores its results and goes.
 pub fn finish(image: &mut [u8], k: u8) -> u32
-    requires { ⌜ Live (now image) ⌝ }
-    ensures { λ r. ⌜ Works (flatStep (finish k) (held (now (image .entry)))) (now (image .entry)) (now (image .exit)) r ⌝ }
+    requires { ⌜ ValidImage (now image) ⌝ }
+    ensures { λ r. ⌜ Works (flatStep (finish k) (flatIn (now (image .entry)))) (now (image .entry)) (now (image .exit)) r ⌝ }
 {
-    let found = first_in_head(image, Task::Finishes, k);
-    if found.refusal != 0 {
-        return found.refusal;
+    match first_in_head(image, Task::Finishes, k) {
+        Spot::Refused(n) => n,
+        Spot::At(p, e) => {
+            finish_at(image, p, e);
+            0
+        }
     }
-    finish_at(image, found.start, found.end);
-    0
 }
 
 // The head unit goes to the next station's tail, where no operation in it targets the node and the station isn't last.
 pub fn move_on(image: &mut [u8], k: u8) -> u32
-    requires { ⌜ Live (now image) ⌝ }
-    ensures { λ r. ⌜ Works (flatStep (move k) (held (now (image .entry)))) (now (image .entry)) (now (image .exit)) r ⌝ }
+    requires { ⌜ ValidImage (now image) ⌝ }
+    ensures { λ r. ⌜ Works (flatStep (move k) (flatIn (now (image .entry)))) (now (image .entry)) (now (image .exit)) r ⌝ }
 {
-    let u = unit_at(image, k, 1);
-    if u.refusal != 0 {
-        return u.refusal;
+    match unit_at(image, k, 1) {
+        Spot::Refused(n) => n,
+        Spot::At(h, e) => {
+            if k == 1 {
+                return 22;
+            }
+            if first_for(image, Task::Acts, k, h, e) < e {
+                return 22;
+            }
+            move_unit(image, k, h, e);
+            0
+        }
     }
-    if k == 1 {
-        return 22;
-    }
-    if first_for(image, Task::Acts, k, u.start, u.end) < u.end {
-        return 22;
-    }
-    move_unit(image, k, u.start, u.end);
-    0
 }

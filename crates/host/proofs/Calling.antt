@@ -1,98 +1,113 @@
 -- A call line: refused in reading, or the call that the session is asked to accept.
 -- Assumes nothing.
-use mathlib.Core.Path.{_≡_, refl, sym, ap, _∙_}
-use Prim.Native.Nat.{ℕ, _+_}
+use mathlib.Core.Path.{_≡_, refl, sym, ap, subst, _∙_}
+use Prim.Native.Nat.{ℕ}
 use native.Mathlib.Omega.{arith}
-use mathlib.Core.List.{List}
-use lib.ListN.{length}
-use Rattle.graph.specs.Calls.{Call, isAdd, targetsOf, formTests}
+use mathlib.Core.List.{List, []}
+use Rattle.graph.specs.Calls.{Call, add, map, link, unlink, sum, top, pick, near, targetsOf, formTests}
+use Rattle.graph.specs.OneAtATime.{isAdd}
 use Rattle.graph.specs.declared.keys.Keys.{Keys}
-use Rattle.graph.specs.Refusals.{Answer, refused, done, numberOf as codeOf, unless}
-use Rattle.graph.specs.Sessions.{Session, live, addsIn}
+use Rattle.graph.specs.Refusals.{Answer, refused, done, unless}
+use Rattle.graph.specs.RefusalOrder.{numberOf}
+use Rattle.graph.specs.Sessions.{Session}
 use Rattle.graph.specs.Packed.{listed, packed}
-use Rattle.graph.specs.Acceptance.{roomTests, accept, callTests, accepted}
+use Rattle.graph.specs.Acceptance.{roomTests, roomOf, accept, callTests, accepted}
 use Rattle.graph.proofs.Answers.{Holds, holds}
 use Rattle.graph.proofs.Validity.{Accepts, accept-valid}
-use Rattle.queue.specs.Flat.{Flat}
+use Rattle.flat.specs.Flat.{Flat}
 use Rattle.graph.proofs.KeyLaws.{listed-packed}
+use Rattle.lines.specs.declared.call.CallAnswer.{CallAnswer}
+use Rattle.lines.specs.declared.call.CallAnswer.the-variants.{Refused as LineRefused, Is}
+use Rattle.lines.specs.declared.call.CallKind.{CallKind}
 use Rattle.lines.specs.declared.call.CallLine.{CallLine}
-use Rattle.lines.specs.Answers.{callRead, refusedCall, callForm, callOf, IsCall, CallRead}
-use Rattle.lines.proofs.Calls.{call-forms, call-value}
-use Rattle.panel.specs.declared.answer.Answer.the-variants.{Done, Refused}
-use Rattle.panel.specs.Answer.{numberOf}
-use Rattle.valid.specs.Values.{sessionOf}
-use Rattle.state.specs.State.{held}
-use Rattle.live.specs.Live.{imageAfter, Serves}
-use Rattle.live.proofs.Serving.{encode-shows}
-use Rattle.session.specs.Accepts.{Good}
-use Rattle.host.specs.Entries.{ImageOf, served, callRefused, callServed, Calls}
+use Rattle.lines.specs.Inner.Answers.{form, other, settled, callRead, refusedCall, callForm, CallRead}
+use Rattle.lines.specs.Forms.{IsCall}
+use Rattle.panel.specs.declared.returned.Returned.the-variants.{Done, Refused}
+use Rattle.panel.specs.Returned.{returnedNumber}
+use Rattle.valid.specs.Inner.Decoded.{sessionOf}
+use Rattle.state.specs.Inner.State.{flatIn}
+use Rattle.state.specs.Inner.ValidImage.{imageAfter, Serves}
+use Rattle.state.proofs.Serving.{encode-shows}
+use Rattle.session.specs.Inner.Accepts.{Good}
+use Rattle.host.specs.Entries.{ImageOf, served, Called, callRefused, callServed, Calls}
 use Rattle.host.proofs.Entering.{unless-refused, unless-number}
-use Rattle.host.proofs.Reading.{Reader, refused-in-reading, read-whole}
+use Rattle.host.proofs.Reading.{AnsweredBy, refused-by-tests, Passed, passed}
 
--- what was read is the call
-read-to : (f : Call) → callRead f .to ≡ packed (targetsOf f)
-read-to f = ap (λ (c : CallLine). c .to) (call-value f)
+-- what a line was read as: a refusal, or the call
+abbrev answerAs : CallAnswer → List ℕ → Answer Call
+answerAs (LineRefused n) to = refused n
+answerAs (Is kind x y) to = done (callForm kind x y to)
 
-read-of : (f : Call) → callOf (callRead f) ≡ f
-read-of f =
-    let r = callRead f in
-    ap (λ (ks : Keys). callForm (r .kind) (r .x) (r .y) (listed ks)) (read-to f) ∙ ap (callForm (r .kind) (r .x) (r .y)) (listed-packed (targetsOf f)) ∙ call-forms .parts f .back
+abbrev answerIn : CallLine → Answer Call
+answerIn c = answerAs (c .answer) (listed (c .to))
 
-read-packed : (f : Call) → callRead f .to ≡ packed (listed (callRead f .to))
-read-packed f = read-to f ∙ ap packed (sym (listed-packed (targetsOf f))) ∙ ap (λ (ks : Keys). packed (listed ks)) (sym (read-to f))
+-- a call's value holds the call, and its targets
+read-back : (f : Call) → (answerIn (callRead f) ≡ done f) × (callRead f .to ≡ packed (targetsOf f))
+read-back (add value) = (refl, refl)
+read-back (map a b to) = (ap (λ (ts : List ℕ). done (map a b ts)) (listed-packed to), refl)
+read-back (link key to) = (ap (λ (ts : List ℕ). done (link key ts)) (listed-packed to), refl)
+read-back (unlink key to) = (ap (λ (ts : List ℕ). done (unlink key ts)) (listed-packed to), refl)
+read-back (sum start to) = (ap (λ (ts : List ℕ). done (sum start ts)) (listed-packed to), refl)
+read-back (top start to) = (ap (λ (ts : List ℕ). done (top start ts)) (listed-packed to), refl)
+read-back (pick start to) = (ap (λ (ts : List ℕ). done (pick start ts)) (listed-packed to), refl)
+read-back (near key start to) = (ap (λ (ts : List ℕ). done (near key start ts)) (listed-packed to), refl)
+
+settled-back : (x : Answer Call) → answerIn (settled refusedCall callRead x) ≡ x
+settled-back (refused n) = refl
+settled-back (done f) = read-back f .0
+
+zeros-after : (c : CallLine) (ts : List ℕ) → c .to ≡ packed ts → c .to ≡ packed (listed (c .to))
+zeros-after c ts e = e ∙ ap packed (sym (listed-packed ts)) ∙ ap (λ (ks : Keys). packed (listed ks)) (sym e)
+
+settled-to : (c : CallLine) (x : Answer Call) → c ≡ settled refusedCall callRead x → c .to ≡ packed (listed (c .to))
+settled-to c (refused n) e = zeros-after c [] (ap (λ (x : CallLine). x .to) e)
+settled-to c (done f) e = zeros-after c (targetsOf f) (ap (λ (x : CallLine). x .to) e ∙ read-back f .1)
 
 -- what the form's own tests refuse is not accepted
 form-refused : (f : Call) (s : Session) {n : ℕ} → unless (formTests f) f ≡ refused n → accept f s ≡ refused n
-form-refused f s q = unless-refused (formTests f) (roomTests (isAdd f) (length (s .stations) + addsIn (s .topStream)) (length (live s)) (s .last)) f (accepted f s) q
+form-refused f s q = unless-refused (formTests f) (roomTests (isAdd f) (roomOf s)) f (accepted f s) q
 
-abbrev callReader : Reader Call CallLine
-callReader =
-    record {
-      tests = formTests;
-      number = λ c. c .refusal;
-      refusal = refusedCall;
-      value = callRead;
-      formOf = callOf;
-      numbered = λ n. refl;
-      unrefused = λ f. ap (λ (c : CallLine). c .refusal) (call-value f);
-      back = read-of;
-      refuses = λ f. (omega arith, (omega arith, (omega arith, tt)));
-    }
+module _ (line : List ℕ) (c : CallLine) where
+  answers : CallRead line c → AnsweredBy formTests (IsCall line) (answerIn c)
+  answers (form f i e) = form f i (ap answerIn e ∙ settled-back (unless (formTests f) f))
+  answers (other never e) = other never (ap answerIn e)
 
-pub line-refused : (image line : List ℕ) (c : CallLine) → ImageOf image (sessionOf image) → CallRead line c → (c .refusal ≡ 0 → ⊥) → Calls image line (callRefused image (c .refusal))
-line-refused image line c h = refused-in-reading callReader (IsCall line) h (λ f n q. ap (callServed image) (form-refused f (sessionOf image) q)) c
+  targets : CallRead line c → c .to ≡ packed (listed (c .to))
+  targets (form f i e) = settled-to c (unless (formTests f) f) e
+  targets (other never e) = settled-to c (refused 10) e
 
--- a line that is not refused in reading is the text of the call that was read, whose form is good
-pub record Read (line : List ℕ) (c : CallLine) : Type 0 where
-  pub text : IsCall line (callOf c)
-  pub good : Good c
+  pub line-refused : (image : List ℕ) (n : ℕ) → ImageOf image (sessionOf image) → c .answer ≡ LineRefused n → CallRead line c → Calls image line (callRefused image n)
+  line-refused image n h e k =
+      refused-by-tests formTests (IsCall line) h (λ f m q. ap (callServed image) (form-refused f (sessionOf image) q)) n
+      (subst (λ (a : CallAnswer). AnsweredBy formTests (IsCall line) (answerAs a (listed (c .to)))) e (answers k))
 
-pub line-read : (line : List ℕ) (c : CallLine) → CallRead line c → c .refusal ≡ 0 → Read line c
-line-read line c h z =
-    let r = read-whole callReader (IsCall line) c h z in
-    record {
-      text = r .text;
-      good = record { form = r .fine; targets = ap (λ (x : CallLine). x .to) (r .whole) ∙ read-packed (callOf c) ∙ sym (ap (λ (x : CallLine). packed (listed (x .to))) (r .whole)) };
-    }
+  -- a line that is not refused in reading is the text of the call that was read, whose form is good
+  module _ (kind : CallKind) (x y : ℕ) (e : c .answer ≡ Is kind x y) (k : CallRead line c) where
+    read : Passed formTests (IsCall line) (callForm kind x y (listed (c .to)))
+    read = passed formTests (IsCall line) (callForm kind x y (listed (c .to))) (subst (λ (a : CallAnswer). AnsweredBy formTests (IsCall line) (answerAs a (listed (c .to)))) e (answers k))
+
+    pub line-good : Good (callForm kind x y (listed (c .to))) (c .to)
+    line-good = record { form = read .fine; targets = targets k }
+
+    pub line-accepts : (image : List ℕ) (r : Called) → ImageOf image (sessionOf image) → r ≡ callServed image (accept (callForm kind x y (listed (c .to))) (sessionOf image)) → Calls image line r
+    line-accepts image r h q = served (sessionOf image) h (callForm kind x y (listed (c .to))) (read .text) q
 
 -- what the session does with it
-module _ (image after line : List ℕ) (c : CallLine) (n : ℕ) (h : ImageOf image (sessionOf image)) (r : Read line c) (s : Serves (accept (callOf c) (sessionOf image)) image after n) where
-  pub not-accepted : (n ≡ 0 → ⊥) → Calls image line (record { answer = numberOf (Refused n); image = after })
-  not-accepted ne = served (sessionOf image) h (callOf c) (r .text) (go (accept (callOf c) (sessionOf image)) (s .number) (s .image))
+module _ (image after : List ℕ) (f : Call) (n : ℕ) (s : Serves (accept f (sessionOf image)) image after n) where
+  pub not-accepted : (n ≡ 0 → ⊥) → record { answer = returnedNumber (Refused n); image = after } ≡ callServed image (accept f (sessionOf image))
+  not-accepted ne = go (accept f (sessionOf image)) (s .number) (s .image)
     where
-      go : (x : Answer Session) → n ≡ codeOf x → after ≡ imageAfter x image → record { answer = numberOf (Refused n); image = after } ≡ callServed image x
-      go (refused m) e q = λ i. record { answer = numberOf (Refused (e i)); image = q i }
+      go : (x : Answer Session) → n ≡ numberOf x → after ≡ imageAfter x image → record { answer = returnedNumber (Refused n); image = after } ≡ callServed image x
+      go (refused m) e q = λ i. record { answer = returnedNumber (Refused (e i)); image = q i }
       go (done u) e q = absurd (ne e)
 
   -- the label is the last that the session has given
-  pub is-accepted : (last : ℕ) → n ≡ 0 → last ≡ held after .last → Calls image line (record { answer = numberOf (Done last); image = after })
-  is-accepted last z l =
-      served (sessionOf image) h (callOf c) (r .text)
-      (go (accept (callOf c) (sessionOf image)) refl (accept-valid (callOf c) (sessionOf image) (h .valid)) (s .number) (s .image))
+  pub is-accepted : (last : ℕ) → ImageOf image (sessionOf image) → n ≡ 0 → last ≡ flatIn after .last → record { answer = returnedNumber (Done last); image = after } ≡ callServed image (accept f (sessionOf image))
+  is-accepted last h z l = go (accept f (sessionOf image)) refl (accept-valid f (sessionOf image) (h .valid)) (s .number) (s .image)
     where
-      go : (x : Answer Session) → accept (callOf c) (sessionOf image) ≡ x → Holds (Accepts (callOf c) (sessionOf image)) x → n ≡ codeOf x → after ≡ imageAfter x image
-          → record { answer = numberOf (Done last); image = after } ≡ callServed image x
-      go (refused m) d v e q = absurd (omega (arith, unless-number (callTests (callOf c) (sessionOf image)) _ (omega arith, (omega arith, (omega arith, (omega arith, (omega arith, (omega arith, tt)))))) d))
+      go : (x : Answer Session) → accept f (sessionOf image) ≡ x → Holds (Accepts f (sessionOf image)) x → n ≡ numberOf x → after ≡ imageAfter x image
+          → record { answer = returnedNumber (Done last); image = after } ≡ callServed image x
+      go (refused m) d v e q = absurd (omega (arith, unless-number (callTests f (sessionOf image)) _ (omega arith, (omega arith, (omega arith, (omega arith, (omega arith, (omega arith, tt)))))) d))
       go (done u) d (holds v) e q =
-          let same : last ≡ u .last = l ∙ ap (λ (x : List ℕ). held x .last) q ∙ ap (λ (f : Flat). f .last) (encode-shows u (v .valid) .shows) in
-          λ i. record { answer = numberOf (Done (same i)); image = q i }
+          let same : last ≡ u .last = l ∙ ap (λ (x : List ℕ). flatIn x .last) q ∙ ap (λ (f : Flat). f .last) (encode-shows u (v .valid) .shows) in
+          λ i. record { answer = returnedNumber (Done (same i)); image = q i }

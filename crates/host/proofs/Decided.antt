@@ -9,15 +9,16 @@ use lib.ListN.{length}
 use borrow.Author.Tests.{leb-true, le-leb, ltb-true, lt-ltb, eqb-true, eq-eqb}
 use Rattle.graph.specs.declared.act.Act.{Act}
 use Rattle.graph.specs.declared.act.Act.the-variants.{Map, Link, Unlink, Sum, Top, Pick, Near}
-use Rattle.graph.specs.Affine.{modulus}
-use Rattle.graph.specs.KeyLists.{rising}
+use Rattle.graph.specs.Words.{modulus}
+use Rattle.graph.specs.KeyLists.{isKey, areKeys, rising}
 use Rattle.graph.specs.Nodes.{Node, Op, Result}
 use Rattle.graph.specs.OneAtATime.{Labelled, addOf, opOf}
 use Rattle.graph.specs.Sessions.{Station, Session, live, addsIn, labelsOfResults}
-use Rattle.graph.specs.Valid.{Each, Key, ValidTargets, ValidNode, ValidAct, ValidHeld, mostLabels, ValidOp, ValidUnit, ValidStation, ValidCall, ValidResult, KeysFall, Valid}
+use Rattle.graph.specs.Valid.{Each, ValidTargets, ValidNode, ValidAct, ValidHeld, mostLabels, ValidOp, ValidUnit, ValidStation, ValidCall, ValidResult, KeysFall, Valid}
 use Rattle.lines.proofs.Decided.{Decision, is, isNot, Decided, one, none, same-bytes}
-use Rattle.valid.specs.Tests.{givenOnce}
-use Rattle.valid.specs.Values.{encode, sessionOf}
+use Rattle.valid.specs.Inner.Tests.{givenOnce}
+use Rattle.valid.specs.Values.{encode}
+use Rattle.valid.specs.Inner.Decoded.{sessionOf}
 use Rattle.valid.proofs.Counting.{Fresh, fresh-of, fresh-ok}
 use Rattle.valid.proofs.Exactness.{valid-back}
 use Rattle.host.specs.Entries.{ImageOf}
@@ -51,27 +52,24 @@ each P d (x ∷ xs) = both (d x) (each P d xs)
 
 -- ---- valid sessions, fact by fact
 
-key : (k : ℕ) → Decision (Key k)
-key k = both (at-most 1 k) (at-most k 64)
-
 targets : (ts : List ℕ) → Decision (ValidTargets ts)
 targets ts =
     by (λ h. record { few = h .0; keys = h .1 .0; rise = h .1 .1 }) (λ v. (v .few, (v .keys, v .rise)))
-    (both (at-most (length ts) 8) (both (each Key key ts) (by-test (rising ts))))
+    (both (at-most (length ts) 8) (both (by-test (areKeys ts)) (by-test (rising ts))))
 
 node : (n : Node) → Decision (ValidNode n)
 node n =
     by (λ h. record { value = h .0; few = h .1 .0; keys = h .1 .1 }) (λ v. (v .value, (v .few, v .keys)))
-    (both (below (n .value) modulus) (both (at-most (length (n .links)) 8) (each Key key (n .links))))
+    (both (below (n .value) modulus) (both (at-most (length (n .links)) 8) (by-test (areKeys (n .links)))))
 
 act : (a : Act) → Decision (ValidAct a)
 act (Map m) = both (below (m .a) modulus) (below (m .b) modulus)
-act (Link k) = key k
-act (Unlink k) = key k
+act (Link k) = by-test (isKey k)
+act (Unlink k) = by-test (isKey k)
 act Sum = is tt
 act Top = is tt
 act Pick = is tt
-act (Near k) = key k
+act (Near k) = by-test (isKey k)
 
 held : (a : Act) (h : ℕ) → Decision (ValidHeld a h)
 held (Map m) h = equal h 0

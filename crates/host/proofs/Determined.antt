@@ -8,13 +8,12 @@ use Rattle.graph.specs.Refusals.{Answer, refused, done, andThen, unless}
 use Rattle.graph.specs.Calls.{Call}
 use Rattle.graph.specs.Sessions.{Session}
 use Rattle.graph.specs.Steps.{Step, step}
-use Rattle.lines.specs.Forms.{StepForm, work, drain as drains}
-use Rattle.lines.specs.Answers.{IsCall, IsStep, IsClaim, stepFormTests}
+use Rattle.lines.specs.Forms.{StepForm, work, drainForm, IsCall, IsStep, IsClaim, stepFormTests}
 use Rattle.lines.proofs.Calls.{call-unique}
 use Rattle.lines.proofs.Steps.{step-unique}
 use Rattle.lines.proofs.Claims.{claim-unique}
 use Rattle.panel.specs.declared.tally.Tally.{Tally}
-use Rattle.valid.specs.Values.{sessionOf}
+use Rattle.valid.specs.Inner.Decoded.{sessionOf}
 use Rattle.valid.proofs.Exactness.{valid-passes, valid-back}
 use Rattle.host.specs.Entries.{ImageOf, Enters, otherLength, otherBytes, otherLine, served, Called, Calls, Stepped, stepServed, stepMade, Steps, ClaimMade, Claims, Listed, Lists}
 
@@ -95,4 +94,4 @@ tally-free {image} {line} {t} {u} h k = both step-forms SameButTally (λ n. reco
   where
     made : (s : Session) (f : StepForm) → SameButTally (stepMade image t s f) (stepMade image u s f)
     made s (work w) = served-same image t u (w ∷ []) (andThen (unless (stepFormTests (work w)) s) (step w))
-    made s drains = record { answer = refl; image = refl }
+    made s drainForm = record { answer = refl; image = refl }

@@ -8,33 +8,38 @@ use mathlib.Core.List.{List, [], _∷_, _++_}
 use lib.Dec.{eqb}
 use lib.IntN.{ℤ}
 use lib.ListN.{length}
-use Rattle.graph.specs.Refusals.{Answer, refused, done, numberOf, Test, firstOf, unless}
+use Rattle.graph.specs.Refusals.{Answer, refused, done, Test, unless}
+use Rattle.graph.specs.RefusalOrder.{numberOf, firstOf}
 use Rattle.graph.proofs.Answers.{isDone}
 use Rattle.graph.specs.Sessions.{Session, fresh}
 use Rattle.graph.specs.Valid.{Each}
-use Rattle.valid.specs.Values.{encode, sessionOf}
-use Rattle.valid.specs.Exact.{Exact, Opened}
-use Rattle.panel.specs.declared.answer.Answer.the-variants.{Done, Refused}
-use Rattle.panel.specs.Answer.{numberOf as answerOf}
-use Rattle.live.specs.Live.{Live}
-use Rattle.live.proofs.Serving.{valid-live}
-use Rattle.host.specs.Entries.{ImageOf, Enters, otherLength, otherBytes, callRefused, opened}
-use Rattle.host.specs.Tests.{Tested, wrongLength, noSession, holdsSession}
+use Rattle.valid.specs.Values.{encode}
+use Rattle.valid.specs.Inner.Decoded.{sessionOf}
+use Rattle.valid.specs.Inner.Exact.{Exact, Opened}
+use Rattle.valid.proofs.Exactness.{valid-back}
+use Rattle.panel.specs.declared.returned.Returned.the-variants.{Done, Refused}
+use Rattle.panel.specs.Returned.{returnedNumber}
+use Rattle.state.specs.Inner.ValidImage.{ValidImage}
+use Rattle.state.proofs.Serving.{valid-image}
+use Rattle.host.specs.Entries.{ImageOf, Enters, otherLength, otherBytes, otherLine, served, callRefused, opened}
+use Rattle.host.specs.Inner.Tests.{Tested}
 
 module _ {F R : Type 0} {image : List ℕ} {Is : F → Type 0} {refuse : ℕ → R} {serve : Session → F → R} where
   pub tested-refused : {n : ℕ} → Tested image n → (n ≡ 0 → ⊥) → Enters image Is refuse serve (refuse n)
-  tested-refused (wrongLength h e) ne = otherLength h (ap refuse e)
-  tested-refused (noSession l h e) ne = otherBytes l h (ap refuse e)
-  tested-refused (holdsSession h e) ne = absurd (ne e)
+  tested-refused (otherLength h e) ne = otherLength h (ap refuse e)
+  tested-refused (otherBytes l h e) ne = otherBytes l h (ap refuse e)
+  tested-refused (otherLine s h never e) ne = absurd (never tt tt)
+  tested-refused (served s h f i e) ne = absurd (ne e)
 
   -- what a function gives and leaves, by its parts
   pub entered-as : {r q : R} → r ≡ q → Enters image Is refuse serve q → Enters image Is refuse serve r
   entered-as e h = subst (Enters image Is refuse serve) (sym e) h
 
 pub tested-session : {image : List ℕ} {n : ℕ} → Tested image n → n ≡ 0 → ImageOf image (sessionOf image)
-tested-session (wrongLength h e) z = absurd (omega arith)
-tested-session (noSession l h e) z = absurd (omega arith)
-tested-session (holdsSession h e) z = h
+tested-session (otherLength h e) z = absurd (omega arith)
+tested-session (otherBytes l h e) z = absurd (omega arith)
+tested-session (otherLine s h never e) z = absurd (never tt tt)
+tested-session {image} (served s h f i e) z = subst (ImageOf image) (valid-back s (h .valid) ∙ ap sessionOf (h .same)) h
 
 pub exact-none : {image : List ℕ} {b : Bool} → Exact image b → b ≡ false → (s : Session) → ImageOf image s → ⊥
 exact-none x e s h = true≢false (sym (x .complete s (h .valid) (h .same) .0) ∙ e)
@@ -42,19 +47,19 @@ exact-none x e s h = true≢false (sym (x .complete s (h .valid) (h .same) .0) �
 pub exact-session : {image : List ℕ} {b : Bool} → Exact image b → b ≡ true → ImageOf image (sessionOf image)
 exact-session x e = record { valid = x .sound e .0; same = x .sound e .1 }
 
-pub session-live : {image : List ℕ} → ImageOf image (sessionOf image) → Live image
-session-live {image} h = valid-live image (h .valid) (h .same)
+pub session-valid : {image : List ℕ} → ImageOf image (sessionOf image) → ValidImage image
+session-valid {image} h = valid-image image (h .valid) (h .same)
 
 -- opening: the answer goes by the length, like the image that it leaves
 module _ {image after : List ℕ} {b : Bool} {z : ℤ} (o : Opened image after b) where
-  as-length : (x : Bool) → b ≡ x → z ≡ cond x (answerOf (Done 0)) (answerOf (Refused 1)) → (y : Bool) → x ≡ y → after ≡ cond y (encode fresh) image
-      → record { answer = z; image = after } ≡ cond y (record { answer = answerOf (Done 0); image = encode fresh }) (callRefused image 1)
+  as-length : (x : Bool) → b ≡ x → z ≡ cond x (returnedNumber (Done 0)) (returnedNumber (Refused 1)) → (y : Bool) → x ≡ y → after ≡ cond y (encode fresh) image
+      → record { answer = z; image = after } ≡ cond y (record { answer = returnedNumber (Done 0); image = encode fresh }) (callRefused image 1)
   as-length true e a true q w = λ i. record { answer = a i; image = w i }
   as-length false e a false q w = λ i. record { answer = a i; image = w i }
   as-length true e a false q w = absurd (true≢false q)
   as-length false e a true q w = absurd (true≢false (sym q))
 
-  pub is-opened : (x : Bool) → b ≡ x → z ≡ cond x (answerOf (Done 0)) (answerOf (Refused 1)) → record { answer = z; image = after } ≡ opened image
+  pub is-opened : (x : Bool) → b ≡ x → z ≡ cond x (returnedNumber (Done 0)) (returnedNumber (Refused 1)) → record { answer = z; image = after } ≡ opened image
   is-opened x e a = as-length x e a (eqb (length image) 4112) (sym e ∙ o .right) (o .written)
 
 -- what the first of the tests that applies refuses is refused whatever comes after them

@@ -8,30 +8,30 @@ use mathlib.Core.List.{List, [], _∷_}
 use mathlib.Core.Option.{Option, some}
 use lib.Dec.{leb}
 use lib.ListN.{length}
-use Rattle.graph.specs.Refusals.{Answer, refused, done, andThen, numberOf, firstOf, risesFrom, unless}
+use Rattle.graph.specs.Refusals.{Answer, refused, done, andThen, unless}
+use Rattle.graph.specs.RefusalOrder.{numberOf, firstOf, risesFrom}
 use Rattle.graph.specs.KeyLists.{contains, areKeys}
 use Rattle.graph.specs.Nodes.{Result}
 use Rattle.graph.specs.Sessions.{Session, labelsOfResults, pending}
 use Rattle.graph.specs.Steps.{Step, step}
 use Rattle.graph.specs.Allowed.{stepTests}
 use Rattle.graph.specs.Acceptance.{accept, Claimed, takeResult}
-use Rattle.graph.specs.Runs.{find}
+use Rattle.graph.specs.Counts.{resultOfLabel}
 use Rattle.graph.proofs.Answers.{Holds, holds}
 use Rattle.graph.proofs.Verdicts.{Says, step-number}
 use Rattle.graph.proofs.Sequences.{Lowest, first-lowest, calls-rise, steps-rise, accept-number, take-says, take-found}
-use Rattle.lines.specs.Forms.{work, drain as drains, stepKeys}
-use Rattle.lines.specs.Answers.{stepFormTests}
+use Rattle.lines.specs.Forms.{work, drainForm, stepKeys, stepFormTests}
 use Rattle.text.specs.Text.{pasted}
 use Rattle.print.specs.Printed.{resultText}
-use Rattle.panel.specs.declared.answer.Answer.the-variants.{Done, Refused}
+use Rattle.panel.specs.declared.returned.Returned.the-variants.{Done, Refused}
 use Rattle.panel.specs.declared.tally.Tally.{Tally}
-use Rattle.panel.specs.Answer.{refusalIn}
-use Rattle.panel.specs.Answer as panel
+use Rattle.panel.specs.Returned.{refusalIn}
+use Rattle.panel.specs.Returned as panel
 use Rattle.listing.specs.Listed.{listingOf}
 use Rattle.host.specs.Entries.{callServed, stepServed, claimRefused, claimWritten, claimServed, listRefused}
 use Rattle.host.specs.Sequences.{Asked, calling, stepping, claiming, listing, isShort, testsOf, numberBefore, answerTo}
 
-refusal-back : (n : ℕ) → refusalIn (panel.numberOf (Refused n)) ≡ n
+refusal-back : (n : ℕ) → refusalIn (panel.returnedNumber (Refused n)) ≡ n
 refusal-back zero = refl
 refusal-back (suc n) = refl
 
@@ -64,8 +64,8 @@ claim-first : (image out : List ℕ) (s : Session) (l : ℕ) → refusalIn (answ
 claim-first image out s l =
     go (leb 1 l && leb l (s .last)) (contains l (pending s)) (contains l (labelsOfResults (s .results))) (takeResult l (s .results)) (take-says l (s .results)) (take-found l (s .results))
   where
-    go : (a b c : Bool) (x : Answer Claimed) → Says x (cond c 0 32) c → Holds (λ (k : Claimed). find l (s .results) ≡ some (k .result)) x →
-        refusalIn ((claimServed image out s (cond a (cond b (refused 31) x) (refused 30))) .answer) ≡ cond (not a) 30 (cond b 31 (cond (not c) 32 (cond (isShort out (find l (s .results))) 33 0)))
+    go : (a b c : Bool) (x : Answer Claimed) → Says x (cond c 0 32) c → Holds (λ (k : Claimed). resultOfLabel l (s .results) ≡ some (k .result)) x →
+        refusalIn ((claimServed image out s (cond a (cond b (refused 31) x) (refused 30))) .answer) ≡ cond (not a) 30 (cond b 31 (cond (not c) 32 (cond (isShort out (resultOfLabel l (s .results))) 33 0)))
     go false b c x h f = refl
     go true true c x h f = refl
     go true false true (refused n) h f = absurd (true≢false (sym (h .done)))
@@ -77,7 +77,7 @@ claim-first image out s l =
 list-first : (image out : List ℕ) (s : Session) → refusalIn (answerTo (listing out) image s) ≡ firstOf (testsOf (listing out) s)
 list-first image out s = go (leb (length (listingOf s)) (length out))
   where
-    go : (b : Bool) → refusalIn ((cond b (record { answer = panel.numberOf (Done (length (listingOf s))); output = pasted out 0 (listingOf s) }) (listRefused out 33)) .answer) ≡ cond (not b) 33 0
+    go : (b : Bool) → refusalIn ((cond b (record { answer = panel.returnedNumber (Done (length (listingOf s))); output = pasted out 0 (listingOf s) }) (listRefused out 33)) .answer) ≡ cond (not b) 33 0
     go true = refl
     go false = refl
 
@@ -85,7 +85,7 @@ list-first image out s = go (leb (length (listingOf s)) (length out))
 pub first-answers : (a : Asked) (image : List ℕ) (s : Session) → refusalIn (answerTo a image s) ≡ firstOf (testsOf a s)
 first-answers (calling f) image s = call-refusal image (accept f s) ∙ accept-number f s
 first-answers (stepping (work w) t) image s = step-refusal image t (w ∷ []) (andThen (unless (stepFormTests (work w)) s) (step w)) ∙ work-first w t s
-first-answers (stepping drains t) image s = refl
+first-answers (stepping drainForm t) image s = refl
 first-answers (claiming l out) image s = claim-first image out s l
 first-answers (listing out) image s = list-first image out s
 
@@ -93,7 +93,7 @@ first-answers (listing out) image s = list-first image out s
 pub sequence-rises : (a : Asked) (s : Session) → risesFrom (numberBefore a) (testsOf a s) ≡ true
 sequence-rises (calling f) s = calls-rise f s
 sequence-rises (stepping (work w) t) s = steps-rise w s
-sequence-rises (stepping drains t) s = refl
+sequence-rises (stepping drainForm t) s = refl
 sequence-rises (claiming l out) s = refl
 sequence-rises (listing out) s = refl
 

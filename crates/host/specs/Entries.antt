@@ -15,12 +15,11 @@ use Rattle.graph.specs.Acceptance.{accept, Claimed, claim, keeping}
 use Rattle.graph.specs.Drain.{drain}
 use Rattle.graph.specs.Valid.{Valid}
 use Rattle.text.specs.Text.{pasted}
-use Rattle.lines.specs.Forms.{StepForm, work, drain as drains}
-use Rattle.lines.specs.Answers.{IsCall, IsStep, IsClaim, stepFormTests}
+use Rattle.lines.specs.Forms.{StepForm, work, drainForm, IsCall, IsStep, IsClaim, stepFormTests}
 use Rattle.print.specs.Printed.{resultText}
-use Rattle.panel.specs.declared.answer.Answer.the-variants.{Done, Refused}
+use Rattle.panel.specs.declared.returned.Returned.the-variants.{Done, Refused}
 use Rattle.panel.specs.declared.tally.Tally.{Tally}
-use Rattle.panel.specs.Answer.{numberOf}
+use Rattle.panel.specs.Returned.{returnedNumber}
 use Rattle.panel.specs.Tally.{counted}
 use Rattle.valid.specs.Values.{encode}
 use Rattle.listing.specs.Listed.{listingOf}
@@ -46,16 +45,16 @@ pub record Called : Type 0 where
 
 -- a refusal leaves the image as it was
 abbrev pub callRefused : List ℕ → ℕ → Called
-callRefused image n = record { answer = numberOf (Refused n); image = image }
+callRefused image n = record { answer = returnedNumber (Refused n); image = image }
 
 -- "Opening writes the fresh one"; it tests the length only
 abbrev pub opened : List ℕ → Called
-opened image = cond (eqb (length image) 4112) (record { answer = numberOf (Done 0); image = encode fresh }) (callRefused image 1)
+opened image = cond (eqb (length image) 4112) (record { answer = returnedNumber (Done 0); image = encode fresh }) (callRefused image 1)
 
 -- "Acceptance returns the label for a call"
 abbrev pub callServed : List ℕ → Answer Session → Called
 callServed image (refused n) = callRefused image n
-callServed image (done s) = record { answer = numberOf (Done (s .last)); image = encode s }
+callServed image (done s) = record { answer = returnedNumber (Done (s .last)); image = encode s }
 
 abbrev pub Calls : (image line : List ℕ) → Called → Type 0
 Calls image line r = Enters image (IsCall line) (callRefused image) (λ s f. callServed image (accept f s)) r
@@ -68,17 +67,17 @@ pub record Stepped : Type 0 where
   pub tally : Tally
 
 abbrev pub stepRefused : List ℕ → Tally → ℕ → Stepped
-stepRefused image t n = record { answer = numberOf (Refused n); image = image; tally = t }
+stepRefused image t n = record { answer = returnedNumber (Refused n); image = image; tally = t }
 
 -- 0, and the steps that were taken are counted
 abbrev pub stepServed : List ℕ → Tally → List Step → Answer Session → Stepped
 stepServed image t took (refused n) = stepRefused image t n
-stepServed image t took (done s) = record { answer = numberOf (Done 0); image = encode s; tally = counted t took }
+stepServed image t took (done s) = record { answer = returnedNumber (Done 0); image = encode s; tally = counted t took }
 
 -- a work step, after the tests of its form; or drain, which "counts the steps it takes"
 abbrev pub stepMade : List ℕ → Tally → Session → StepForm → Stepped
 stepMade image t s (work w) = stepServed image t (w ∷ []) (andThen (unless (stepFormTests (work w)) s) (step w))
-stepMade image t s drains = stepServed image t ((drain s) .took) (done ((drain s) .end))
+stepMade image t s drainForm = stepServed image t ((drain s) .took) (done ((drain s) .end))
 
 abbrev pub Steps : (image line : List ℕ) → Tally → Stepped → Type 0
 Steps image line t r = Enters image (IsStep line) (stepRefused image t) (stepMade image t) r
@@ -91,12 +90,17 @@ pub record ClaimMade : Type 0 where
   pub output : List ℕ
 
 abbrev pub claimRefused : List ℕ → List ℕ → ℕ → ClaimMade
-claimRefused image out n = record { answer = numberOf (Refused n); image = image; output = out }
+claimRefused image out n = record { answer = returnedNumber (Refused n); image = image; output = out }
 
 -- the result's line is written at the start of the output, its length is given, and the session holds the result no more.
 -- "Bytes after a written line stay."
 abbrev pub claimWritten : List ℕ → Session → Claimed → ClaimMade
-claimWritten out s c = record { answer = numberOf (Done (length (resultText (c .result)))); image = encode (keeping s (c .others)); output = pasted out 0 (resultText (c .result)) }
+claimWritten out s c =
+    record {
+      answer = returnedNumber (Done (length (resultText (c .result))));
+      image = encode (keeping s (c .others));
+      output = pasted out 0 (resultText (c .result));
+    }
 
 -- "33 output shorter than the result line .. with newlines"
 abbrev pub claimServed : List ℕ → List ℕ → Session → Answer Claimed → ClaimMade
@@ -116,12 +120,14 @@ pub record Listed : Type 0 where
   pub output : List ℕ
 
 abbrev pub listRefused : List ℕ → ℕ → Listed
-listRefused out n = record { answer = numberOf (Refused n); output = out }
+listRefused out n = record { answer = returnedNumber (Refused n); output = out }
 
 -- "33 output shorter than the .. listing with newlines"
 abbrev pub listServed : List ℕ → Session → Listed
 listServed out s =
-    cond (leb (length (listingOf s)) (length out)) (record { answer = numberOf (Done (length (listingOf s))); output = pasted out 0 (listingOf s) }) (listRefused out 33)
+    cond (leb (length (listingOf s)) (length out))
+    (record { answer = returnedNumber (Done (length (listingOf s))); output = pasted out 0 (listingOf s) })
+    (listRefused out 33)
 
 -- there is no line, and so one form
 abbrev pub Lists : (image out : List ℕ) → Listed → Type 0

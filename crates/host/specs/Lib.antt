@@ -1,4 +1,3 @@
 pub mod Entries
 pub mod Sequences
-pub mod Tests
-pub mod Taking
+pub mod Inner

@@ -13,10 +13,10 @@ use Rattle.graph.specs.Calls.{Call}
 use Rattle.graph.specs.Nodes.{Result}
 use Rattle.graph.specs.Sessions.{Session}
 use Rattle.graph.specs.Allowed.{stepTests}
-use Rattle.graph.specs.Acceptance.{callTests, accept, claimTests, claim}
-use Rattle.graph.specs.Runs.{find}
-use Rattle.lines.specs.Forms.{StepForm, work, drain as drains}
-use Rattle.lines.specs.Answers.{stepFormTests}
+use Rattle.graph.specs.Acceptance.{callTests, accept, claim}
+use Rattle.graph.specs.RefusalOrder.{claimTests}
+use Rattle.graph.specs.Counts.{resultOfLabel}
+use Rattle.lines.specs.Forms.{StepForm, work, drainForm, stepFormTests}
 use Rattle.print.specs.Printed.{resultText}
 use Rattle.panel.specs.declared.tally.Tally.{Tally}
 use Rattle.listing.specs.Listed.{listingOf}
@@ -42,8 +42,8 @@ listTests s out = on (not (leb (length (listingOf s)) (length out))) 33 ∷ []
 abbrev pub testsOf : Asked → Session → List Test
 testsOf (calling f) s = callTests f s
 testsOf (stepping (work w) t) s = stepFormTests (work w) ++ stepTests w s
-testsOf (stepping drains t) s = []
-testsOf (claiming l out) s = claimTests l s ++ (on (isShort out (find l (s .results))) 33 ∷ [])
+testsOf (stepping drainForm t) s = []
+testsOf (claiming l out) s = claimTests l s ++ (on (isShort out (resultOfLabel l (s .results))) 33 ∷ [])
 testsOf (listing out) s = listTests s out
 
 -- the last number that stands before them. A call's form is tested for 10 once more (`formTests`), which no line fails

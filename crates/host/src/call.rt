@@ -1,37 +1,63 @@
 // A call line, accepted with its label or refused.
 use crate::lent::image_refusal;
+use graph::keys::Keys;
+use lines::call::CallAnswer;
+use lines::call::CallKind;
 use lines::call::parse_call;
-use panel::answer::Answer;
-use panel::answer::number;
+use panel::returned::Returned;
+use panel::returned::number;
 use session::accepts::accept;
 use state::results::last;
 use text::cut::part_to;
-ghost use Rattle.lines.specs.Answers.{lineAt};
-ghost use Rattle.panel.specs.Answer.{numberOf};
-ghost use Rattle.host.specs.Entries.{Calls};
+ghost use mathlib.Core.Path.{_≡_};
+ghost use Rattle.graph.specs.Acceptance.{accept};
+ghost use Rattle.graph.specs.Packed.{listed};
+ghost use Rattle.lines.specs.Forms.{lineAt};
+ghost use Rattle.lines.specs.Inner.Answers.{callForm};
+ghost use Rattle.panel.specs.Returned.{returnedNumber};
+ghost use Rattle.valid.specs.Inner.Decoded.{sessionOf};
+ghost use Rattle.session.specs.Inner.Accepts.{Good};
+ghost use Rattle.host.specs.Entries.{ImageOf, callServed, Calls};
 
-fn accept_line(image: &mut [u8], line: &[u8]) -> Answer
-    ensures { λ r. ⌜ Calls (now (image .entry)) (now (line .entry)) (record { answer = numberOf r; image = now (image .exit) }) ⌝ }
+// The acceptance of a call that was read, on the image of a session.
+fn accept_call(image: &mut [u8], kind: CallKind, x: u32, y: u32, to: Keys) -> Returned
+    requires { ⌜ (ImageOf (now image) (sessionOf (now image))) × (Good (callForm kind x y (listed to)) to) ⌝ }
+    ensures { λ r. ⌜ record { answer = returnedNumber r; image = now (image .exit) } ≡ callServed (now (image .entry)) (accept (callForm kind x y (listed to)) (sessionOf (now (image .entry)))) ⌝ }
+{
+    let n = accept(image, kind, x, y, to);
+    if n != 0 {
+        return Returned::Refused(n);
+    }
+    Returned::Done(last(image) as u32)
+}
+
+fn accept_line(image: &mut [u8], line: &[u8]) -> Returned
+    ensures { λ r. ⌜ Calls (now (image .entry)) (now (line .entry)) (record { answer = returnedNumber r; image = now (image .exit) }) ⌝ }
 {
     let refusal = image_refusal(image);
     if refusal != 0 {
-        return Answer::Refused(refusal);
+        return Returned::Refused(refusal);
     }
     let c = parse_call(line);
-    if c.refusal != 0 {
-        return Answer::Refused(c.refusal as u32);
+    let answer = c.answer;
+    let to = c.to;
+    match answer {
+        CallAnswer::Refused(n) => Returned::Refused(n),
+        CallAnswer::Is(kind, x, y) => accept_call(image, kind, x, y, to),
     }
-    let n = accept(image, c);
-    if n != 0 {
-        return Answer::Refused(n);
-    }
-    Answer::Done(last(image) as u32)
 }
 
 // Accepts the call line at a place of the frame, and gives its label.
+pub fn call_at(image: &mut [u8], frame: &[u8], at: usize) -> Returned
+    ensures { λ r. ⌜ Calls (now (image .entry)) (lineAt (now (frame .entry)) at) (record { answer = returnedNumber r; image = now (image .exit) }) ⌝ }
+{
+    accept_line(image, part_to(frame, at, b'\n'))
+}
+
+// The same, by number.
 #[no_mangle]
 pub extern "C" fn cg_call(image: &mut [u8], frame: &[u8], at: usize) -> i64
     ensures { λ r. ⌜ Calls (now (image .entry)) (lineAt (now (frame .entry)) at) (record { answer = r; image = now (image .exit) }) ⌝ }
 {
-    number(accept_line(image, part_to(frame, at, b'\n')))
+    number(call_at(image, frame, at))
 }

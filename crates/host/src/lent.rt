@@ -1,10 +1,10 @@
 // The lent image: opening it, and its own refusals.
-use panel::answer::Answer;
-use panel::answer::number;
+use panel::returned::Returned;
+use panel::returned::number;
 use valid::session::image_valid;
 use valid::session::open;
 ghost use Rattle.host.specs.Entries.{opened};
-ghost use Rattle.host.specs.Tests.{Tested};
+ghost use Rattle.host.specs.Inner.Tests.{Tested};
 ghost use mathlib.Core.Path.{_≡_};
 
 // 1 for another length, 2 for bytes that are the image of no session, 0 for the image of one.
@@ -26,7 +26,7 @@ pub extern "C" fn cg_open(image: &mut [u8]) -> i64
     ensures { λ r. ⌜ record { answer = r; image = now (image .exit) } ≡ opened (now (image .entry)) ⌝ }
 {
     if !open(image) {
-        return number(Answer::Refused(1));
+        return number(Returned::Refused(1));
     }
-    number(Answer::Done(0))
+    number(Returned::Done(0))
 }

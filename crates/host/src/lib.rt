@@ -1,4 +1,4 @@
-// The functions that a host in C links: each serves a line on the lent image, or refuses it by number.
+// What a host in C links, and the same by value for the program: opening, a line served or refused by number, the listing.
 pub mod call;
 pub mod claim;
 pub mod lent;

@@ -7,9 +7,9 @@ use mathlib.Core.List.{List, [], _∷_}
 use lib.ListN.{length, getD}
 use Rattle.records.specs.declared.op.OpRecord.{OpRecord}
 use Rattle.records.specs.declared.result.ResultRecord.{ResultRecord}
-use Rattle.records.specs.Bytes.{le16, chunk}
-use Rattle.records.specs.Records.{labelsAt, decodeOp, decodeResult}
-use Rattle.image.specs.Layout.{place, recordAt, listedIn, blank, opRegion, resultRegion}
+use Rattle.records.specs.Inner.Numbers.{le16, chunk}
+use Rattle.records.specs.Inner.Decoded.{labelsAt, decodeOp, decodeResult}
+use Rattle.image.specs.Inner.Regions.{place, recordAt, listedIn, blank, opRegion, resultRegion}
 use Rattle.image.proofs.Parts.{chunk-byte}
 use Rattle.image.proofs.Regions.{record-of}
 

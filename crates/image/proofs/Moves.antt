@@ -7,7 +7,7 @@ use native.Mathlib.Decide.{ℕ-discrete}
 use mathlib.Core.List.{List}
 use lib.ListN.{length, getD, set, length-set}
 use lib.Seq.{getD-set-same, getD-set-other}
-use Rattle.image.specs.Layout.{MovedDown, MovedUp, Cleared}
+use Rattle.image.specs.Inner.Moves.{MovedDown, MovedUp, Zeroed}
 
 pub down-none : (s : List ℕ) (at by : ℕ) → MovedDown at (at + by) by s s
 down-none s at by = record { size = refl; moved = λ k a b. absurd (omega arith); below = λ k h. refl; above = λ k h. refl }
@@ -45,11 +45,11 @@ module _ (s t : List ℕ) (end by i : ℕ) where
       go k a b (yes e) = ap (λ (n : ℕ). getD (set t (i + by) (getD t i 0)) (n + by) 0) e ∙ getD-set-same t (i + by) (getD t i 0) 0 hi ∙ m .below i (omega arith) ∙ ap (λ (n : ℕ). getD s n 0) (sym e)
       go k a b (no n) = getD-set-other t (i + by) (k + by) (getD t i 0) 0 (λ e. n (omega arith)) ∙ m .moved k (omega arith) b
 
-pub clear-none : (s : List ℕ) (from : ℕ) → Cleared from from s s
+pub clear-none : (s : List ℕ) (from : ℕ) → Zeroed from from s s
 clear-none s from = record { size = refl; zeros = λ k a b. absurd (omega arith); below = λ k h. refl; above = λ k h. refl }
 
 module _ (s t : List ℕ) (from i : ℕ) where
-  pub clear-turn : from ≤ i → i < length t → Cleared from i s t → Cleared from (i + 1) s (set t i 0)
+  pub clear-turn : from ≤ i → i < length t → Zeroed from i s t → Zeroed from (i + 1) s (set t i 0)
   clear-turn lo hi m =
       record {
         size = length-set t i 0 ∙ m .size;

@@ -7,9 +7,9 @@ use native.Mathlib.Omega.{arith}
 use mathlib.Core.List.{List, _∷_, _++_}
 use lib.ListN.{length, getD, take, drop, length-append, length-take, length-drop, List·getD-append}
 use lib.Seq.{getD-take, getD-drop, getD-append-add, getD-append-seam, ext-getD, take-all, length-take-le}
-use Rattle.graph.specs.Lists.{removeAt}
-use Rattle.records.specs.Bytes.{chunk}
-use Rattle.image.specs.Layout.{insertAt}
+use Rattle.flat.specs.Inner.Queues.{removeAt}
+use Rattle.records.specs.Inner.Numbers.{chunk}
+use Rattle.image.specs.Inner.Regions.{insertAt}
 
 -- i records of a size, and one more, are at most n records
 pub next-place : (size i n : ℕ) → i < n → size * i + size ≤ size * n

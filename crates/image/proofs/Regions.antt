@@ -1,7 +1,7 @@
 -- A region of the image after its records changed, or others did: one law for the three regions.
 -- Assumes nothing.
 use mathlib.Core.Path.{_≡_, refl, sym, ap, subst, _∙_}
-use Prim.Native.Nat.{ℕ, _+_, _-_, _≤_, _<_}
+use Prim.Native.Nat.{ℕ, _+_, _≤_, _<_}
 use native.Mathlib.Omega.{arith}
 use native.Mathlib.Decide.{decLt, ℕ-discrete}
 use mathlib.Core.List.{List}
@@ -9,9 +9,9 @@ use lib.ListN.{length, getD, set, length-set}
 use lib.Seq.{getD-set-same, getD-set-other}
 use Rattle.text.specs.Text.{pasted}
 use Rattle.text.proofs.Pasting.{length-pasted, pasted-below, pasted-in, pasted-above}
-use Rattle.records.specs.Bytes.{chunk, tab}
+use Rattle.records.specs.Inner.Numbers.{chunk, tab}
 use Rattle.records.proofs.Tables.{length-tab, getD-tab, tab-is}
-use Rattle.image.specs.Layout.{Region, place, recordAt, listedIn, blank, Zeros}
+use Rattle.image.specs.Inner.Regions.{Region, place, recordAt, listedIn, blank, Zeros}
 use Rattle.image.proofs.Parts.{next-place, chunk-same, chunk-is}
 
 -- t has the bytes of s from a up to, not including, b

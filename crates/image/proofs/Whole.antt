@@ -10,12 +10,14 @@ use lib.ListN.{length, getD, take, drop, replicate, length-append, length-take, 
 use lib.Seq.{getD-append-add, ext-getD, take-all, take-add, drop-drop, take-at, drop-at}
 use Rattle.text.specs.Text.{texts}
 use Rattle.text.proofs.Lists.{texts-append}
-use Rattle.records.specs.Bytes.{bytes16, chunk, tab}
+use Rattle.records.specs.Bytes.{bytes16}
+use Rattle.records.specs.Inner.Numbers.{chunk, tab}
 use Rattle.records.specs.Records.{encodeHead, encodeNode, encodeOp, encodeResult}
 use Rattle.records.specs.declared.head.Head.{Head}
 use Rattle.records.proofs.Tables.{tab-snoc, tab-is}
 use Rattle.records.proofs.Codecs.{Bytes, FitNode, FitOp, FitResult, node-back, op-back, result-back, node-there, op-there, result-there, node-size, op-size, result-size, back16, there16}
-use Rattle.image.specs.Layout.{Region, place, recordAt, listedIn, blank, Zeros, Sound, Canonical, View, view, nodeRegion, opRegion, resultRegion, zeroPadded, headOf, imageOf}
+use Rattle.image.specs.Inner.Regions.{Region, place, recordAt, listedIn, blank, Zeros, Sound, Canonical, view, nodeRegion, opRegion, resultRegion}
+use Rattle.image.specs.Layout.{View, zeroPadded, headRecord, imageOf}
 use Rattle.image.proofs.Parts.{next-place, chunk-same, chunk-is, chunk-byte}
 use Rattle.image.proofs.Regions.{count-of}
 
@@ -169,12 +171,12 @@ parts s e =
     ∙ ap (λ (l : List ℕ). chunk s 0 16 ++ l) (chunk-add s 16 1024 3072)
     ∙ chunk-add s 0 16 4096 ∙ take-all 4112 s (omega arith)
 
-head-there : (s : List ℕ) → Bytes s → Sound s → Canonical s → encodeHead (headOf (view s)) ≡ chunk s 0 16
+head-there : (s : List ℕ) → Bytes s → Sound s → Canonical s → encodeHead (headRecord (view s)) ≡ chunk s 0 16
 unfolding encodeHead
 head-there s y h c =
-    sym (chunk-is s (encodeHead (headOf (view s))) 0 (omega (arith, h .size))
+    sym (chunk-is s (encodeHead (headRecord (view s))) 0 (omega (arith, h .size))
     (λ k l. ap (λ (i : ℕ). getD s i 0) (omega arith)
-    ∙ head-byte (headOf (view s)) s (c .version) (sym (count-of nodeRegion s)) (sym (count-of opRegion s)) (sym (count-of resultRegion s)) (there16 (getD s 4 0) (getD s 5 0) (y 4) (y 5)) (c .head) k l))
+    ∙ head-byte (headRecord (view s)) s (c .version) (sym (count-of nodeRegion s)) (sym (count-of opRegion s)) (sym (count-of resultRegion s)) (there16 (getD s 4 0) (getD s 5 0) (y 4) (y 5)) (c .head) k l))
 
 -- a canonical image is the image of what it shows
 pub image-is : (s : List ℕ) → Bytes s → Sound s → Canonical s → imageOf (view s) ≡ s
@@ -198,7 +200,7 @@ pub record Fit (v : View) : Type 0 where
 
 module _ (v : View) (f : Fit v) where
   abbrev H : List ℕ
-  H = encodeHead (headOf v)
+  H = encodeHead (headRecord v)
 
   abbrev N : List ℕ
   N = zeroPadded 1024 (texts encodeNode (v .nodes))

@@ -9,14 +9,16 @@ use native.Mathlib.Decide.{decLt, ℕ-discrete}
 use mathlib.Core.List.{List, [], _∷_, _++_}
 use lib.ListN.{length, getD, set, length-set, length-append, List·getD-append}
 use lib.Seq.{getD-set-same, getD-set-other, getD-append-seam}
-use Rattle.graph.specs.Lists.{removeAt}
+use Rattle.flat.specs.Inner.Queues.{removeAt}
 use Rattle.text.specs.Text.{pasted}
 use Rattle.text.proofs.Pasting.{length-pasted, pasted-below, pasted-above}
-use Rattle.records.specs.Bytes.{le16}
+use Rattle.records.specs.Inner.Numbers.{le16}
 use Rattle.records.specs.declared.node.NodeRecord.{NodeRecord}
 use Rattle.records.specs.declared.op.OpRecord.{OpRecord}
 use Rattle.records.specs.declared.result.ResultRecord.{ResultRecord}
-use Rattle.image.specs.Layout.{Region, place, recordAt, listedIn, blank, Zeros, MovedDown, MovedUp, Cleared, insertAt, Sound, Written, View, view, nodeRegion, opRegion, resultRegion, withNodes, withOps, withResults, withLast}
+use Rattle.image.specs.Inner.Regions.{Region, place, recordAt, listedIn, blank, Zeros, insertAt, Sound, ViewWritten, view, nodeRegion, opRegion, resultRegion, viewWithNodes, viewWithOps, viewWithResults, viewWithLast}
+use Rattle.image.specs.Inner.Moves.{MovedDown, MovedUp, Zeroed}
+use Rattle.image.specs.Layout.{View}
 use Rattle.image.proofs.Parts.{next-place, length-remove, remove-below, remove-above, length-insert, insert-below, insert-at, insert-above}
 use Rattle.image.proofs.Regions.{Same, After, after, kept, record-of, record-same, record-kept, put-same, put-other, put-after}
 
@@ -153,7 +155,7 @@ module _ {A : Type 0} (R : Region A) where
   -- REMOVE: the records after p moved down, and the last cleared
   module _ (s w u : List ℕ) (f : Fits s) (p : ℕ) (h : p < length (listedIn R s))
       (m : MovedDown (place R p) (place R (length (listedIn R s))) (R .size) s w)
-      (c : Cleared (place R (length (listedIn R s)) - R .size) (place R (length (listedIn R s))) w u) where
+      (c : Zeroed (place R (length (listedIn R s)) - R .size) (place R (length (listedIn R s))) w u) where
     abbrev ys : List A
     ys = listedIn R s
 
@@ -205,7 +207,7 @@ module _ {A : Type 0} (R : Region A) where
 
 -- THE WHOLE IMAGE
 pub written : (s t : List ℕ) (v : View) → length t ≡ 4112 → getD t 0 0 ≡ getD s 0 0 → Same s t 6 16 → le16 t 4 ≡ v .last
-    → After nodeRegion s t (v .nodes) → After opRegion s t (v .ops) → After resultRegion s t (v .results) → Written v s t
+    → After nodeRegion s t (v .nodes) → After opRegion s t (v .ops) → After resultRegion s t (v .results) → ViewWritten v s t
 written s t v size version spare last n o r =
     record {
       after = λ i. record { nodes = n .listed i; ops = o .listed i; results = r .listed i; last = last i };
@@ -233,25 +235,25 @@ module _ (s : List ℕ) (sound : Sound s) where
 
   -- the image after a change of one region
   module _ (t : List ℕ) where
-    pub nodes-written : (xs : List NodeRecord) → Change nodeRegion s t xs → Written (withNodes (view s) xs) s t
+    pub nodes-written : (xs : List NodeRecord) → Change nodeRegion s t xs → ViewWritten (viewWithNodes (view s) xs) s t
     nodes-written xs c =
-        written s t (withNodes (view s) xs) (c .size ∙ sound .size) (c .below 0 (λ e. omega arith) (omega arith)) (λ i a b. c .below i (λ e. omega arith) (omega arith))
+        written s t (viewWithNodes (view s) xs) (c .size ∙ sound .size) (c .below 0 (λ e. omega arith) (omega arith)) (λ i a b. c .below i (λ e. omega arith) (omega arith))
         (λ i. c .below 4 (λ e. omega arith) (omega arith) i + c .below 5 (λ e. omega arith) (omega arith) i * 256)
         (c .after)
         (kept opRegion s t (c .size) (ops-fit .end) (sound .ops) (c .below 2 (λ e. omega arith) (omega arith)) (λ i a b. c .above i (omega arith)))
         (kept resultRegion s t (c .size) (results-fit .end) (sound .results) (c .below 3 (λ e. omega arith) (omega arith)) (λ i a b. c .above i (omega arith)))
 
-    pub ops-written : (xs : List OpRecord) → Change opRegion s t xs → Written (withOps (view s) xs) s t
+    pub ops-written : (xs : List OpRecord) → Change opRegion s t xs → ViewWritten (viewWithOps (view s) xs) s t
     ops-written xs c =
-        written s t (withOps (view s) xs) (c .size ∙ sound .size) (c .below 0 (λ e. omega arith) (omega arith)) (λ i a b. c .below i (λ e. omega arith) (omega arith))
+        written s t (viewWithOps (view s) xs) (c .size ∙ sound .size) (c .below 0 (λ e. omega arith) (omega arith)) (λ i a b. c .below i (λ e. omega arith) (omega arith))
         (λ i. c .below 4 (λ e. omega arith) (omega arith) i + c .below 5 (λ e. omega arith) (omega arith) i * 256)
         (kept nodeRegion s t (c .size) (nodes-fit .end) (sound .nodes) (c .below 1 (λ e. omega arith) (omega arith)) (λ i a b. c .below i (λ e. omega arith) (omega arith)))
         (c .after)
         (kept resultRegion s t (c .size) (results-fit .end) (sound .results) (c .below 3 (λ e. omega arith) (omega arith)) (λ i a b. c .above i (omega arith)))
 
-    pub results-written : (xs : List ResultRecord) → Change resultRegion s t xs → Written (withResults (view s) xs) s t
+    pub results-written : (xs : List ResultRecord) → Change resultRegion s t xs → ViewWritten (viewWithResults (view s) xs) s t
     results-written xs c =
-        written s t (withResults (view s) xs) (c .size ∙ sound .size) (c .below 0 (λ e. omega arith) (omega arith)) (λ i a b. c .below i (λ e. omega arith) (omega arith))
+        written s t (viewWithResults (view s) xs) (c .size ∙ sound .size) (c .below 0 (λ e. omega arith) (omega arith)) (λ i a b. c .below i (λ e. omega arith) (omega arith))
         (λ i. c .below 4 (λ e. omega arith) (omega arith) i + c .below 5 (λ e. omega arith) (omega arith) i * 256)
         (kept nodeRegion s t (c .size) (nodes-fit .end) (sound .nodes) (c .below 1 (λ e. omega arith) (omega arith)) (λ i a b. c .below i (λ e. omega arith) (omega arith)))
         (kept opRegion s t (c .size) (ops-fit .end) (sound .ops) (c .below 2 (λ e. omega arith) (omega arith)) (λ i a b. c .below i (λ e. omega arith) (omega arith)))
@@ -274,9 +276,9 @@ module _ (s : List ℕ) (sound : Sound s) where
     high : getD t 5 0 ≡ y
     high = getD-set-same (set s 4 x) 5 y 0 (omega (arith, sound .size, length-set s 4 x))
 
-    pub last-written : (l : ℕ) → x + y * 256 ≡ l → Written (withLast (view s) l) s t
+    pub last-written : (l : ℕ) → x + y * 256 ≡ l → ViewWritten (viewWithLast (view s) l) s t
     last-written l e =
-        written s t (withLast (view s) l) (kept-length ∙ sound .size) (other 0 (λ q. omega arith) (λ q. omega arith)) (λ i a b. other i (λ q. omega arith) (λ q. omega arith))
+        written s t (viewWithLast (view s) l) (kept-length ∙ sound .size) (other 0 (λ q. omega arith) (λ q. omega arith)) (λ i a b. other i (λ q. omega arith) (λ q. omega arith))
         ((λ i. low i + high i * 256) ∙ e)
         (kept nodeRegion s t kept-length (nodes-fit .end) (sound .nodes) (other 1 (λ q. omega arith) (λ q. omega arith)) (λ i a b. other i (λ q. omega arith) (λ q. omega arith)))
         (kept opRegion s t kept-length (ops-fit .end) (sound .ops) (other 2 (λ q. omega arith) (λ q. omega arith)) (λ i a b. other i (λ q. omega arith) (λ q. omega arith)))

@@ -12,7 +12,7 @@ use records::result::read_result;
 ghost use mathlib.Core.Path.{_≡_};
 ghost use Prim.Native.Nat.{_<_};
 ghost use lib.ListN.{length, getD};
-ghost use Rattle.image.specs.Layout.{Sound, view, nodeRegion, opRegion, resultRegion, blank};
+ghost use Rattle.image.specs.Inner.Regions.{Sound, view, nodeRegion, opRegion, resultRegion, blank};
 
 pub fn node_count(image: &[u8]) -> usize
     requires { ⌜ Sound (now image) ⌝ }

@@ -1,7 +1,7 @@
 // Bytes moved and cleared within a slice.
 ghost use Prim.Native.Nat.{_+_, _≤_};
 ghost use lib.ListN.{length};
-ghost use Rattle.image.specs.Layout.{MovedDown, MovedUp, Cleared};
+ghost use Rattle.image.specs.Inner.Moves.{MovedDown, MovedUp, Zeroed};
 
 // The bytes from at + by up to end move down to at.
 pub fn move_down(s: &mut [u8], at: usize, end: usize, by: usize)
@@ -29,7 +29,7 @@ pub fn move_up(s: &mut [u8], at: usize, end: usize, by: usize)
 
 pub fn clear(s: &mut [u8], from: usize, to: usize)
     requires { ⌜ (from ≤ to) × (to ≤ length (now s)) ⌝ }
-    ensures { λ _. ⌜ Cleared from to (now (s .entry)) (now (s .exit)) ⌝ }
+    ensures { λ _. ⌜ Zeroed from to (now (s .entry)) (now (s .exit)) ⌝ }
 {
     let mut i = from;
     while i < to {

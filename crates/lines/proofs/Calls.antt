@@ -9,14 +9,16 @@ use native.Mathlib.Omega.{arith}
 use borrow.Author.Tests.{le-leb, lt-leb}
 use lib.Dec.{eqb, leb}
 use lib.ListN.{length, getD}
-use Rattle.graph.specs.Calls.{Call, add, map, link, unlink, sum, top, pick, near, operandsOf, targetsOf, areWords}
+use Rattle.graph.specs.Calls.{Call, add, map, link, unlink, sum, top, pick, near, operandsOf, targetsOf}
+use Rattle.graph.specs.Words.{areWords}
 use Rattle.graph.specs.KeyLists.{isKey, areKeys, rising}
 use Rattle.graph.specs.Packed.{packed}
 use Rattle.text.specs.Text.{ascii}
 use Rattle.text.proofs.Splits.{cleanTest, clean-by}
 use Rattle.lines.specs.Forms.{callText, callNumbers}
-use Rattle.lines.specs.Answers.{Reads, callLine, refusedCall, callRead, callAnswer, callForm}
-use Rattle.lines.specs.Reads.{Below, KeysOf, Held, Tailed, Spare, ValuesOf, callWord, callLiterals, callListed, CallAfter, Links, Starts, callMade}
+use Rattle.lines.specs.Inner.Answers.{ReadAs, callLine, refusedCall, callParts, callRead, callAnswer, callForm}
+use Rattle.lines.specs.Inner.LineParts.{Below, KeysOf, KeysStored, ValuesOf, callWord, callLiterals, callListed, CallAfter, Links, Starts, callMade}
+use Rattle.lines.specs.declared.call.CallAnswer.the-variants.{Is}
 use Rattle.lines.specs.declared.call.CallKind.{CallKind}
 use Rattle.lines.specs.declared.call.CallKind.the-variants.{Add, Map, Link, Unlink, Sum, Top, Pick, Near}
 use Rattle.lines.specs.declared.call.CallLine.{CallLine}
@@ -90,7 +92,7 @@ abbrev pub formOf : Parts CallKind → Call
 formOf p = callForm (p .kind) (p .x) (p .y) (p .to)
 
 abbrev pub partsOf : Call → Parts CallKind
-partsOf f = record { kind = callRead f .kind; x = callRead f .x; y = callRead f .y; z = 0; to = targetsOf f }
+partsOf f = record { kind = callParts f .kind; x = callParts f .x; y = callParts f .y; z = 0; to = callParts f .to }
 
 parts : (f : Call) → PartsOf calls callNumbers formOf f (partsOf f)
 unfolding calls
@@ -113,23 +115,6 @@ call-forms =
 -- a call line's text determines the call
 pub call-unique : (f g : Call) → callText f ≡ callText g → f ≡ g
 call-unique = unique call-forms
-
--- a call's value by its parts
-value-of : (k : CallKind) (x y z : ℕ) (ts : List ℕ) → Tailed (callListed k) ts → Spare (callLiterals k) x y z → callRead (callForm k x y ts) ≡ callLine k x y ts
-value-of Add x y z ts t s = rw (t, s .0)
-value-of Map x y z ts t s = refl
-value-of Link x y z ts t s = rw (s .0)
-value-of Unlink x y z ts t s = rw (s .0)
-value-of Sum x y z ts t s = rw (s .0)
-value-of Top x y z ts t s = rw (s .0)
-value-of Pick x y z ts t s = rw (s .0)
-value-of Near x y z ts t s = refl
-
-pub call-value : (f : Call) → callRead f ≡ callLine (callRead f .kind) (callRead f .x) (callRead f .y) (targetsOf f)
-unfolding calls
-call-value f =
-    let p = parts f in
-    ap callRead (sym (p .back)) ∙ value-of (callRead f .kind) (callRead f .x) (callRead f .y) 0 (targetsOf f) (p .unused .1) (p .unused .0)
 
 -- ---- the answer
 
@@ -176,7 +161,7 @@ starts P s t p k (inr (inr e)) = subst P (sym e) p
 
 -- after a word, by the one literal of these kinds
 abbrev OneField : List ℕ → List ℕ → CallLine → CallKind → Type 0
-OneField literal l r k = Reads (ValuesOf (literal ∷ []) true l) (λ v. callAnswer (callForm k (v .x) (v .y) (v .to))) (refusedCall 10) r → CallAfter k l r
+OneField literal l r k = ReadAs (ValuesOf (literal ∷ []) true l) (λ v. callAnswer (callForm k (v .x) (v .y) (v .to))) (refusedCall 10) r → CallAfter k l r
 
 module _ (k : CallKind) (is : Links k) where
   pub link-after : {l : List ℕ} {r : CallLine} → OneField (ascii " key=") l r k
@@ -205,7 +190,7 @@ module _ (k : CallKind) (is : Starts k) where
 
 -- ---- the answer by the targets
 
-module _ (k : CallKind) (x y : ℕ) (list : KeyList) (key : List ℕ) (ts : List ℕ) (p : KeysOf ts list) (h : Held ts key) where
+module _ (k : CallKind) (x y : ℕ) (list : KeyList) (key : List ℕ) (ts : List ℕ) (p : KeysOf ts list) (h : KeysStored ts key) where
   by-keys : (a b : Bool) {r : CallLine} → list .keys ≡ a → (a ≡ true → leb (length ts) 8 && rising ts ≡ b)
       → r ≡ cond a (cond b (callLine k x y ts) (refusedCall 12)) (refusedCall 11) → r ≡ callMade k x y ts
   by-keys true b e f q = q ∙ sym (rw (← p .keys, e, f refl))
@@ -231,9 +216,9 @@ module _ (k : CallKind) (x y : ℕ) (list : KeyList) (key : List ℕ) (ts : List
       pub made-unsorted : {r : CallLine} → list .rising ≡ false → r ≡ refusedCall 12 → r ≡ callMade k x y ts
       made-unsorted e = unsorted (rw (short, rising-is, e))
 
-      pub made-call : list .rising ≡ true → record { refusal = 0; kind = k; x = x; y = y; to = record { count = list .count; key = key } } ≡ callMade k x y ts
+      pub made-call : list .rising ≡ true → record { answer = Is k x y; to = record { count = list .count; key = key } } ≡ callMade k x y ts
       unfolding packed
       made-call e =
           let n : list .count ≡ length ts = omega (arith, p .count) in
           let l = h (sym (p .keys) ∙ keys) (omega arith) in
-          by-keys true true keys (λ z. rw (short, rising-is, e)) (λ i. record { refusal = 0; kind = k; x = x; y = y; to = record { count = n i; key = l i } })
+          by-keys true true keys (λ z. rw (short, rising-is, e)) (λ i. record { answer = Is k x y; to = record { count = n i; key = l i } })

@@ -7,14 +7,14 @@ use mathlib.Core.List.{List, [], _∷_, _++_, append-nil}
 use native.Mathlib.Omega.{arith}
 use lib.ListN.{length, drop, length-drop, drop-of-length-le}
 use Rattle.text.specs.Text.{upTo, decimal, commas, ascii}
-use Rattle.text.specs.Reads.{PlaceOf, NumberOf, Gap}
+use Rattle.text.specs.Inner.PartsRead.{LiteralAt, DecimalOf, Gap}
 use Rattle.text.specs.declared.cut.Place.the-variants.{At, Missing}
 use Rattle.text.specs.declared.number.Number.the-variants.{Is as NumberIs, Not as NumberNot}
 use Rattle.text.proofs.Splits.{Part, part, part-is, cancel, decimal-clean, same-number}
 use Rattle.text.proofs.Lists.{commas-clean}
 use Rattle.lines.specs.Forms.{targets}
-use Rattle.lines.specs.Answers.{Reads, form, other}
-use Rattle.lines.specs.Reads.{Below, KeysOf, Held, TargetsOf, FieldOf, tailText, fieldsText, Spare, Values, ValuesOf}
+use Rattle.lines.specs.Inner.Answers.{ReadAs, form, other}
+use Rattle.lines.specs.Inner.LineParts.{Below, KeysOf, KeysStored, TargetsOf, FieldOf, tailText, fieldsText, Spare, Values, ValuesOf}
 use Rattle.lines.specs.declared.fields.Field.the-variants.{Is, Not}
 use Rattle.lines.specs.declared.keylist.KeyList.{KeyList}
 use Rattle.lines.specs.declared.keylist.Targets.{Targets}
@@ -23,21 +23,21 @@ use Rattle.lines.specs.declared.keylist.Targets.the-variants.{Are, Not a
 -- ---- a number after a literal
 
 module _ (s : List ℕ) (at : ℕ) (literal : List ℕ) where
-  pub no-literal : PlaceOf s at literal Missing → FieldOf s at literal Not
+  pub no-literal : LiteralAt s at literal Missing → FieldOf s at literal Not
   no-literal p v x hv g e = p (decimal v ++ x) e
 
-  module _ (n : ℕ) (p : PlaceOf s at literal (At n)) where
+  module _ (n : ℕ) (p : LiteralAt s at literal (At n)) where
     value : Part 32 s n
     value = part 32 s n (p .0)
 
     pub value-within : n + length (upTo 32 (drop n s)) ≤ length s
     value-within = value .within
 
-    pub no-number : NumberOf (upTo 32 (drop n s)) NumberNot → FieldOf s at literal Not
+    pub no-number : DecimalOf (upTo 32 (drop n s)) NumberNot → FieldOf s at literal Not
     no-number q v x hv g e =
         q v hv (part-is 32 (drop n s) (decimal v) x (cancel literal (drop n s) (decimal v ++ x) (sym (p .1) ∙ e)) (decimal-clean 32 (omega arith) v) g)
 
-    pub is-field : (v : ℕ) → NumberOf (upTo 32 (drop n s)) (NumberIs v) → FieldOf s at literal (Is v (n + length (upTo 32 (drop n s))))
+    pub is-field : (v : ℕ) → DecimalOf (upTo 32 (drop n s)) (NumberIs v) → FieldOf s at literal (Is v (n + length (upTo 32 (drop n s))))
     is-field v q = (
       value .within,
       p .1 ∙ ap (λ (r : List ℕ). literal ++ r) (value .text ∙ ap (λ (r : List ℕ). r ++ drop (n + length (upTo 32 (drop n s))) s) q),
@@ -47,10 +47,10 @@ module _ (s : List ℕ) (at : ℕ) (literal : List ℕ) where
 -- ---- the targets
 
 module _ (s : List ℕ) (at : ℕ) where
-  pub targets-missing : PlaceOf s at (ascii " to=") Missing → (ts : List ℕ) → Below ts → drop at s ≡ targets ts → ⊥
+  pub targets-missing : LiteralAt s at (ascii " to=") Missing → (ts : List ℕ) → Below ts → drop at s ≡ targets ts → ⊥
   targets-missing p ts b eq = p (commas ts) eq
 
-  module _ (n : ℕ) (p : PlaceOf s at (ascii " to=") (At n)) where
+  module _ (n : ℕ) (p : LiteralAt s at (ascii " to=") (At n)) where
     -- a list of numbers holds no space
     whole : (ts : List ℕ) → drop at s ≡ targets ts → upTo 32 (drop n s) ≡ commas ts
     whole ts e =
@@ -98,14 +98,14 @@ only ts = record { x = 0; y = 0; z = 0; to = ts }
 
 module _ {R : Type 0} {ten r : R} {answer : Values → R} (s : List ℕ) (at : ℕ) where
   -- the line's end
-  pub end-not : at < length s → r ≡ ten → Reads (ValuesOf [] false (drop at s)) answer ten r
+  pub end-not : at < length s → r ≡ ten → ReadAs (ValuesOf [] false (drop at s)) answer ten r
   end-not h = other (λ v i. omega (arith, ap length (i .same), length-drop at s))
 
-  pub end-is : length s ≤ at → r ≡ answer (only []) → Reads (ValuesOf [] false (drop at s)) answer ten r
+  pub end-is : length s ≤ at → r ≡ answer (only []) → ReadAs (ValuesOf [] false (drop at s)) answer ten r
   end-is h = form (only []) (record { small = (omega arith, omega arith, omega arith, tt); spare = (refl, refl, refl); tailed = refl; same = drop-of-length-le s h })
 
   -- a field that is not read
-  pub field-not : {listed : Bool} (a : List ℕ) (more : List (List ℕ)) → Literals more → FieldOf s at a Not → r ≡ ten → Reads (ValuesOf (a ∷ more) listed (drop at s)) answer ten r
+  pub field-not : {listed : Bool} (a : List ℕ) (more : List (List ℕ)) → Literals more → FieldOf s at a Not → r ≡ ten → ReadAs (ValuesOf (a ∷ more) listed (drop at s)) answer ten r
   field-not {listed} a more gaps f = other (λ v i. f (v .x) (fieldsText more listed (v .y) (v .z) 0 (v .to)) (i .small .0) (fields-gap more gaps listed (v .y) (v .z) 0 (v .to)) (i .same))
 
 -- x is read at `at`, and ends at n
@@ -122,8 +122,8 @@ spare-last (a ∷ b ∷ c ∷ others) h x y z s = absurd (omega arith)
 
 module _ {R : Type 0} {ten r : R} {answer : Values → R} {s : List ℕ} {at x n : ℕ} {a : List ℕ} (p : NumberAt s at a x n) where
   -- a number that is read, and the fields after it
-  pub number-then : {listed : Bool} (more : List (List ℕ)) → Literals more → length more ≤ 2 → Reads (ValuesOf more listed (drop n s)) (λ v. answer (before x v)) ten r
-      → Reads (ValuesOf (a ∷ more) listed (drop at s)) answer ten r
+  pub number-then : {listed : Bool} (more : List (List ℕ)) → Literals more → length more ≤ 2 → ReadAs (ValuesOf more listed (drop n s)) (λ v. answer (before x v)) ten r
+      → ReadAs (ValuesOf (a ∷ more) listed (drop at s)) answer ten r
   number-then {listed} more gaps few (form v i e) =
       let z : v .z ≡ 0 = spare-last more few (v .x) (v .y) (v .z) (i .spare) in
       form (before x v)
@@ -148,22 +148,22 @@ module _ {R : Type 0} {ten r : R} {answer : Values → R} {s : List ℕ} {at x n
 
   -- a number, and another that is not read
   pub next-not : {listed : Bool} (b : List ℕ) (more : List (List ℕ)) → Literals (b ∷ more) → length more ≤ 1 → FieldOf s n b Not → r ≡ ten
-      → Reads (ValuesOf (a ∷ b ∷ more) listed (drop at s)) answer ten r
+      → ReadAs (ValuesOf (a ∷ b ∷ more) listed (drop at s)) answer ten r
   next-not b more gaps few f e = number-then (b ∷ more) gaps (omega arith) (field-not s n b more (literals-after b more gaps) f e)
 
   -- the last number, and the line's end
-  pub last-not : n < length s → r ≡ ten → Reads (ValuesOf (a ∷ []) false (drop at s)) answer ten r
+  pub last-not : n < length s → r ≡ ten → ReadAs (ValuesOf (a ∷ []) false (drop at s)) answer ten r
   last-not h e = number-then [] tt (omega arith) (end-not s n h e)
 
-  pub last-is : length s ≤ n → r ≡ answer (before x (only [])) → Reads (ValuesOf (a ∷ []) false (drop at s)) answer ten r
+  pub last-is : length s ≤ n → r ≡ answer (before x (only [])) → ReadAs (ValuesOf (a ∷ []) false (drop at s)) answer ten r
   last-is h e = number-then [] tt (omega arith) (end-is s n h e)
 
   -- the last number, and the targets
-  pub targets-not : ((ts : List ℕ) → Below ts → drop n s ≡ targets ts → ⊥) → r ≡ ten → Reads (ValuesOf (a ∷ []) true (drop at s)) answer ten r
+  pub targets-not : ((ts : List ℕ) → Below ts → drop n s ≡ targets ts → ⊥) → r ≡ ten → ReadAs (ValuesOf (a ∷ []) true (drop at s)) answer ten r
   targets-not never e = number-then [] tt (omega arith) (other (λ v i. never (v .to) (i .small .3) (i .same)) e)
 
-  pub targets-are : {k : KeyList} {key : List ℕ} → TargetsOf targets (drop n s) (Are k) key → ((ts : List ℕ) → Below ts → KeysOf ts k → Held ts key → r ≡ answer (before x (only ts)))
-      → Reads (ValuesOf (a ∷ []) true (drop at s)) answer ten r
+  pub targets-are : {k : KeyList} {key : List ℕ} → TargetsOf targets (drop n s) (Are k) key → ((ts : List ℕ) → Below ts → KeysOf ts k → KeysStored ts key → r ≡ answer (before x (only ts)))
+      → ReadAs (ValuesOf (a ∷ []) true (drop at s)) answer ten r
   targets-are t made =
       number-then [] tt (omega arith)
       (form (only (t .0)) (record { small = (omega arith, omega arith, omega arith, t .1); spare = (refl, refl, refl); tailed = tt; same = t .2 }) (made (t .0) (t .1) (t .3) (t .4)))

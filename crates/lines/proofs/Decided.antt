@@ -10,13 +10,12 @@ use lib.Dec.{eqb, ltb}
 use lib.ListN.{length, drop, getD, length-append}
 use lib.Seq.{drop-append-seam}
 use Rattle.text.specs.Text.{upTo, decimal, ascii, further, commas}
-use Rattle.text.specs.Reads.{Gap}
+use Rattle.text.specs.Inner.PartsRead.{Gap}
 use Rattle.text.proofs.Decimals.{Figures, valueFrom, decimal-is}
 use Rattle.text.proofs.Splits.{part-is, decimal-clean}
-use Rattle.graph.specs.Calls.{areWords}
-use Rattle.lines.specs.Forms.{claimText, claimNumbers}
-use Rattle.lines.specs.Answers.{TextOf, IsCall, IsStep, IsClaim}
-use Rattle.lines.specs.Reads.{tailText, Tailed, fieldsText, Spare}
+use Rattle.graph.specs.Words.{areWords}
+use Rattle.lines.specs.Forms.{claimText, claimNumbers, TextOf, IsCall, IsStep, IsClaim}
+use Rattle.lines.specs.Inner.LineParts.{tailText, Tailed, fieldsText, Spare}
 use Rattle.lines.proofs.Chains.{Literals, fields-gap, literals-after}
 use Rattle.lines.proofs.Words.{Grammar, Parts, Unused, fieldsIn, textIn, word-in, Forms, text-of}
 use Rattle.lines.proofs.Calls.{call-forms}

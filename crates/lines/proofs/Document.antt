@@ -5,7 +5,7 @@ use mathlib.Core.Path.{_≡_, refl}
 use Rattle.graph.specs.Calls.{add, map, link, unlink, sum, top, pick, near}
 use Rattle.graph.specs.Steps.{admit, realise, move, finish, join, split, swap, fuse}
 use Rattle.text.specs.Text.{ascii, digits, decimal, further, commas}
-use Rattle.lines.specs.Forms.{callText, work, drain, stepText, claimText}
+use Rattle.lines.specs.Forms.{callText, work, drainForm, stepText, claimText}
 
 record Calls : Type 0 where
   adds : callText (add 5) ≡ ascii "call=add value=5"
@@ -32,7 +32,7 @@ record Steps : Type 0 where
   splits : stepText (work (split 2 1 1)) ≡ ascii "step=split at=2 unit=1 after=1"
   swaps : stepText (work (swap 2 1)) ≡ ascii "step=swap at=2 unit=1"
   fuses : stepText (work (fuse 2 1)) ≡ ascii "step=fuse at=2 unit=1"
-  drains : stepText drain ≡ ascii "step=drain"
+  drains : stepText drainForm ≡ ascii "step=drain"
   claims : claimText 4 ≡ ascii "claim=4"
 
 steps : Steps

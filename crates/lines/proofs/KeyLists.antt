@@ -6,30 +6,26 @@ use mathlib.Core.Bool.{Bool, true, _&&_, and-true, and-assoc}
 use mathlib.Core.List.{List, [], _∷_, _++_, append-nil}
 use native.Mathlib.Omega.{arith}
 use native.Mathlib.Numerals.{add-one}
-use borrow.Author.Tests.{leb-true, ltb-true, lt-ltb}
+use borrow.Author.Tests.{ltb-true, lt-ltb}
 use lib.Dec.{ltb, leb}
 use lib.ListN.{length, drop, getD, set, length-append, drop-of-length-le}
 use lib.Seq.{drop-cons}
 use Rattle.text.specs.Text.{upTo, decimal, further, commas}
-use Rattle.text.specs.Reads.{NumberOf}
+use Rattle.text.specs.Inner.PartsRead.{DecimalOf}
 use Rattle.text.specs.declared.number.Number.the-variants.{Not}
 use Rattle.text.proofs.Splits.{Part, part, part-is, decimal-clean, same-number}
 use Rattle.text.proofs.Lists.{further-gap, passed, passed-last, passed-next}
-use Rattle.graph.specs.Calls.{areWords}
+use Rattle.graph.specs.Words.{areWords}
 use Rattle.graph.specs.KeyLists.{isKey, areKeys, above, rising}
 use Rattle.graph.specs.Packed.{packed}
 use Rattle.graph.specs.declared.keys.Keys.{Keys}
-use Rattle.graph.proofs.KeyLaws.{packed-more}
+use Rattle.graph.proofs.KeyLaws.{key-high, areKeys-snoc, packed-more}
 use Rattle.graph.proofs.Answers.{and-left, and-right}
-use Rattle.lines.specs.Reads.{Below, lastOr, KeysOf, Held, TargetsOf}
+use Rattle.lines.specs.Inner.LineParts.{Below, lastOr, KeysOf, KeysStored, TargetsOf}
 use Rattle.lines.specs.declared.keylist.KeyList.{KeyList}
 use Rattle.lines.specs.declared.keylist.Targets.the-variants.{Are}
 
 -- ---- one number more
-
-areKeys-snoc : (ts : List ℕ) (v : ℕ) → areKeys (ts ++ v ∷ []) ≡ areKeys ts && isKey v
-areKeys-snoc [] v = and-true (isKey v)
-areKeys-snoc (t ∷ ts) v = ap (λ (b : Bool). isKey t && b) (areKeys-snoc ts v) ∙ sym (and-assoc (isKey t) (areKeys ts) (isKey v))
 
 above-snoc : (d : ℕ) (ts : List ℕ) (v : ℕ) → above d (ts ++ v ∷ []) ≡ above d ts && ltb (lastOr d ts) v
 above-snoc d [] v = and-true (ltb d v)
@@ -41,26 +37,26 @@ lastOr-snoc d (t ∷ ts) v = lastOr-snoc t ts v
 
 pub keys-more : (ts : List ℕ) (v : ℕ) (k r : KeyList) → KeysOf ts k
     → r .count ≡ min (k .count + 1) 9
-    → r .last ≡ v
+    → r .latest ≡ v
     → r .keys ≡ k .keys && isKey v
-    → r .rising ≡ k .rising && ltb (k .last) v
+    → r .rising ≡ k .rising && ltb (k .latest) v
     → KeysOf (ts ++ v ∷ []) r
 keys-more ts v k r p en el ek ei =
     let len : length (ts ++ v ∷ []) ≡ length ts + 1 = length-append ts (v ∷ []) in
     record {
       count = omega (arith, p .count);
-      last = el ∙ sym (lastOr-snoc 0 ts v);
+      latest = el ∙ sym (lastOr-snoc 0 ts v);
       keys = ek ∙ ap (λ (b : Bool). b && isKey v) (p .keys) ∙ sym (areKeys-snoc ts v);
-      rising = ei ∙ cc (p .rising, p .last, above-snoc 0 ts v);
+      rising = ei ∙ cc (p .rising, p .latest, above-snoc 0 ts v);
     }
 
-pub held-more : (ts : List ℕ) (v : ℕ) (k : KeyList) (key key′ : List ℕ) → KeysOf ts k → Held ts key
+pub held-more : (ts : List ℕ) (v : ℕ) (k : KeyList) (key key′ : List ℕ) → KeysOf ts k → KeysStored ts key
     → (k .count < 8 → v ≤ 64 → key′ ≡ set key (k .count) v)
-    → Held (ts ++ v ∷ []) key′
+    → KeysStored (ts ++ v ∷ []) key′
 held-more ts v k key key′ p held es a l =
     let len : length (ts ++ v ∷ []) ≡ length ts + 1 = length-append ts (v ∷ []) in
     let ab : areKeys ts && isKey v ≡ true = sym (areKeys-snoc ts v) ∙ a in
-    let v64 = leb-true v 64 (and-right (leb 1 v) (leb v 64) (and-right (areKeys ts) (isKey v) ab)) in
+    let v64 = key-high v (and-right (areKeys ts) (isKey v) ab) in
     let n : k .count ≡ length ts = omega (arith, p .count) in
     let h : key ≡ packed ts .key = held (and-left (areKeys ts) (isKey v) ab) (omega arith) in
     es (omega arith) v64 ∙ cc (ap (λ (q : Keys). q .key) (packed-more ts v (omega arith)))
@@ -86,10 +82,10 @@ pub record Listing (s : List ℕ) (k : KeyList) (key : List ℕ) (at : ℕ) : Ty
   pub below : Below read
   pub text : s ≡ passed read ++ drop at s
   pub kept : KeysOf read k
-  pub held : Held read key
+  pub held : KeysStored read key
   pub rest : (us : List ℕ) → Below us → s ≡ commas us → Rest (drop at s)
 
-pub listing-none : (s : List ℕ) (k : KeyList) (key : List ℕ) → (length s ≡ 0 → ⊥) → KeysOf [] k → Held [] key → Listing s k key 0
+pub listing-none : (s : List ℕ) (k : KeyList) (key : List ℕ) → (length s ≡ 0 → ⊥) → KeysOf [] k → KeysStored [] key → Listing s k key 0
 unfolding passed commas
 listing-none s k key ne p h =
     record { within = omega arith; read = []; below = tt; text = refl; kept = p; held = h; rest = rest }
@@ -105,12 +101,12 @@ module _ (s : List ℕ) (k : KeyList) (key : List ℕ) (at : ℕ) (g : Listing s
   pub list-within : at + length (upTo 44 (drop at s)) ≤ length s
   list-within = here .within
 
-  pub list-refused : NumberOf (upTo 44 (drop at s)) Not → (us : List ℕ) → Below us → s ≡ commas us → ⊥
+  pub list-refused : DecimalOf (upTo 44 (drop at s)) Not → (us : List ℕ) → Below us → s ≡ commas us → ⊥
   list-refused q us b e =
       let t = g .rest us b e in
       q (t .first) (t .small) (part-is 44 (drop at s) (decimal (t .first)) (further (t .others)) (t .text) (decimal-clean 44 (omega arith) (t .first)) (further-gap (t .others)))
 
-  module _ (v : ℕ) (k′ : KeyList) (key′ : List ℕ) (small : v < 2 ^ 32) (q : upTo 44 (drop at s) ≡ decimal v) (p : KeysOf (g .read ++ v ∷ []) k′) (h : Held (g .read ++ v ∷ []) key′) where
+  module _ (v : ℕ) (k′ : KeyList) (key′ : List ℕ) (small : v < 2 ^ 32) (q : upTo 44 (drop at s) ≡ decimal v) (p : KeysOf (g .read ++ v ∷ []) k′) (h : KeysStored (g .read ++ v ∷ []) key′) where
     number : drop at s ≡ decimal v ++ drop (at + length (upTo 44 (drop at s))) s
     number = here .text ∙ ap (λ (r : List ℕ). r ++ drop (at + length (upTo 44 (drop at s))) s) q
 

@@ -1,22 +1,24 @@
 -- Step lines: their grammar, their forms, and the answer to each form.
 -- Assumes nothing.
-use Prim.Native.Nat.{ℕ, _+_, _<_}
-use mathlib.Core.Path.{_≡_, refl, sym, ap, subst, _∙_}
+use Prim.Native.Nat.{ℕ, _+_, _≤_, _<_}
+use mathlib.Core.Path.{_≡_, refl, sym, ap, subst}
 use mathlib.Core.Bool.{Bool, true, false, cond, and-true}
 use mathlib.Core.List.{List, []}
 use native.Mathlib.Omega.{arith}
-use lib.Dec.{eqb}
+use lib.Dec.{eqb, leb}
 use lib.ListN.{length, getD}
+use borrow.Author.Tests.{leb-true}
+use Rattle.graph.proofs.Answers.{and-right}
+use Rattle.graph.specs.Refusals.{Answer, refused, done}
 use Rattle.graph.specs.Steps.{admit, realise, move, finish, join, split, swap, fuse}
 use Rattle.text.specs.Text.{ascii}
 use Rattle.text.proofs.Splits.{cleanTest, clean-by}
 use Rattle.graph.specs.KeyLists.{isKey, areKeys}
-use Rattle.lines.specs.Forms.{StepForm, work, drain, stepText, stepNumbers, stepKeys}
-use Rattle.lines.specs.Answers.{Reads, stepLine, refusedStep, stepRead, stepAnswer, stepForm, stepOf}
-use Rattle.lines.specs.Reads.{Spare, ValuesOf, stepWord, stepLiterals, StepAfter, stepMade}
+use Rattle.lines.specs.Forms.{StepForm, work, drainForm, stepText, stepNumbers, stepKeys}
+use Rattle.lines.specs.Inner.Answers.{ReadAs, stepAnswer}
+use Rattle.lines.specs.Inner.LineParts.{ValuesOf, stepWord, stepLiterals, stepForm, stepTested}
 use Rattle.lines.specs.declared.step.StepKind.{StepKind}
 use Rattle.lines.specs.declared.step.StepKind.the-variants.{Admit, Realise, Move, Finish, Join, Split, Swap, Fuse, Drain}
-use Rattle.lines.specs.declared.step.StepLine.{StepLine}
 use Rattle.lines.proofs.Words.{KindOf, Grammar, Parts, PartsOf, Made, Forms, unique}
 
 -- ---- the grammar
@@ -92,8 +94,19 @@ step-made Drain x y z ts = record { same = refl; fits = λ s. tt }
 abbrev pub formOf : Parts StepKind → StepForm
 formOf p = stepForm (p .kind) (p .x) (p .y) (p .z)
 
+abbrev partsAs : StepKind → ℕ → ℕ → ℕ → Parts StepKind
+partsAs k x y z = record { kind = k; x = x; y = y; z = z; to = [] }
+
 abbrev pub partsOf : StepForm → Parts StepKind
-partsOf f = record { kind = stepRead f .kind; x = stepRead f .at; y = stepRead f .unit; z = stepRead f .after; to = [] }
+partsOf (work admit) = partsAs Admit 0 0 0
+partsOf (work (realise at)) = partsAs Realise at 0 0
+partsOf (work (move at)) = partsAs Move at 0 0
+partsOf (work (finish at)) = partsAs Finish at 0 0
+partsOf (work (join at unit)) = partsAs Join at unit 0
+partsOf (work (split at unit after)) = partsAs Split at unit after
+partsOf (work (swap at unit)) = partsAs Swap at unit 0
+partsOf (work (fuse at unit)) = partsAs Fuse at unit 0
+partsOf drainForm = partsAs Drain 0 0 0
 
 parts : (f : StepForm) → PartsOf steps stepNumbers formOf f (partsOf f)
 unfolding steps
@@ -105,11 +118,7 @@ parts (work (join at unit)) = record { back = refl; unused = ((refl, refl, refl)
 parts (work (split at unit after)) = record { back = refl; unused = ((refl, refl, refl), refl); small = λ b. (b .0, b .1 .0, b .1 .1 .0, tt) }
 parts (work (swap at unit)) = record { back = refl; unused = ((refl, refl, refl), refl); small = λ b. (b .0, b .1 .0, omega arith, tt) }
 parts (work (fuse at unit)) = record { back = refl; unused = ((refl, refl, refl), refl); small = λ b. (b .0, b .1 .0, omega arith, tt) }
-parts drain = record { back = refl; unused = ((refl, refl, refl), refl); small = λ b. (omega arith, omega arith, omega arith, tt) }
-
--- a step is the form of its value
-pub step-back : (f : StepForm) → stepOf (stepRead f) ≡ f
-step-back f = parts f .back
+parts drainForm = record { back = refl; unused = ((refl, refl, refl), refl); small = λ b. (omega arith, omega arith, omega arith, tt) }
 
 pub step-forms : Forms steps stepText stepNumbers formOf partsOf
 step-forms =
@@ -122,28 +131,18 @@ step-forms =
 pub step-unique : (f g : StepForm) → stepText f ≡ stepText g → f ≡ g
 step-unique = unique step-forms
 
--- a step's value by its parts
-value-of : (k : StepKind) (x y z : ℕ) → Spare (stepLiterals k) x y z → stepRead (stepForm k x y z) ≡ stepLine k x y z
-value-of Admit x y z s = rw (s .0, s .1, s .2)
-value-of Realise x y z s = rw (s .0, s .1)
-value-of Move x y z s = rw (s .0, s .1)
-value-of Finish x y z s = rw (s .0, s .1)
-value-of Join x y z s = rw (s .0)
-value-of Split x y z s = refl
-value-of Swap x y z s = rw (s .0)
-value-of Fuse x y z s = rw (s .0)
-value-of Drain x y z s = rw (s .0, s .1, s .2)
-
-pub step-value : (f : StepForm) → stepRead f ≡ stepLine (stepRead f .kind) (stepRead f .at) (stepRead f .unit) (stepRead f .after)
-unfolding steps
-step-value f = ap stepRead (sym (step-back f)) ∙ value-of (stepRead f .kind) (stepRead f .at) (stepRead f .unit) (stepRead f .after) (parts f .unused .0)
-
 -- ---- the answer
 
 -- the form's own test
-tested : (f : StepForm) (a : Bool) → areKeys (stepKeys f) ≡ a → stepAnswer f ≡ cond a (stepRead f) (refusedStep 11)
+tested : (f : StepForm) (a : Bool) → areKeys (stepKeys f) ≡ a → stepAnswer f ≡ cond a (done f) (refused 11)
 tested f true e = rw e
 tested f false e = rw e
+
+-- a key fits in a byte
+pub key-small : (k : ℕ) → isKey k ≡ true → k < 256
+key-small k e =
+    let high : k ≤ 64 = leb-true k 64 (and-right (leb 1 k) (leb k 64) e) in
+    omega arith
 
 -- the key of a step that names a node
 place-of : (k : StepKind) (x y z : ℕ) → 0 < length (stepLiterals k) → areKeys (stepKeys (stepForm k x y z)) ≡ isKey x
@@ -157,12 +156,10 @@ place-of Swap x y z h = and-true (isKey x)
 place-of Fuse x y z h = and-true (isKey x)
 place-of Drain x y z h = absurd (omega arith)
 
-pub place-answer : (k : StepKind) (literals : List (List ℕ)) (x y z : ℕ) → stepLiterals k ≡ literals → 0 < length literals → Spare literals x y z → stepMade k x y z ≡ stepAnswer (stepForm k x y z)
-place-answer k literals x y z e h s =
-    sym (tested (stepForm k x y z) (isKey x) (place-of k x y z (omega (arith, ap length e)))
-    ∙ ap (λ (l : StepLine). cond (isKey x) l (refusedStep 11)) (value-of k x y z (subst (λ (ls : List (List ℕ)). Spare ls x y z) (sym e) s)))
+pub place-answer : (k : StepKind) (literals : List (List ℕ)) (x y z : ℕ) → stepLiterals k ≡ literals → 0 < length literals → stepTested k x y z ≡ stepAnswer (stepForm k x y z)
+place-answer k literals x y z e h = sym (tested (stepForm k x y z) (isKey x) (place-of k x y z (omega (arith, ap length e))))
 
-pub word-answer : (k : StepKind) → stepLiterals k ≡ [] → stepLine k 0 0 0 ≡ stepAnswer (stepForm k 0 0 0)
+pub word-answer : (k : StepKind) → stepLiterals k ≡ [] → done (stepForm k 0 0 0) ≡ stepAnswer (stepForm k 0 0 0)
 word-answer Admit e = refl
 word-answer Drain e = refl
 word-answer Realise e = absurd (omega (arith, ap length e))
@@ -174,7 +171,8 @@ word-answer Swap e = absurd (omega (arith, ap length e))
 word-answer Fuse e = absurd (omega (arith, ap length e))
 
 -- after a word, by the literals of its kind
-pub by-literals : (k : StepKind) (literals : List (List ℕ)) (l : List ℕ) (r : StepLine) → stepLiterals k ≡ literals
-    → Reads (ValuesOf literals false l) (λ v. stepAnswer (stepForm k (v .x) (v .y) (v .z))) (refusedStep 10) r → StepAfter k l r
+pub by-literals : (k : StepKind) (literals : List (List ℕ)) (l : List ℕ) (r : Answer StepForm) → stepLiterals k ≡ literals
+    → ReadAs (ValuesOf literals false l) (λ v. stepAnswer (stepForm k (v .x) (v .y) (v .z))) (refused 10) r
+    → ReadAs (ValuesOf (stepLiterals k) false l) (λ v. stepAnswer (stepForm k (v .x) (v .y) (v .z))) (refused 10) r
 by-literals k literals l r e h =
-    subst (λ (x : List (List ℕ)). Reads (ValuesOf x false l) (λ v. stepAnswer (stepForm k (v .x) (v .y) (v .z))) (refusedStep 10) r) (sym e) h
+    subst (λ (x : List (List ℕ)). ReadAs (ValuesOf x false l) (λ v. stepAnswer (stepForm k (v .x) (v .y) (v .z))) (refused 10) r) (sym e) h

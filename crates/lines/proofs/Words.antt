@@ -7,12 +7,13 @@ use mathlib.Core.List.{List, [], _∷_, _++_}
 use native.Mathlib.Omega.{arith}
 use lib.ListN.{length, drop}
 use Rattle.text.specs.Text.{upTo, decimal, ascii, commas}
-use Rattle.text.specs.Reads.{PlaceOf, Gap}
+use Rattle.text.specs.Inner.PartsRead.{LiteralAt, Gap}
 use Rattle.text.specs.declared.cut.Place.the-variants.{At, Missing}
 use Rattle.text.proofs.Splits.{Clean, part, part-is, cancel, same-number}
 use Rattle.text.proofs.Lists.{commas-inj}
-use Rattle.lines.specs.Answers.{TextOf, Reads, form, other}
-use Rattle.lines.specs.Reads.{Below, tailText, Tailed, fieldsText, Spare, Values, ValuesOf}
+use Rattle.lines.specs.Forms.{TextOf}
+use Rattle.lines.specs.Inner.Answers.{ReadAs, form, other}
+use Rattle.lines.specs.Inner.LineParts.{Below, tailText, Tailed, fieldsText, Spare, Values, ValuesOf}
 use Rattle.lines.proofs.KeyLists.{words-below, below-words}
 use Rattle.lines.proofs.Chains.{Literals, fields-gap}
 
@@ -77,7 +78,7 @@ module _ {K : Type 0} (G : Grammar K) where
   word-in p l e = part-is 32 l (G .word (p .kind)) (fieldsIn G p) e (G .kinds (p .kind) .clean) (gap-in p)
 
   -- the line's word, and what stands after it
-  module _ (line : List ℕ) (n : ℕ) (h : PlaceOf line 0 (G .head) (At n)) (word : List ℕ) (v : word ≡ upTo 32 (drop n line)) where
+  module _ (line : List ℕ) (n : ℕ) (h : LiteralAt line 0 (G .head) (At n)) (word : List ℕ) (v : word ≡ upTo 32 (drop n line)) where
     rest-in : (p : Parts K) → line ≡ textIn G p → drop n line ≡ G .word (p .kind) ++ fieldsIn G p
     rest-in p e = cancel (G .head) (drop n line) (G .word (p .kind) ++ fieldsIn G p) (sym (h .1) ∙ e)
 
@@ -163,19 +164,19 @@ module _ {K F : Type 0} {G : Grammar K} {text numbers : F → List ℕ} {formOf 
   -- the answer, by the word after the head and what stands after the word
   module _ {R : Type 0} (answer : F → R) (ten r : R) (line : List ℕ) where
     abbrev Read : Type 0
-    Read = Reads (TextOf text numbers line) answer ten r
+    Read = ReadAs (TextOf text numbers line) answer ten r
 
     pub reads-long : 255 < length line → r ≡ ten → Read
     reads-long l = other (λ f i. omega (arith, i .short))
 
-    pub reads-no-head : PlaceOf line 0 (G .head) Missing → r ≡ ten → Read
+    pub reads-no-head : LiteralAt line 0 (G .head) Missing → r ≡ ten → Read
     reads-no-head p = other (λ f i. p (G .word (partsOf f .kind) ++ fieldsIn G (partsOf f)) (i .same ∙ text-of f))
 
-    module _ (short : length line < 256) (n : ℕ) (h : PlaceOf line 0 (G .head) (At n)) (word : List ℕ) (v : word ≡ upTo 32 (drop n line)) where
+    module _ (short : length line < 256) (n : ℕ) (h : LiteralAt line 0 (G .head) (At n)) (word : List ℕ) (v : word ≡ upTo 32 (drop n line)) where
       pub reads-no-word : ((k : K) → word ≡ G .word k → ⊥) → r ≡ ten → Read
       reads-no-word never = other (λ f i. never (partsOf f .kind) (word-is G line n h word v (partsOf f) (i .same ∙ text-of f)))
 
-      pub reads-after : (k : K) → word ≡ G .word k → Reads (ValuesOf (G .literals k) (G .listed k) (drop (n + length word) line)) (λ v. answer (formOf (partsWith k v))) ten r → Read
+      pub reads-after : (k : K) → word ≡ G .word k → ReadAs (ValuesOf (G .literals k) (G .listed k) (drop (n + length word) line)) (λ v. answer (formOf (partsWith k v))) ten r → Read
       reads-after k w (form x i e) =
           let p : Parts K = partsWith k x in
           let same : line ≡ textIn G p = h .1 ∙ ap (λ (l : List ℕ). G .head ++ l) (after-word G line n h word v k w ∙ ap (λ (l : List ℕ). G .word k ++ l) (i .same)) in

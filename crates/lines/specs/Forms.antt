@@ -1,11 +1,18 @@
--- The forms of call, step and claim lines, with any numbers and any targets, and their texts (docs/RULES.md).
+-- The forms of call, step and claim lines, with any numbers and any targets, their texts (docs/RULES.md), and when a line is the text
+-- of one.
 -- Assumes nothing.
-use Prim.Native.Nat.{ℕ}
+use Prim.Native.Nat.{ℕ, _<_}
 use Prim.Native.String.{String}
 use mathlib.Core.List.{List, [], _∷_, _++_}
 use Rattle.graph.specs.Calls.{Call, add, map, link, unlink, sum, top, pick, near, numbersOf, operandsOf, targetsOf}
 use Rattle.graph.specs.Steps.{Step, admit, realise, move, finish, join, split, swap, fuse}
-use Rattle.text.specs.Text.{ascii, decimal, commas}
+use Rattle.text.specs.Text.{ascii, decimal, commas, upTo}
+use mathlib.Core.Bool.{true, not}
+use mathlib.Core.Path.{_≡_}
+use lib.ListN.{length, drop}
+use Rattle.graph.specs.Words.{areWords}
+use Rattle.graph.specs.KeyLists.{areKeys}
+use Rattle.graph.specs.Refusals.{Test, on}
 
 -- a literal, a number, and the rest of the line
 abbrev pub field : String → ℕ → List ℕ → List ℕ
@@ -35,7 +42,7 @@ callNumbers f = numbersOf f ++ (operandsOf f ++ targetsOf f)
 -- a work step, or the shorthand
 pub data StepForm : Type 0 where
   work : Step → StepForm
-  drain : StepForm
+  drainForm : StepForm
 
 abbrev pub stepText : StepForm → List ℕ
 stepText (work admit) = ascii "step=admit"
@@ -46,7 +53,7 @@ stepText (work (join at unit)) = field "step=join at=" at (field " unit=" unit [
 stepText (work (split at unit after)) = field "step=split at=" at (field " unit=" unit (field " after=" after []))
 stepText (work (swap at unit)) = field "step=swap at=" at (field " unit=" unit [])
 stepText (work (fuse at unit)) = field "step=fuse at=" at (field " unit=" unit [])
-stepText drain = ascii "step=drain"
+stepText drainForm = ascii "step=drain"
 
 -- every number of the line
 abbrev pub stepNumbers : StepForm → List ℕ
@@ -58,7 +65,7 @@ stepNumbers (work (join at unit)) = at ∷ unit ∷ []
 stepNumbers (work (split at unit after)) = at ∷ unit ∷ after ∷ []
 stepNumbers (work (swap at unit)) = at ∷ unit ∷ []
 stepNumbers (work (fuse at unit)) = at ∷ unit ∷ []
-stepNumbers drain = []
+stepNumbers drainForm = []
 
 -- the number in `at=`
 abbrev pub stepKeys : StepForm → List ℕ
@@ -70,7 +77,7 @@ stepKeys (work (join at unit)) = at ∷ []
 stepKeys (work (split at unit after)) = at ∷ []
 stepKeys (work (swap at unit)) = at ∷ []
 stepKeys (work (fuse at unit)) = at ∷ []
-stepKeys drain = []
+stepKeys drainForm = []
 
 -- ---- claims: the form is the label
 
@@ -79,3 +86,28 @@ claimText label = field "claim=" label []
 
 abbrev pub claimNumbers : ℕ → List ℕ
 claimNumbers label = label ∷ []
+
+-- ---- lines
+
+-- the line at a place of a frame buffer: to the next newline or the end; past the end it is empty
+abbrev pub lineAt : List ℕ → ℕ → List ℕ
+lineAt frame at = upTo 10 (drop at frame)
+
+-- the line is the text of the form f, whose numbers are 32-bit numbers, and has at most 255 bytes
+pub record TextOf {F : Type 0} (text numbers : F → List ℕ) (line : List ℕ) (f : F) : Type 0 where
+  pub short : length line < 256
+  pub fits : areWords (numbers f) ≡ true
+  pub same : line ≡ text f
+
+abbrev pub IsCall : List ℕ → Call → Type 0
+IsCall line f = TextOf callText callNumbers line f
+
+-- 11: "a key outside 1 to 64 in `at=`"
+abbrev pub stepFormTests : StepForm → List Test
+stepFormTests f = on (not (areKeys (stepKeys f))) 11 ∷ []
+
+abbrev pub IsStep : List ℕ → StepForm → Type 0
+IsStep line f = TextOf stepText stepNumbers line f
+
+abbrev pub IsClaim : List ℕ → ℕ → Type 0
+IsClaim line label = TextOf claimText claimNumbers line label

@@ -1,3 +1,2 @@
 pub mod Forms
-pub mod Answers
-pub mod Reads
+pub mod Inner

@@ -14,8 +14,8 @@ ghost use mathlib.Core.Path.{_≡_};
 ghost use mathlib.Core.List.{List};
 ghost use Prim.Native.Nat.{ℕ, _≤_};
 ghost use lib.ListN.{length, drop};
-ghost use Rattle.lines.specs.Answers.{CallRead, refusedCall};
-ghost use Rattle.lines.specs.Reads.{KeysOf, Held, CallWordOf, callMade, Links, Starts, CallAfter};
+ghost use Rattle.lines.specs.Inner.Answers.{CallRead, refusedCall};
+ghost use Rattle.lines.specs.Inner.LineParts.{KeysOf, KeysStored, CallWordOf, callMade, Links, Starts, CallAfter};
 ghost use Rattle.lines.specs.declared.call.CallKind.the-variants.{Add, Map, Near};
 
 pub enum CallKind {
@@ -29,24 +29,24 @@ pub enum CallKind {
     Near,
 }
 
-// A call line as it was read: the refusal, or 0, the kind, the numbers in the line's order, and the targets. What a
-// line has no use for is zero.
+// The refusal, or the kind and its numbers in the line's order, the second 0 where the kind has one only.
+pub enum CallAnswer {
+    Refused(u32),
+    Is(CallKind, u32, u32),
+}
+
+// A call line as it was read. The targets stand beside the answer: no covered enum holds an array. Where there are none
+// they are empty.
 pub struct CallLine {
-    pub refusal: u8,
-    pub kind: CallKind,
-    pub x: u32,
-    pub y: u32,
+    pub answer: CallAnswer,
     pub to: Keys,
 }
 
-fn refused_call(refusal: u8) -> CallLine
+fn refused_call(refusal: u32) -> CallLine
     ensures { λ r. ⌜ r ≡ refusedCall refusal ⌝ }
 {
     CallLine {
-        refusal: refusal,
-        kind: CallKind::Add,
-        x: 0,
-        y: 0,
+        answer: CallAnswer::Refused(refusal),
         to: Keys::none(),
     }
 }
@@ -89,7 +89,7 @@ fn call_word(word: &[u8]) -> CallWord
 
 // The answer to a call that came apart, whose key is one: 11 for a target that is none, then 12, else the call.
 fn call_made(kind: CallKind, x: u32, y: u32, list: KeyList, key: [u8; 8]) -> CallLine
-    ensures { λ r. ⌜ ((ts : List ℕ) → KeysOf ts list → Held ts key → r ≡ callMade kind x y ts) ⌝ }
+    ensures { λ r. ⌜ ((ts : List ℕ) → KeysOf ts list → KeysStored ts key → r ≡ callMade kind x y ts) ⌝ }
 {
     if !list.keys {
         return refused_call(11);
@@ -101,10 +101,7 @@ fn call_made(kind: CallKind, x: u32, y: u32, list: KeyList, key: [u8; 8]) -> Cal
         return refused_call(12);
     }
     CallLine {
-        refusal: 0,
-        kind: kind,
-        x: x,
-        y: y,
+        answer: CallAnswer::Is(kind, x, y),
         to: Keys {
             count: list.count,
             key: key,
@@ -124,10 +121,7 @@ fn add_call(line: &[u8], at: usize) -> CallLine
         return refused_call(10);
     }
     CallLine {
-        refusal: 0,
-        kind: CallKind::Add,
-        x: value,
-        y: 0,
+        answer: CallAnswer::Is(CallKind::Add, value, 0),
         to: Keys::none(),
     }
 }

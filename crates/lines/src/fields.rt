@@ -13,7 +13,7 @@ ghost use lib.Dec.{ltb};
 ghost use lib.ListN.{length, drop};
 ghost use Rattle.text.specs.Text.{upTo};
 ghost use Rattle.lines.specs.Forms.{targets};
-ghost use Rattle.lines.specs.Reads.{FieldOf, TargetsOf};
+ghost use Rattle.lines.specs.Inner.LineParts.{FieldOf, TargetsOf};
 
 // A line has at most 255 bytes.
 pub fn too_long(line: &[u8]) -> bool

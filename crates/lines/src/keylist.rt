@@ -9,14 +9,14 @@ ghost use Prim.Native.Nat.{ℕ, _≤_, _<_};
 ghost use lib.ListN.{set};
 ghost use Rattle.graph.specs.KeyLists.{isKey};
 ghost use Rattle.text.specs.Text.{commas};
-ghost use Rattle.lines.specs.Reads.{KeysOf, TargetsOf};
+ghost use Rattle.lines.specs.Inner.LineParts.{KeysOf, TargetsOf};
 ghost use Rattle.lines.specs.declared.keylist.Targets.the-variants.{Not};
 
 // What is known of the numbers so far: how many (9 for more than eight), the last, whether all are keys, and whether they
 // rise strictly.
 pub struct KeyList {
     pub count: u8,
-    pub last: u32,
+    pub latest: u32,
     pub keys: bool,
     pub rising: bool,
 }
@@ -78,7 +78,7 @@ impl KeyList {
     {
         KeyList {
             count: 0,
-            last: 0,
+            latest: 0,
             keys: true,
             rising: true,
         }
@@ -89,13 +89,13 @@ impl KeyList {
         ensures { λ r. ⌜ ((ts : List ℕ) → KeysOf ts self → KeysOf (ts ++ v ∷ []) r) ⌝ }
     {
         let n = self.count;
-        let last = self.last;
+        let last = self.latest;
         let keys = and(self.keys, is_key(v));
         let rising = and(self.rising, last < v);
         let more = if n < 9 { n + 1 } else { n };
         KeyList {
             count: more,
-            last: v,
+            latest: v,
             keys: keys,
             rising: rising,
         }

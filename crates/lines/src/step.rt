@@ -10,9 +10,11 @@ ghost use mathlib.Core.Path.{_≡_};
 ghost use mathlib.Core.List.{[], _∷_};
 ghost use Prim.Native.Nat.{_≤_};
 ghost use lib.ListN.{length, drop};
+ghost use Rattle.graph.specs.Refusals.{done};
+ghost use Rattle.graph.specs.Counts.{tallyPlace};
 ghost use Rattle.text.specs.Text.{ascii};
-ghost use Rattle.lines.specs.Answers.{StepRead, refusedStep, stepOf, stepNumber};
-ghost use Rattle.lines.specs.Reads.{StepWordOf, stepLiterals, stepMade, StepAfter};
+ghost use Rattle.lines.specs.Inner.Answers.{stepNamed, stepAnswered, StepRead};
+ghost use Rattle.lines.specs.Inner.LineParts.{StepWordOf, stepLiterals, stepForm, stepTested, StepAfter};
 ghost use Rattle.lines.specs.declared.step.StepKind.the-variants.{Split};
 
 pub enum StepKind {
@@ -27,42 +29,38 @@ pub enum StepKind {
     Drain,
 }
 
-// A step line as it was read: the refusal, or 0, the kind, and the numbers. What a line does not name is zero.
-pub struct StepLine {
-    pub refusal: u8,
-    pub kind: StepKind,
-    pub at: u32,
-    pub unit: u32,
-    pub after: u32,
+// A work step, and the station, unit and place in the unit that it names.
+pub enum WorkStep {
+    Admit,
+    Realise(u8),
+    Move(u8),
+    Finish(u8),
+    Join(u8, u32),
+    Split(u8, u32, u32),
+    Swap(u8, u32),
+    Fuse(u8, u32),
 }
 
-// The place of a step's kind in the rules' list of kinds, which is the tally's order. Drain, which has no count, is the ninth.
-pub fn step_number(s: StepLine) -> u8
-    ensures { λ r. ⌜ r ≡ stepNumber (stepOf s) ⌝ }
-{
-    let kind = s.kind;
-    match kind {
-        StepKind::Admit => 0,
-        StepKind::Realise => 1,
-        StepKind::Move => 2,
-        StepKind::Finish => 3,
-        StepKind::Join => 4,
-        StepKind::Split => 5,
-        StepKind::Swap => 6,
-        StepKind::Fuse => 7,
-        StepKind::Drain => 8,
-    }
+// A step line as it was read: the refusal, or a work step, or drain.
+pub enum StepLine {
+    Refused(u32),
+    Work(WorkStep),
+    Drain,
 }
 
-fn refused_step(refusal: u8) -> StepLine
-    ensures { λ r. ⌜ r ≡ refusedStep refusal ⌝ }
+// The place of a step's kind in the rules' list of kinds, which is the tally's order.
+pub fn tally_place(w: WorkStep) -> u8
+    ensures { λ r. ⌜ r ≡ tallyPlace (stepNamed w) ⌝ }
 {
-    StepLine {
-        refusal: refusal,
-        kind: StepKind::Admit,
-        at: 0,
-        unit: 0,
-        after: 0,
+    match w {
+        WorkStep::Admit => 0,
+        WorkStep::Realise(_) => 1,
+        WorkStep::Move(_) => 2,
+        WorkStep::Finish(_) => 3,
+        WorkStep::Join(_, _) => 4,
+        WorkStep::Split(_, _, _) => 5,
+        WorkStep::Swap(_, _) => 6,
+        WorkStep::Fuse(_, _) => 7,
     }
 }
 
@@ -105,20 +103,31 @@ fn step_word(word: &[u8]) -> StepWord
     StepWord::Not
 }
 
+// The step of this kind, with those of the numbers that its kind names.
+fn step_with(kind: StepKind, at: u8, unit: u32, after: u32) -> StepLine
+    ensures { λ r. ⌜ stepAnswered r ≡ done (stepForm kind at unit after) ⌝ }
+{
+    match kind {
+        StepKind::Admit => StepLine::Work(WorkStep::Admit),
+        StepKind::Realise => StepLine::Work(WorkStep::Realise(at)),
+        StepKind::Move => StepLine::Work(WorkStep::Move(at)),
+        StepKind::Finish => StepLine::Work(WorkStep::Finish(at)),
+        StepKind::Join => StepLine::Work(WorkStep::Join(at, unit)),
+        StepKind::Split => StepLine::Work(WorkStep::Split(at, unit, after)),
+        StepKind::Swap => StepLine::Work(WorkStep::Swap(at, unit)),
+        StepKind::Fuse => StepLine::Work(WorkStep::Fuse(at, unit)),
+        StepKind::Drain => StepLine::Drain,
+    }
+}
+
 // The answer to a step that came apart and names a node: refusal 11, else the step.
 fn step_made(kind: StepKind, at: u32, unit: u32, after: u32) -> StepLine
-    ensures { λ r. ⌜ r ≡ stepMade kind at unit after ⌝ }
+    ensures { λ r. ⌜ stepAnswered r ≡ stepTested kind at unit after ⌝ }
 {
     if !is_key(at) {
-        return refused_step(11);
+        return StepLine::Refused(11);
     }
-    StepLine {
-        refusal: 0,
-        kind: kind,
-        at: at,
-        unit: unit,
-        after: after,
-    }
+    step_with(kind, at as u8, unit, after)
 }
 
 // Nothing after the word: admit and drain.
@@ -127,15 +136,9 @@ fn word_step(kind: StepKind, line: &[u8], at: usize) -> StepLine
     ensures { λ r. ⌜ StepAfter kind (drop at (now (line .entry))) r ⌝ }
 {
     if at < line.len() {
-        return refused_step(10);
+        return StepLine::Refused(10);
     }
-    StepLine {
-        refusal: 0,
-        kind: kind,
-        at: 0,
-        unit: 0,
-        after: 0,
-    }
+    step_with(kind, 0, 0, 0)
 }
 
 // ` at=`: realise, move and finish.
@@ -144,10 +147,10 @@ fn place_step(kind: StepKind, line: &[u8], at: usize) -> StepLine
     ensures { λ r. ⌜ StepAfter kind (drop at (now (line .entry))) r ⌝ }
 {
     let Field::Is(place, n) = number_field(line, at, b" at=") else {
-        return refused_step(10);
+        return StepLine::Refused(10);
     };
     if n < line.len() {
-        return refused_step(10);
+        return StepLine::Refused(10);
     }
     step_made(kind, place, 0, 0)
 }
@@ -158,13 +161,13 @@ fn unit_step(kind: StepKind, line: &[u8], at: usize) -> StepLine
     ensures { λ r. ⌜ StepAfter kind (drop at (now (line .entry))) r ⌝ }
 {
     let Field::Is(place, n) = number_field(line, at, b" at=") else {
-        return refused_step(10);
+        return StepLine::Refused(10);
     };
     let Field::Is(unit, m) = number_field(line, n, b" unit=") else {
-        return refused_step(10);
+        return StepLine::Refused(10);
     };
     if m < line.len() {
-        return refused_step(10);
+        return StepLine::Refused(10);
     }
     step_made(kind, place, unit, 0)
 }
@@ -175,16 +178,16 @@ fn split_step(line: &[u8], at: usize) -> StepLine
     ensures { λ r. ⌜ StepAfter Split (drop at (now (line .entry))) r ⌝ }
 {
     let Field::Is(place, n) = number_field(line, at, b" at=") else {
-        return refused_step(10);
+        return StepLine::Refused(10);
     };
     let Field::Is(unit, m) = number_field(line, n, b" unit=") else {
-        return refused_step(10);
+        return StepLine::Refused(10);
     };
     let Field::Is(after, k) = number_field(line, m, b" after=") else {
-        return refused_step(10);
+        return StepLine::Refused(10);
     };
     if k < line.len() {
-        return refused_step(10);
+        return StepLine::Refused(10);
     }
     step_made(StepKind::Split, place, unit, after)
 }
@@ -212,14 +215,14 @@ pub fn parse_step(line: &[u8]) -> StepLine
     ensures { λ r. ⌜ StepRead (now (line .entry)) r ⌝ }
 {
     if too_long(line) {
-        return refused_step(10);
+        return StepLine::Refused(10);
     }
     let Place::At(from) = past(line, 0, b"step=") else {
-        return refused_step(10);
+        return StepLine::Refused(10);
     };
     let word = value_at(line, from);
     let StepWord::Is(kind) = step_word(word) else {
-        return refused_step(10);
+        return StepLine::Refused(10);
     };
     step_after(kind, line, from + word.len())
 }

@@ -9,23 +9,27 @@ use lib.Seq.{getD-append-add}
 use Rattle.graph.specs.Nodes.{Node}
 use Rattle.graph.specs.Sessions.{Station, Session, graphOf, pending}
 use Rattle.graph.proofs.Labels.{one, total-one}
-use Rattle.queue.specs.Flat.{Flat, flat, nest, nodesOf, queued}
-use Rattle.queue.proofs.Labels.{pending-same}
-use Rattle.worksteps.specs.FlatSteps.{noNode}
+use Rattle.flat.specs.Flat.{Flat, flat, nodesOf}
+use Rattle.flat.specs.Inner.Nested.{nest}
+use Rattle.flat.specs.Inner.Queues.{queued}
+use Rattle.flat.proofs.Labels.{pending-same}
+use Rattle.flat.specs.Inner.FlatSteps.{noNode}
 use Rattle.text.specs.Text.{texts}
-use Rattle.print.specs.Printed.{headText, nodeText, resultText, nodeOf, resultOf}
-use Rattle.valid.specs.Values.{sessionOf}
-use Rattle.state.specs.State.{held}
-use Rattle.state.specs.Results.{IsBody, IsOutcome, noResult}
+use Rattle.print.specs.Printed.{headText, nodeText, resultText}
+use Rattle.print.specs.Inner.Values.{nodeByValue, resultByValue}
+use Rattle.valid.specs.Inner.Decoded.{sessionOf}
+use Rattle.state.specs.Inner.State.{flatIn}
+use Rattle.state.specs.Inner.Results.{IsBody, IsCallResult, noResult}
 use Rattle.state.specs.declared.nodes.Body.{Body}
-use Rattle.state.specs.declared.results.Outcome.{Outcome}
+use Rattle.state.specs.declared.results.CallResult.{CallResult}
 use Rattle.state.proofs.Holding.{getD-of}
-use Rattle.live.specs.Live.{Live}
-use Rattle.live.proofs.Serving.{session-held}
-use Rattle.listing.specs.Listed.{listingOf, headOf, rowsOf, joined}
+use Rattle.state.specs.Inner.ValidImage.{ValidImage}
+use Rattle.state.proofs.Serving.{session-held}
+use Rattle.listing.specs.Listed.{listingOf}
+use Rattle.listing.specs.Inner.Rows.{headLine, rowsOf, joined}
 use Rattle.listing.proofs.Joined.{joined-append, joined-map, getD-back}
 
-pub head-counted : (f : Flat) {n m k : ℕ} → n ≡ length (f .nodes) → m ≡ length (f .results) → k ≡ length (queued (f .queue)) → headText n m k ≡ headOf f
+pub head-counted : (f : Flat) {n m k : ℕ} → n ≡ length (f .nodes) → m ≡ length (f .results) → k ≡ length (queued (f .queue)) → headText n m k ≡ headLine f
 head-counted f a b c i = headText (a i) (b i) (c i)
 
 -- THE ROWS of the flat session
@@ -43,16 +47,16 @@ module _ (f : Flat) where
   nodes-first : length (map nodeText (reverse (f .nodes))) ≡ length (f .nodes)
   nodes-first = length-map (reverse (f .nodes)) nodeText ∙ length-reverse (f .nodes)
 
-  pub row-node : (i k : ℕ) (b : Body) → i + suc k ≡ length (f .nodes) → IsBody (getD (f .nodes) k noNode) b → nodeText (nodeOf (b .key) (b .value) (b .links)) ≡ getD (rowsOf f) i []
+  pub row-node : (i k : ℕ) (b : Body) → i + suc k ≡ length (f .nodes) → IsBody (getD (f .nodes) k noNode) b → nodeText (nodeByValue (b .key) (b .value) (b .links)) ≡ getD (rowsOf f) i []
   row-node i k b e g =
-      let node : nodeOf (b .key) (b .value) (b .links) ≡ getD (f .nodes) k noNode = λ j. record { key = g .key j; value = g .value j; links = g .links .is j } in
+      let node : nodeByValue (b .key) (b .value) (b .links) ≡ getD (f .nodes) k noNode = λ j. record { key = g .key j; value = g .value j; links = g .links .is j } in
       ap nodeText (node ∙ sym (getD-back (f .nodes) i k noNode e))
       ∙ sym (getD-of nodeText (reverse (f .nodes)) i noNode [] (omega (arith, length-reverse (f .nodes))))
       ∙ sym (List·getD-append (map nodeText (reverse (f .nodes))) (map resultText (f .results)) [] i (omega (arith, nodes-first)))
 
-  pub row-result : (i k : ℕ) (r : Outcome) → i ≡ length (f .nodes) + k → k < length (f .results) → IsOutcome (getD (f .results) k noResult) r → resultText (resultOf (r .label) (r .value) (r .left)) ≡ getD (rowsOf f) i []
+  pub row-result : (i k : ℕ) (r : CallResult) → i ≡ length (f .nodes) + k → k < length (f .results) → IsCallResult (getD (f .results) k noResult) r → resultText (resultByValue (r .label) (r .value) (r .left)) ≡ getD (rowsOf f) i []
   row-result i k r e h g =
-      let result : resultOf (r .label) (r .value) (r .left) ≡ getD (f .results) k noResult = λ j. record { label = g .label j; value = g .value j; left = g .left .is j } in
+      let result : resultByValue (r .label) (r .value) (r .left) ≡ getD (f .results) k noResult = λ j. record { label = g .label j; value = g .value j; left = g .left .is j } in
       let place : length (map nodeText (reverse (f .nodes))) + k ≡ i = omega (arith, nodes-first) in
       ap resultText result
       ∙ sym (getD-of resultText (f .results) k noResult [] h)
@@ -61,7 +65,7 @@ module _ (f : Flat) where
 
 -- the flat session's listing
 abbrev pub flatListing : Flat → List ℕ
-flatListing f = headOf f ++ joined (rowsOf f)
+flatListing f = headLine f ++ joined (rowsOf f)
 
 graph-reversed : (ss : List Station) → reverse (nodesOf ss) ≡ graphOf ss
 graph-reversed [] = refl
@@ -75,15 +79,15 @@ pending-counted s = sym (total-one (queued (flat s .queue))) ∙ pending-same on
 
 listing-flat : (s : Session) → flatListing (flat s) ≡ listingOf s
 listing-flat s =
-    ap (λ (r : List ℕ). headOf (flat s) ++ r)
+    ap (λ (r : List ℕ). headLine (flat s) ++ r)
     (joined-append (map nodeText (reverse (flat s .nodes))) (map resultText (s .results))
     ∙ (λ i. joined-map nodeText (reverse (flat s .nodes)) i ++ joined-map resultText (s .results) i))
-    ∙ sym (append-assoc (headOf (flat s)) (texts nodeText (reverse (flat s .nodes))) (texts resultText (s .results)))
+    ∙ sym (append-assoc (headLine (flat s)) (texts nodeText (reverse (flat s .nodes))) (texts resultText (s .results)))
     ∙ (λ i. headText (nodes-counted (s .stations) i) (length (s .results)) (pending-counted s i) ++ texts nodeText (graph-reversed (s .stations) i) ++ texts resultText (s .results))
 
-pub listing-held : (image : List ℕ) → Live image → flatListing (held image) ≡ listingOf (sessionOf image)
-listing-held image l = ap flatListing (sym (l .flat)) ∙ listing-flat (nest (held image)) ∙ ap listingOf (sym (session-held image))
+pub listing-held : (image : List ℕ) → ValidImage image → flatListing (flatIn image) ≡ listingOf (sessionOf image)
+listing-held image l = ap flatListing (sym (l .flat)) ∙ listing-flat (nest (flatIn image)) ∙ ap listingOf (sym (session-held image))
 
 -- room for the listing is room for its head
-pub fitting : (image : List ℕ) {n : ℕ} → Live image → length (listingOf (sessionOf image)) ≤ n → 0 + length (flatListing (held image)) ≤ n
+pub fitting : (image : List ℕ) {n : ℕ} → ValidImage image → length (listingOf (sessionOf image)) ≤ n → 0 + length (flatListing (flatIn image)) ≤ n
 fitting image l h = omega (arith, ap length (listing-held image l))

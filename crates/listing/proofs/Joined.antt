@@ -7,14 +7,15 @@ use native.Mathlib.Omega.{arith}
 use native.Mathlib.Numerals.{add-one}
 use lib.ListN.{length, take, drop, getD, length-append, length-drop, length-reverse}
 use lib.Seq.{take-suc, split-at, getD-at}
-use Rattle.text.specs.Text.{Written, texts}
+use Rattle.text.specs.Inner.Put.{TextPut}
+use Rattle.text.specs.Text.{texts}
 use Rattle.text.proofs.Pasting.{written-room, written-then}
 use Rattle.text.proofs.Lists.{texts-append}
-use Rattle.listing.specs.Listed.{joined}
+use Rattle.listing.specs.Inner.Rows.{joined}
 
 -- the same text, written another way
-pub written-as : {s a b o : List ℕ} {at p : ℕ} → a ≡ b → Written s at a o p → Written s at b o p
-written-as {s} {a} {b} {o} {at} {p} e w = subst (λ (t : List ℕ). Written s at t o p) e w
+pub written-as : {s a b o : List ℕ} {at p : ℕ} → a ≡ b → TextPut s at a o p → TextPut s at b o p
+written-as {s} {a} {b} {o} {at} {p} e w = subst (λ (t : List ℕ). TextPut s at t o p) e w
 
 pub joined-append : (xs ys : List (List ℕ)) → joined (xs ++ ys) ≡ joined xs ++ joined ys
 joined-append xs ys = texts-append (λ (l : List ℕ). l) xs ys
@@ -35,7 +36,7 @@ module _ (xs : List (List ℕ)) (i : ℕ) (h : i < length xs) where
   pub length-next : length (joined (take (i + 1) xs)) ≡ length (joined (take i xs)) + length (getD xs i [])
   length-next = ap length joined-next ∙ length-append (joined (take i xs)) (getD xs i [])
 
-  module _ {s out : List ℕ} {at p : ℕ} (fits : at + length (joined xs) ≤ length s) (w : Written s at (joined (take i xs)) out p) where
+  module _ {s out : List ℕ} {at p : ℕ} (fits : at + length (joined xs) ≤ length s) (w : TextPut s at (joined (take i xs)) out p) where
     room : at + length (joined (take i xs) ++ getD xs i []) ≤ length s
     room =
         omega (
@@ -50,7 +51,7 @@ module _ (xs : List (List ℕ)) (i : ℕ) (h : i < length xs) where
     pub row-room : p + length (getD xs i []) ≤ length out
     row-room = written-room w (getD xs i []) room
 
-    pub row-more : {out′ : List ℕ} {p′ : ℕ} → Written out p (getD xs i []) out′ p′ → Written s at (joined (take (i + 1) xs)) out′ p′
+    pub row-more : {out′ : List ℕ} {p′ : ℕ} → TextPut out p (getD xs i []) out′ p′ → TextPut s at (joined (take (i + 1) xs)) out′ p′
     row-more v = written-as (sym joined-next) (written-then w v room)
 
 -- a list read from the back

@@ -1,42 +1,11 @@
 -- The listing of a session: document 01, section 'Host, panel and program'.
 -- Assumes nothing.
-use Prim.Native.Nat.{ℕ, _≤_}
-use mathlib.Core.Path.{_≡_}
-use mathlib.Core.Bool.{cond}
-use mathlib.Core.List.{List, _++_, map, reverse}
+use Prim.Native.Nat.{ℕ}
+use mathlib.Core.List.{List}
 use lib.ListN.{length}
 use Rattle.graph.specs.Sessions.{Session, graphOf, pending}
-use Rattle.queue.specs.Flat.{Flat, queued}
-use Rattle.text.specs.Text.{texts}
-use Rattle.print.specs.Printed.{headText, nodeText, resultText, nodeOf, resultOf, listingText}
-use Rattle.listing.specs.declared.rows.Row.{Row}
+use Rattle.print.specs.Printed.{listingText}
 
 -- "The head counts nodes, unclaimed results and pending calls. Nodes stand in station order, results by label."
 abbrev pub listingOf : Session → List ℕ
 listingOf s = listingText (graphOf (s .stations)) (s .results) (length (pending s))
-
--- the head and up to 128 lines, each of up to 128 bytes
-pub record ListingLength (s : Session) (r : ℕ) : Type 0 where
-  pub text : r ≡ length (listingOf s)
-  pub few : r ≤ 16512
-
--- the head, counted on the flat session
-abbrev pub headOf : Flat → List ℕ
-headOf f = headText (length (f .nodes)) (length (f .results)) (length (queued (f .queue)))
-
--- the lines after the head; a flat session's nodes stand from the last station on
-abbrev pub rowsOf : Flat → List (List ℕ)
-rowsOf f = map nodeText (reverse (f .nodes)) ++ map resultText (f .results)
-
--- one of them, by value
-abbrev pub rowText : Row → List ℕ
-rowText r = cond (r .node) (nodeText (nodeOf (r .name) (r .value) (r .keys))) (resultText (resultOf (r .name) (r .value) (r .keys)))
-
--- lines one after another
-abbrev pub joined : List (List ℕ) → List ℕ
-joined lines = texts (λ (l : List ℕ). l) lines
-
--- the length of up to 128 lines
-pub record RowsLength (lines : List ℕ) (r : ℕ) : Type 0 where
-  pub text : r ≡ length lines
-  pub few : r ≤ 16384

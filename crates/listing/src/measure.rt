@@ -2,17 +2,17 @@
 use crate::rows::Row;
 use crate::rows::row_at;
 use crate::rows::rows_total;
-use calls::waiting::labels_waiting;
 use print::lines::head_len;
 use print::lines::node_len;
 use print::lines::result_len;
 use state::nodes;
 use state::results;
-ghost use Rattle.print.specs.Lengths.{LineLength};
-ghost use Rattle.valid.specs.Values.{sessionOf};
-ghost use Rattle.state.specs.State.{held, Proper};
-ghost use Rattle.live.specs.Live.{Live};
-ghost use Rattle.listing.specs.Listed.{headOf, rowText, rowsOf, joined, RowsLength, ListingLength};
+use waiting::labels_waiting;
+ghost use Rattle.print.specs.Inner.Lengths.{LineLength};
+ghost use Rattle.valid.specs.Inner.Decoded.{sessionOf};
+ghost use Rattle.state.specs.Inner.State.{flatIn, Proper};
+ghost use Rattle.state.specs.Inner.ValidImage.{ValidImage};
+ghost use Rattle.listing.specs.Inner.Rows.{headLine, rowText, rowsOf, joined, RowsLength, ListingLength};
 
 fn row_len(row: Row) -> usize
     ensures { λ r. ⌜ LineLength (rowText row) r ⌝ }
@@ -26,7 +26,7 @@ fn row_len(row: Row) -> usize
 
 fn rows_len(image: &[u8]) -> usize
     requires { ⌜ Proper (now image) ⌝ }
-    ensures { λ r. ⌜ RowsLength (joined (rowsOf (held (now (image .entry))))) r ⌝ }
+    ensures { λ r. ⌜ RowsLength (joined (rowsOf (flatIn (now (image .entry))))) r ⌝ }
 {
     let n = rows_total(image);
     let mut sum: usize = 0;
@@ -40,7 +40,7 @@ fn rows_len(image: &[u8]) -> usize
 
 fn counts_len(image: &[u8]) -> usize
     requires { ⌜ Proper (now image) ⌝ }
-    ensures { λ r. ⌜ LineLength (headOf (held (now (image .entry)))) r ⌝ }
+    ensures { λ r. ⌜ LineLength (headLine (flatIn (now (image .entry)))) r ⌝ }
 {
     let n = nodes::total(image);
     let m = results::total(image);
@@ -50,7 +50,7 @@ fn counts_len(image: &[u8]) -> usize
 
 // How many bytes `put_listing` writes.
 pub fn listing_len(image: &[u8]) -> usize
-    requires { ⌜ Live (now image) ⌝ }
+    requires { ⌜ ValidImage (now image) ⌝ }
     ensures { λ r. ⌜ ListingLength (sessionOf (now (image .entry))) r ⌝ }
 {
     counts_len(image) + rows_len(image)

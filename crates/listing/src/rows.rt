@@ -6,9 +6,9 @@ ghost use mathlib.Core.Path.{_≡_};
 ghost use mathlib.Core.List.{[]};
 ghost use Prim.Native.Nat.{_<_};
 ghost use lib.ListN.{length, getD};
-ghost use Rattle.state.specs.Operations.{Bounded};
-ghost use Rattle.state.specs.State.{held, Proper};
-ghost use Rattle.listing.specs.Listed.{rowText, rowsOf};
+ghost use Rattle.state.specs.Inner.Operations.{Bounded};
+ghost use Rattle.state.specs.Inner.State.{flatIn, Proper};
+ghost use Rattle.listing.specs.Inner.Rows.{rowText, rowsOf};
 
 // A node's key, value and links, or a result's label, value and keys left.
 pub struct Row {
@@ -20,15 +20,15 @@ pub struct Row {
 
 pub fn rows_total(image: &[u8]) -> usize
     requires { ⌜ Proper (now image) ⌝ }
-    ensures { λ r. ⌜ Bounded (length (rowsOf (held (now (image .entry))))) 128 r ⌝ }
+    ensures { λ r. ⌜ Bounded (length (rowsOf (flatIn (now (image .entry))))) 128 r ⌝ }
 {
     nodes::total(image) + results::total(image)
 }
 
 // The image's nodes stand from the last station on, so the last of them comes first.
 pub fn row_at(image: &[u8], i: usize) -> Row
-    requires { ⌜ (Proper (now image)) × (i < length (rowsOf (held (now image)))) ⌝ }
-    ensures { λ r. ⌜ rowText r ≡ getD (rowsOf (held (now (image .entry)))) i [] ⌝ }
+    requires { ⌜ (Proper (now image)) × (i < length (rowsOf (flatIn (now image)))) ⌝ }
+    ensures { λ r. ⌜ rowText r ≡ getD (rowsOf (flatIn (now (image .entry)))) i [] ⌝ }
 {
     let n = nodes::total(image);
     if i < n {
@@ -41,7 +41,7 @@ pub fn row_at(image: &[u8], i: usize) -> Row
             keys: links,
         };
     }
-    let o = results::outcome_at(image, i - n);
+    let o = results::call_result_at(image, i - n);
     let left = o.left;
     Row {
         node: false,

@@ -9,7 +9,7 @@ use lib.Dec.{eqb}
 use lib.ListN.{length}
 use borrow.Author.Tests.{ne-eqb}
 use Rattle.graph.specs.Steps.{Step, admit, realise, move, finish, join, split, swap, fuse}
-use Rattle.graph.specs.Runs.{tallyPlace, ofKind, workSteps}
+use Rattle.graph.specs.Counts.{tallyPlace, ofKind, quotedSteps}
 use Rattle.graph.proofs.Answers.{test-most}
 use Rattle.graph.proofs.Effects.{costs}
 use Rattle.graph.proofs.Drains.{work-cons}
@@ -90,12 +90,12 @@ apart k (split a i j) h = omega (arith, test-most (eqb k 5))
 apart k (swap a i) h = omega (arith, test-most (eqb k 6))
 apart k (fuse a i) h = omega (arith, test-most (eqb k 7))
 
-others : (k : ℕ) (ts : List Step) → 4 ≤ k → ofKind k ts + workSteps ts ≤ length ts
+others : (k : ℕ) (ts : List Step) → 4 ≤ k → ofKind k ts + quotedSteps ts ≤ length ts
 others k [] h = omega arith
 others k (s ∷ ts) h = omega (arith, apart k s h, others k ts h, work-cons s ts)
 
 -- of admits, realises, moves and finishes the four numbers may be added at once
-pub counted-at-once : (t : Tally) (ts : List Step) → Fits t → workSteps ts ≡ length ts →
+pub counted-at-once : (t : Tally) (ts : List Step) → Fits t → quotedSteps ts ≡ length ts →
     raised (raised (raised (raised t 0 (ofKind 0 ts)) 1 (ofKind 1 ts)) 2 (ofKind 2 ts)) 3 (ofKind 3 ts) ≡ counted t ts
 counted-at-once t ts r h = ap (each four) (sym r) ∙ (λ i. each (λ k c. same k c i) t) ∙ sym (counted-kinds t ts r)
   where

@@ -6,7 +6,7 @@ use mathlib.Core.Bool.{cond}
 use mathlib.Core.List.{List, [], _∷_}
 use lib.Dec.{eqb}
 use Rattle.graph.specs.Steps.{Step}
-use Rattle.graph.specs.Runs.{tallyPlace}
+use Rattle.graph.specs.Counts.{tallyPlace}
 use Rattle.panel.specs.declared.tally.Tally.{Tally}
 
 -- a count raised by n, resting at 4,294,967,295
@@ -28,8 +28,8 @@ each f t =
     }
 
 -- the count at a place raised by n, and no other; a place past the eight raises none
-abbrev pub raisedAt : ℕ → ℕ → ℕ → ℕ → ℕ
-raisedAt place n own c = cond (eqb own place) (upBy c n) c
+abbrev pub raisedAt : (place by own count : ℕ) → ℕ
+raisedAt place by own count = cond (eqb own place) (upBy count by) count
 
 abbrev pub raised : Tally → ℕ → ℕ → Tally
 raised t place n = each (raisedAt place n) t

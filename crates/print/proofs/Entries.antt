@@ -1,16 +1,17 @@
 -- A list of keys, entry by entry: its text and its length.
 -- Assumes nothing.
-use Prim.Native.Nat.{ℕ, zero, suc, _+_, _-_, _<_, _≤_}
+use Prim.Native.Nat.{ℕ, zero, suc, _+_, _<_, _≤_}
 use mathlib.Core.Path.{_≡_, refl, sym, ap, _∙_}
 use mathlib.Core.List.{List, [], _∷_, _++_, append-nil, append-assoc}
 use native.Mathlib.Omega.{arith}
 use native.Mathlib.Numerals.{add-one}
 use lib.ListN.{length, take, drop, getD, length-append, take-append-drop}
 use lib.Seq.{take-suc, take-all, length-take-le}
-use Rattle.text.specs.Text.{decimal, further, commas, Written}
+use Rattle.text.specs.Text.{decimal, further, commas}
+use Rattle.text.specs.Inner.Put.{TextPut}
 use Rattle.text.proofs.Lists.{further-append}
 use Rattle.text.proofs.Pasting.{written-none, written-room, written-then, written-size}
-use Rattle.print.specs.Printed.{entry}
+use Rattle.print.specs.Inner.Values.{entry}
 
 pub entry-first : (place key k : ℕ) → place ≡ 0 → k ≡ key → entry place key ≡ decimal k
 entry-first zero key k h e = ap decimal (sym e)
@@ -49,7 +50,7 @@ commas-front (suc i) (t ∷ ts) =
 
 -- ---- written entry by entry
 
-module _ (s : List ℕ) (at : ℕ) (l out : List ℕ) (p i : ℕ) (fits : at + length (commas l) ≤ length s) (w : Written s at (commas (take i l)) out p) where
+module _ (s : List ℕ) (at : ℕ) (l out : List ℕ) (p i : ℕ) (fits : at + length (commas l) ≤ length s) (w : TextPut s at (commas (take i l)) out p) where
   module _ (h : i < length l) (k : ℕ) (e : k ≡ getD l i 0) where
     room : at + length (commas (take i l) ++ entry i k) ≤ length s
     room = rw e (omega (arith, commas-front (i + 1) l, ap length (commas-next l i h)))
@@ -57,16 +58,16 @@ module _ (s : List ℕ) (at : ℕ) (l out : List ℕ) (p i : ℕ) (fits : at + l
     pub entry-room : p + length (entry i k) ≤ length out
     entry-room = written-room w (entry i k) room
 
-    pub entry-more : (out′ : List ℕ) (p′ : ℕ) → Written out p (entry i k) out′ p′ → Written s at (commas (take (i + 1) l)) out′ p′
+    pub entry-more : (out′ : List ℕ) (p′ : ℕ) → TextPut out p (entry i k) out′ p′ → TextPut s at (commas (take (i + 1) l)) out′ p′
     entry-more out′ p′ v = rw (commas-next l i h, ← e) (written-then w v room)
 
   pub entries-size : length out ≡ length s
   entries-size = written-size w (omega (arith, commas-front i l))
 
-  pub entries-all : length l ≤ i → Written s at (commas l) out p
+  pub entries-all : length l ≤ i → TextPut s at (commas l) out p
   entries-all h = rw (take-all i l h) at w
 
-pub entries-none : (s : List ℕ) (at : ℕ) (l : List ℕ) → Written s at (commas (take 0 l)) s at
+pub entries-none : (s : List ℕ) (at : ℕ) (l : List ℕ) → TextPut s at (commas (take 0 l)) s at
 unfolding commas
 entries-none s at l = written-none s at
 

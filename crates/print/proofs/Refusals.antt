@@ -7,6 +7,8 @@ use Rattle.text.specs.Text.{ascii}
 use Rattle.text.proofs.Decimals.{len-twenty}
 use Rattle.print.specs.Printed.{refusalText}
 
-pub refusal-fits : (line refusal : ℕ) → line < 2 ^ 64 → refusal < 2 ^ 64 → length (refusalText line refusal) ≤ 55
+pub refusal-fits : (line refusal : ℕ) → line < 2 ^ 64 → refusal < 2 ^ 32 → length (refusalText line refusal) ≤ 55
 unfolding ascii
-refusal-fits line refusal l r = simp length-append (omega (arith, len-twenty line l, len-twenty refusal r))
+refusal-fits line refusal l r =
+    let wide : refusal < 2 ^ 64 = omega arith in
+    simp length-append (omega (arith, len-twenty line l, len-twenty refusal wide))

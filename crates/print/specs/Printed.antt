@@ -1,11 +1,9 @@
 -- What is written (docs/RULES.md): result lines, node lines, the listing, and cgrun's refusals.
 -- Assumes nothing.
-use Prim.Native.Nat.{ℕ, zero, suc}
+use Prim.Native.Nat.{ℕ}
 use mathlib.Core.List.{List, [], _∷_, _++_}
 use lib.ListN.{length}
 use Rattle.graph.specs.Nodes.{Node, Result}
-use Rattle.graph.specs.Packed.{listed}
-use Rattle.graph.specs.declared.keys.Keys.{Keys}
 use Rattle.text.specs.Text.{ascii, decimal, commas, texts}
 
 -- a name and a number
@@ -39,18 +37,3 @@ listingText nodes results pending = headText (length nodes) (length results) pen
 -- line=3 refused=12
 abbrev pub refusalText : (line refusal : ℕ) → List ℕ
 refusalText line refusal = numbered (ascii "line=") line ++ numbered (ascii " refused=") refusal ++ newline
-
--- ---- a result and a node by value
-
-abbrev pub resultOf : ℕ → ℕ → Keys → Result
-resultOf label value left = record { label = label; value = value; left = listed left }
-
-abbrev pub nodeOf : ℕ → ℕ → Keys → Node
-nodeOf key value links = record { key = key; value = value; links = listed links }
-
--- ---- a list key by key
-
--- the key at a place of a list: a comma before each but the first
-abbrev pub entry : (place key : ℕ) → List ℕ
-entry zero key = decimal key
-entry (suc place) key = 44 ∷ decimal key

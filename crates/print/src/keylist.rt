@@ -6,9 +6,10 @@ ghost use mathlib.Core.Path.{_≡_};
 ghost use Prim.Native.Nat.{_+_, _≤_};
 ghost use lib.ListN.{length};
 ghost use Rattle.graph.specs.Packed.{listed};
-ghost use Rattle.text.specs.Text.{commas, Written};
-ghost use Rattle.print.specs.Printed.{entry};
-ghost use Rattle.print.specs.Lengths.{EntryLength, KeysLength};
+ghost use Rattle.text.specs.Text.{commas};
+ghost use Rattle.text.specs.Inner.Put.{TextPut};
+ghost use Rattle.print.specs.Inner.Values.{entry};
+ghost use Rattle.print.specs.Inner.Lengths.{EntryLength, KeysLength};
 
 fn wide(x: u8) -> u32
     ensures { λ r. ⌜ r ≡ x ⌝ }
@@ -19,7 +20,7 @@ fn wide(x: u8) -> u32
 // Writes the key that stands at `place` of a list: a comma before each but the first.
 fn put_entry(out: &mut [u8], at: usize, place: usize, key: u8) -> usize
     requires { ⌜ at + length (entry place key) ≤ length (now out) ⌝ }
-    ensures { λ r. ⌜ Written (now (out .entry)) at (entry place key) (now (out .exit)) r ⌝ }
+    ensures { λ r. ⌜ TextPut (now (out .entry)) at (entry place key) (now (out .exit)) r ⌝ }
 {
     if place == 0 {
         return put_decimal(out, at, wide(key));
@@ -31,7 +32,7 @@ fn put_entry(out: &mut [u8], at: usize, place: usize, key: u8) -> usize
 // Writes the keys from `at` on, and returns the place after them.
 pub fn put_keys(out: &mut [u8], at: usize, keys: Keys) -> usize
     requires { ⌜ at + length (commas (listed keys)) ≤ length (now out) ⌝ }
-    ensures { λ r. ⌜ Written (now (out .entry)) at (commas (listed keys)) (now (out .exit)) r ⌝ }
+    ensures { λ r. ⌜ TextPut (now (out .entry)) at (commas (listed keys)) (now (out .exit)) r ⌝ }
 {
     let n = keys.len();
     let mut p = at;

@@ -1,3 +1,3 @@
-// What the project writes: result lines, node lines, the listing's head, refusals. Nothing else writes decimal.
+// Every line that the host and cgrun write is written and measured here.
 pub mod keylist;
 pub mod lines;

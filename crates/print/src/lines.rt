@@ -9,14 +9,15 @@ use text::put::put_bytes;
 ghost use Prim.Native.Nat.{_+_, _≤_};
 ghost use lib.ListN.{length};
 ghost use Rattle.graph.specs.Packed.{listed};
-ghost use Rattle.text.specs.Text.{Written};
-ghost use Rattle.print.specs.Printed.{numbered, lineOf, resultText, nodeText, headText, refusalText, resultOf, nodeOf};
-ghost use Rattle.print.specs.Lengths.{LineLength};
+ghost use Rattle.text.specs.Inner.Put.{TextPut};
+ghost use Rattle.print.specs.Printed.{numbered, lineOf, resultText, nodeText, headText, refusalText};
+ghost use Rattle.print.specs.Inner.Values.{resultByValue, nodeByValue};
+ghost use Rattle.print.specs.Inner.Lengths.{LineLength};
 
 // Writes a name and a number of 64 bits.
 fn put_wide_field(out: &mut [u8], at: usize, name: &[u8], v: u64) -> usize
     requires { ⌜ at + length (numbered (now name) v) ≤ length (now out) ⌝ }
-    ensures { λ r. ⌜ Written (now (out .entry)) at (numbered (now (name .entry)) v) (now (out .exit)) r ⌝ }
+    ensures { λ r. ⌜ TextPut (now (out .entry)) at (numbered (now (name .entry)) v) (now (out .exit)) r ⌝ }
 {
     let p = put_bytes(out, at, name);
     put_wide(out, p, v)
@@ -25,7 +26,7 @@ fn put_wide_field(out: &mut [u8], at: usize, name: &[u8], v: u64) -> usize
 // Writes a name and a number.
 fn put_field(out: &mut [u8], at: usize, name: &[u8], v: u32) -> usize
     requires { ⌜ at + length (numbered (now name) v) ≤ length (now out) ⌝ }
-    ensures { λ r. ⌜ Written (now (out .entry)) at (numbered (now (name .entry)) v) (now (out .exit)) r ⌝ }
+    ensures { λ r. ⌜ TextPut (now (out .entry)) at (numbered (now (name .entry)) v) (now (out .exit)) r ⌝ }
 {
     put_wide_field(out, at, name, v as u64)
 }
@@ -42,7 +43,7 @@ fn put_line(
     keys: Keys,
 ) -> usize
     requires { ⌜ at + length (lineOf (now a) x (now b) y (now c) (listed keys)) ≤ length (now out) ⌝ }
-    ensures { λ r. ⌜ Written (now (out .entry)) at (lineOf (now (a .entry)) x (now (b .entry)) y (now (c .entry)) (listed keys)) (now (out .exit)) r ⌝ }
+    ensures { λ r. ⌜ TextPut (now (out .entry)) at (lineOf (now (a .entry)) x (now (b .entry)) y (now (c .entry)) (listed keys)) (now (out .exit)) r ⌝ }
 {
     let p = put_field(out, at, a, x);
     let q = put_field(out, p, b, y);
@@ -53,8 +54,8 @@ fn put_line(
 
 // Writes a result's line from `at` on, and returns the place after it.
 pub fn put_result(out: &mut [u8], at: usize, label: u32, value: u32, left: Keys) -> usize
-    requires { ⌜ at + length (resultText (resultOf label value left)) ≤ length (now out) ⌝ }
-    ensures { λ r. ⌜ Written (now (out .entry)) at (resultText (resultOf label value left)) (now (out .exit)) r ⌝ }
+    requires { ⌜ at + length (resultText (resultByValue label value left)) ≤ length (now out) ⌝ }
+    ensures { λ r. ⌜ TextPut (now (out .entry)) at (resultText (resultByValue label value left)) (now (out .exit)) r ⌝ }
 {
     put_line(
         out,
@@ -70,8 +71,8 @@ pub fn put_result(out: &mut [u8], at: usize, label: u32, value: u32, left: Keys)
 
 // Writes a node's line from `at` on, and returns the place after it.
 pub fn put_node(out: &mut [u8], at: usize, key: u32, value: u32, links: Keys) -> usize
-    requires { ⌜ at + length (nodeText (nodeOf key value links)) ≤ length (now out) ⌝ }
-    ensures { λ r. ⌜ Written (now (out .entry)) at (nodeText (nodeOf key value links)) (now (out .exit)) r ⌝ }
+    requires { ⌜ at + length (nodeText (nodeByValue key value links)) ≤ length (now out) ⌝ }
+    ensures { λ r. ⌜ TextPut (now (out .entry)) at (nodeText (nodeByValue key value links)) (now (out .exit)) r ⌝ }
 {
     put_line(out, at, b"key=", key, b" value=", value, b" links=", links)
 }
@@ -79,7 +80,7 @@ pub fn put_node(out: &mut [u8], at: usize, key: u32, value: u32, links: Keys) ->
 // Writes the listing's head from `at` on, and returns the place after it.
 pub fn put_head(out: &mut [u8], at: usize, nodes: u32, results: u32, pending: u32) -> usize
     requires { ⌜ at + length (headText nodes results pending) ≤ length (now out) ⌝ }
-    ensures { λ r. ⌜ Written (now (out .entry)) at (headText nodes results pending) (now (out .exit)) r ⌝ }
+    ensures { λ r. ⌜ TextPut (now (out .entry)) at (headText nodes results pending) (now (out .exit)) r ⌝ }
 {
     let p = put_field(out, at, b"nodes=", nodes);
     let q = put_field(out, p, b" results=", results);
@@ -89,25 +90,25 @@ pub fn put_head(out: &mut [u8], at: usize, nodes: u32, results: u32, pending: u3
 
 // Writes what cgrun prints of a refused line from `at` on, and returns the place after it. An input may have more lines
 // than a number of 32 bits counts.
-pub fn put_refusal(out: &mut [u8], at: usize, line: u64, refusal: u64) -> usize
+pub fn put_refusal(out: &mut [u8], at: usize, line: u64, refusal: u32) -> usize
     requires { ⌜ at + length (refusalText line refusal) ≤ length (now out) ⌝ }
-    ensures { λ r. ⌜ Written (now (out .entry)) at (refusalText line refusal) (now (out .exit)) r ⌝ }
+    ensures { λ r. ⌜ TextPut (now (out .entry)) at (refusalText line refusal) (now (out .exit)) r ⌝ }
 {
     let p = put_wide_field(out, at, b"line=", line);
-    let q = put_wide_field(out, p, b" refused=", refusal);
+    let q = put_field(out, p, b" refused=", refusal);
     put_bytes(out, q, b"\n")
 }
 
 // The lengths: the names and the newline, the digits, the keys.
 
 pub fn result_len(label: u32, value: u32, left: Keys) -> usize
-    ensures { λ r. ⌜ LineLength (resultText (resultOf label value left)) r ⌝ }
+    ensures { λ r. ⌜ LineLength (resultText (resultByValue label value left)) r ⌝ }
 {
     20 + decimal_len(label) + decimal_len(value) + keys_len(left)
 }
 
 pub fn node_len(key: u32, value: u32, links: Keys) -> usize
-    ensures { λ r. ⌜ LineLength (nodeText (nodeOf key value links)) r ⌝ }
+    ensures { λ r. ⌜ LineLength (nodeText (nodeByValue key value links)) r ⌝ }
 {
     19 + decimal_len(key) + decimal_len(value) + keys_len(links)
 }

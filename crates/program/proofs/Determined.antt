@@ -15,13 +15,13 @@ use Rattle.graph.specs.Acceptance.{Claimed, claim as claimOf}
 use Rattle.graph.specs.Valid.{Valid}
 use Rattle.graph.proofs.Validity.{Fine, claim-fine}
 use Rattle.text.specs.Text.{ascii, pasted, startsWith}
-use Rattle.lines.specs.Answers.{IsClaim}
+use Rattle.lines.specs.Forms.{IsClaim}
 use Rattle.print.specs.Printed.{resultText}
 use Rattle.listing.specs.Listed.{listingOf}
 use Rattle.host.specs.Entries.{Called, ClaimMade, claimRefused, claimServed, Claims, Listed, listRefused, listServed}
 use Rattle.host.proofs.Determined.{both, claim-forms, call-once, tally-free}
-use Rattle.program.specs.Lines.{lengthIn, answerText, Line, step, claim, call}
-use Rattle.program.specs.Transcript.{Run, none, next, ListingPrinted, Transcript}
+use Rattle.program.specs.Lines.{lengthIn, answerText, Line, asStep, asClaim, asCall}
+use Rattle.program.specs.Transcript.{LineRun, none, next, ListingPrinted, Transcript}
 use Rattle.program.proofs.Serving.{take-pasted}
 use Rattle.program.proofs.Rooms.{result-short, listing-short}
 
@@ -70,20 +70,20 @@ apart (x ∷ xs) a b = go (eqb x 115) refl (eqb x 99) refl
 module _ {image line : List ℕ} {n : ℕ} where
   -- A LINE DETERMINES WHAT IS PRINTED OF IT, AND THE IMAGE AFTER IT
   pub line-same : {a t a′ t′ : List ℕ} → Line image line n a t → Line image line n a′ t′ → (a ≡ a′) × (t ≡ t′)
-  line-same (step b t r h e q) (step b′ t′ r′ h′ e′ q′) = let m = tally-free h h′ in (sym e ∙ m .image ∙ e′, sym q ∙ ap (λ (z : ℤ). answerText n z []) (m .answer) ∙ q′)
-  line-same (step b t r h e q) (claim b′ o l r′ h′ e′ q′) = absurd (apart line b b′)
-  line-same (step b t r h e q) (call b′ c′ r′ h′ e′ q′) = absurd (true≢false (sym b ∙ b′))
-  line-same (claim b o l r h e q) (step b′ t′ r′ h′ e′ q′) = absurd (apart line b′ b)
-  line-same (claim b o l r h e q) (claim b′ o′ l′ r′ h′ e′ q′) = let m = claim-same n l l′ h h′ in (sym e ∙ m .0 ∙ e′, sym q ∙ m .1 ∙ q′)
-  line-same (claim b o l r h e q) (call b′ c′ r′ h′ e′ q′) = absurd (true≢false (sym b ∙ c′))
-  line-same (call b c r h e q) (step b′ t′ r′ h′ e′ q′) = absurd (true≢false (sym b′ ∙ b))
-  line-same (call b c r h e q) (claim b′ o′ l′ r′ h′ e′ q′) = absurd (true≢false (sym b′ ∙ c))
-  line-same (call b c r h e q) (call b′ c′ r′ h′ e′ q′) =
+  line-same (asStep b t r h e q) (asStep b′ t′ r′ h′ e′ q′) = let m = tally-free h h′ in (sym e ∙ m .image ∙ e′, sym q ∙ ap (λ (z : ℤ). answerText n z []) (m .answer) ∙ q′)
+  line-same (asStep b t r h e q) (asClaim b′ o l r′ h′ e′ q′) = absurd (apart line b b′)
+  line-same (asStep b t r h e q) (asCall b′ c′ r′ h′ e′ q′) = absurd (true≢false (sym b ∙ b′))
+  line-same (asClaim b o l r h e q) (asStep b′ t′ r′ h′ e′ q′) = absurd (apart line b′ b)
+  line-same (asClaim b o l r h e q) (asClaim b′ o′ l′ r′ h′ e′ q′) = let m = claim-same n l l′ h h′ in (sym e ∙ m .0 ∙ e′, sym q ∙ m .1 ∙ q′)
+  line-same (asClaim b o l r h e q) (asCall b′ c′ r′ h′ e′ q′) = absurd (true≢false (sym b ∙ c′))
+  line-same (asCall b c r h e q) (asStep b′ t′ r′ h′ e′ q′) = absurd (true≢false (sym b′ ∙ b))
+  line-same (asCall b c r h e q) (asClaim b′ o′ l′ r′ h′ e′ q′) = absurd (true≢false (sym b′ ∙ c))
+  line-same (asCall b c r h e q) (asCall b′ c′ r′ h′ e′ q′) =
       let m = call-once h h′ in
       (sym e ∙ ap (λ (x : Called). x .image) m ∙ e′, sym q ∙ ap (λ (x : Called). answerText n (x .answer) []) m ∙ q′)
 
 -- AND SO DO LINES, ONE AFTER THE OTHER
-pub run-same : {image image′ : List ℕ} {n : ℕ} {ls : List (List ℕ)} {a a′ : List ℕ} {m m′ : ℕ} {t t′ : List ℕ} → image ≡ image′ → Run image n ls a m t → Run image′ n ls a′ m′ t′ → (a ≡ a′) × (t ≡ t′)
+pub run-same : {image image′ : List ℕ} {n : ℕ} {ls : List (List ℕ)} {a a′ : List ℕ} {m m′ : ℕ} {t t′ : List ℕ} → image ≡ image′ → LineRun image n ls a m t → LineRun image′ n ls a′ m′ t′ → (a ≡ a′) × (t ≡ t′)
 run-same e none none = (e, refl)
 run-same e (next {between = b} {l = line} {n = n} {text = text} x r) (next {between = c} y s) =
     let l = line-same (subst (λ (z : List ℕ). Line z line n b text) e x) y in

@@ -11,8 +11,8 @@ use Rattle.text.specs.Text.{ascii, startsWith}
 use Rattle.panel.specs.Tally.{zeros}
 use Rattle.valid.specs.Values.{encode}
 use Rattle.host.proofs.Answered.{call-answered, step-answered, claim-answered, list-answered}
-use Rattle.program.specs.Lines.{lengthIn, Line, step, claim, call}
-use Rattle.program.specs.Transcript.{linesOf, Run, none, next, Transcript}
+use Rattle.program.specs.Lines.{lengthIn, Line, asStep, asClaim, asCall}
+use Rattle.program.specs.Transcript.{linesOf, LineRun, none, next, Transcript}
 
 -- an output of n bytes
 unfoldable outputOf : ℕ → List ℕ
@@ -26,11 +26,11 @@ pub line-answered : (image line : List ℕ) (n : ℕ) → (after : List ℕ) × 
 line-answered image line n = by-head (startsWith (ascii "step=") line) (startsWith (ascii "claim=") line) refl refl
   where
     by-head : (a b : Bool) → startsWith (ascii "step=") line ≡ a → startsWith (ascii "claim=") line ≡ b → (after : List ℕ) × (text : List ℕ) × Line image line n after text
-    by-head true b e q = let r = step-answered image line zeros in (r .0 .image, _, step e zeros (r .0) (r .1) refl refl)
-    by-head false true e q = let r = claim-answered image line (outputOf 128) in (r .0 .image, _, claim q (outputOf 128) (omega (arith, output-size 128)) (r .0) (r .1) refl refl)
-    by-head false false e q = let r = call-answered image line in (r .0 .image, _, call e q (r .0) (r .1) refl refl)
+    by-head true b e q = let r = step-answered image line zeros in (r .0 .image, _, asStep e zeros (r .0) (r .1) refl refl)
+    by-head false true e q = let r = claim-answered image line (outputOf 128) in (r .0 .image, _, asClaim q (outputOf 128) (omega (arith, output-size 128)) (r .0) (r .1) refl refl)
+    by-head false false e q = let r = call-answered image line in (r .0 .image, _, asCall e q (r .0) (r .1) refl refl)
 
-pub run-answered : (image : List ℕ) (n : ℕ) (ls : List (List ℕ)) → (after : List ℕ) × (m : ℕ) × (text : List ℕ) × Run image n ls after m text
+pub run-answered : (image : List ℕ) (n : ℕ) (ls : List (List ℕ)) → (after : List ℕ) × (m : ℕ) × (text : List ℕ) × LineRun image n ls after m text
 run-answered image n [] = (image, n, [], none)
 run-answered image n (l ∷ ls) =
     let a = line-answered image l n in

@@ -13,11 +13,11 @@ use lib.Seq.{length-take-le, take-append-le, take-append-add, drop-drop}
 use borrow.Author.Tests.{ltb-true, ltb-false, lt-ltb, le-ltb}
 use borrow.Rule.Slice.PartMut.{midOf, postOf, putMid, mid-len, same-len-mid}
 use Rattle.text.specs.Text.{upTo}
-use Rattle.lines.specs.Answers.{lineAt}
+use Rattle.lines.specs.Forms.{lineAt}
 use Rattle.program.specs.Lines.{Line}
-use Rattle.program.specs.Transcript.{linesOf, Run, none, next}
-use Rattle.program.specs.Frames.{Ready, Served, Next, LinesServed}
-use Rattle.program.specs.declared.frame.Progress.{Progress}
+use Rattle.program.specs.Transcript.{linesOf, LineRun, none, next}
+use Rattle.program.specs.Inner.Frames.{Ready, Served, Next, LinesServed}
+use Rattle.program.specs.declared.frame.FramePlace.{FramePlace}
 
 -- ---- a line, and the lines after it
 
@@ -42,8 +42,8 @@ lines-at frame at h =
     ∙ ap (λ (x : List ℕ). lineAt frame at ∷ linesOf x) (drop-drop (length (lineAt frame at) + 1) at frame ∙ ap (λ (k : ℕ). drop k frame) e)
 
 -- a run, and one line more
-run-more : {image after last l : List ℕ} {n m : ℕ} {ls : List (List ℕ)} {text t : List ℕ} → Run image n ls after m text → Line after l m last t → Run image n (ls ++ l ∷ []) last (suc m) (text ++ t)
-run-more {image} {after} {last} {l} {n} {m} {ls} {text} {t} none x = subst (λ (y : List ℕ). Run image n (l ∷ []) last (suc n) y) (append-nil t) (next x none)
+run-more : {image after last l : List ℕ} {n m : ℕ} {ls : List (List ℕ)} {text t : List ℕ} → LineRun image n ls after m text → Line after l m last t → LineRun image n (ls ++ l ∷ []) last (suc m) (text ++ t)
+run-more {image} {after} {last} {l} {n} {m} {ls} {text} {t} none x = subst (λ (y : List ℕ). LineRun image n (l ∷ []) last (suc n) y) (append-nil t) (next x none)
 run-more (next y r) x = rw append-assoc (next y (run-more r x))
 
 -- ---- what is written behind what was there
@@ -69,11 +69,11 @@ whole-by at len line part e h = ap (λ (x : List ℕ). ltb (length x) (len - at)
     go true q = q ∙ sym (lt-ltb (at + length line) len (omega (arith, ltb-true (length line) (len - at) q)))
     go false q = q ∙ sym (le-ltb (at + length line) len (omega (arith, ltb-false (length line) (len - at) q)))
 
-pub ready-by : (frame : List ℕ) (p : Progress) (out : List ℕ) (b : Bool) → b ≡ ltb (p .at + length (lineAt frame (p .at))) (length frame) → 128 ≤ length out - p .used → Ready frame p out b
+pub ready-by : (frame : List ℕ) (p : FramePlace) (out : List ℕ) (b : Bool) → b ≡ ltb (p .at + length (lineAt frame (p .at))) (length frame) → 128 ≤ length out - p .used → Ready frame p out b
 ready-by frame p out true e h = (ltb-true _ _ (sym e), omega arith)
 ready-by frame p out false e h = inl (ltb-false _ _ (sym e))
 
-pub next-served : {image frame out after part : List ℕ} {p : Progress} {n r : ℕ} → Ready frame p out true → n ≡ length (lineAt frame (p .at)) → length part ≡ length (midOf (p .used) (length out - p .used) out)
+pub next-served : {image frame out after part : List ℕ} {p : FramePlace} {n r : ℕ} → Ready frame p out true → n ≡ length (lineAt frame (p .at)) → length part ≡ length (midOf (p .used) (length out - p .used) out)
     → Served image (lineAt frame (p .at)) (p .line) after part r
     → Next image frame p out after (putMid (p .used) (length out - p .used) out part) (record { at = p .at + n + 1; line = p .line + 1; used = p .used + r })
 next-served {image} {frame} {out} {after} {part} {p} {n} {r} ready size same s =
@@ -102,11 +102,11 @@ served-none image frame at n out h =
       fewer = omega arith;
     }
 
-pub served-next : {image frame between out after written : List ℕ} {at n : ℕ} {p q : Progress} → LinesServed image frame at n between out p → Ready frame p out true → Next between frame p out after written q → LinesServed image frame at n after written q
+pub served-next : {image frame between out after written : List ℕ} {at n : ℕ} {p q : FramePlace} → LinesServed image frame at n between out p → Ready frame p out true → Next between frame p out after written q → LinesServed image frame at n after written q
 served-next {image} {frame} {between} {out} {after} {written} {at} {n} {p} {q} w ready x =
     record {
       lines = w .lines ++ lineAt frame (p .at) ∷ [];
-      runs = subst (λ (m : ℕ). Run image n (w .lines ++ lineAt frame (p .at) ∷ []) after m (take (q .used) written)) (sym (x .number ∙ add-one (p .line))) (rw (x .bytes) (run-more (w .runs) (x .served)));
+      runs = subst (λ (m : ℕ). LineRun image n (w .lines ++ lineAt frame (p .at) ∷ []) after m (take (q .used) written)) (sym (x .number ∙ add-one (p .line))) (rw (x .bytes) (run-more (w .runs) (x .served)));
       parts =
           w .parts
           ∙ ap (λ (y : List (List ℕ)). w .lines ++ y) (lines-at frame (p .at) (ready .0) ∙ ap (λ (k : ℕ). lineAt frame (p .at) ∷ linesOf (drop k frame)) (sym (x .past)))

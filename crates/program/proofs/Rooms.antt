@@ -1,36 +1,40 @@
 -- A line of a valid session has at most 128 bytes, and a listing 129 such lines: nothing that is lent as much is refused for want of room.
 -- Assumes nothing.
 use mathlib.Core.Path.{_≡_, refl, ap}
+use mathlib.Core.Bool.{true}
 use mathlib.Core.List.{List, [], _∷_, _++_}
 use Prim.Native.Nat.{ℕ, suc, _+_, _*_, _≤_, _<_, _^_}
 use native.Mathlib.Omega.{arith}
 use lib.ListN.{length, length-append}
 use Rattle.text.specs.Text.{ascii, decimal, further, commas, texts}
 use Rattle.text.proofs.Decimals.{len-ten}
+use Rattle.graph.specs.KeyLists.{isKey, areKeys}
 use Rattle.graph.specs.Nodes.{Node, Result}
 use Rattle.graph.specs.Sessions.{Station, Session, graphOf, labelsOfResults, pending, live}
-use Rattle.graph.specs.Valid.{Each, Key, ValidNode, ValidStation, ValidResult, KeysFall, Given, Valid}
+use Rattle.graph.specs.Valid.{Each, ValidNode, ValidStation, ValidResult, KeysFall, Given, Valid}
+use Rattle.graph.proofs.Answers.{and-left, and-right}
+use Rattle.graph.proofs.KeyLaws.{key-high}
 use Rattle.graph.proofs.Labels.{length-labels}
 use Rattle.graph.proofs.Limits.{each-right}
 use Rattle.print.specs.Printed.{lineOf, resultText, nodeText, headText}
 use Rattle.listing.specs.Listed.{listingOf}
 
-further-short : (ts : List ℕ) → Each Key ts → length (further ts) ≤ 11 * length ts
+further-short : (ts : List ℕ) → areKeys ts ≡ true → length (further ts) ≤ 11 * length ts
 unfolding further
 further-short [] h = omega arith
 further-short (t ∷ ts) h =
-    let ih : length (further ts) ≤ 11 * length ts = further-short ts (h .1) in
-    omega (arith, length-append (decimal t) (further ts), len-ten t (omega (arith, h .0 .1)))
+    let ih : length (further ts) ≤ 11 * length ts = further-short ts (and-right (isKey t) _ h) in
+    omega (arith, length-append (decimal t) (further ts), len-ten t (omega (arith, key-high t (and-left _ _ h))))
 
-commas-short : (ts : List ℕ) → Each Key ts → length (commas ts) ≤ 11 * length ts
+commas-short : (ts : List ℕ) → areKeys ts ≡ true → length (commas ts) ≤ 11 * length ts
 unfolding commas
 commas-short [] h = omega arith
 commas-short (t ∷ ts) h =
-    let ih : length (further ts) ≤ 11 * length ts = further-short ts (h .1) in
-    omega (arith, length-append (decimal t) (further ts), len-ten t (omega (arith, h .0 .1)))
+    let ih : length (further ts) ≤ 11 * length ts = further-short ts (and-right (isKey t) _ h) in
+    omega (arith, length-append (decimal t) (further ts), len-ten t (omega (arith, key-high t (and-left _ _ h))))
 
 -- two numbers and up to eight keys
-line-short : (a b c : List ℕ) (x y : ℕ) (ks : List ℕ) → length a + length b + length c ≤ 19 → x < 2 ^ 32 → y < 2 ^ 32 → length ks ≤ 8 → Each Key ks → length (lineOf a x b y c ks) ≤ 128
+line-short : (a b c : List ℕ) (x y : ℕ) (ks : List ℕ) → length a + length b + length c ≤ 19 → x < 2 ^ 32 → y < 2 ^ 32 → length ks ≤ 8 → areKeys ks ≡ true → length (lineOf a x b y c ks) ≤ 128
 line-short a b c x y ks h k l few v = simp length-append (omega (arith, h, len-ten x k, len-ten y l, commas-short ks v, few))
 
 pub result-short : (r : Result) → r .label < 2 ^ 32 → ValidResult r → length (resultText r) ≤ 128

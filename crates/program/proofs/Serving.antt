@@ -10,22 +10,22 @@ use lib.IntN.{ℤ, pos, negsuc}
 use lib.ListN.{length, take, drop}
 use lib.Seq.{take-at}
 use borrow.Author.Tests.{leb-true}
-use Rattle.text.specs.Text.{ascii, pasted, Written, startsWith}
+use Rattle.text.specs.Text.{ascii, pasted, startsWith}
+use Rattle.text.specs.Inner.Put.{TextPut}
 use Rattle.text.proofs.Pasting.{written-size}
-use Rattle.print.specs.Printed.{refusalText}
+use Rattle.print.specs.Printed.{refusalText, resultText}
 use Rattle.print.proofs.Refusals.{refusal-fits}
 use Rattle.graph.specs.Refusals.{Answer, refused, done}
 use Rattle.graph.specs.Sessions.{Session}
 use Rattle.graph.specs.Acceptance.{Claimed, claim as claimOf}
-use Rattle.print.specs.Printed.{resultText}
 use Rattle.panel.specs.declared.tally.Tally.{Tally}
-use Rattle.panel.specs.declared.answer.Answer.the-variants.{Refused}
-use Rattle.panel.specs.Answer.{numberOf, refusalIn}
+use Rattle.panel.specs.declared.returned.Returned.the-variants.{Refused}
+use Rattle.panel.specs.Returned.{returnedNumber, refusalIn}
 use Rattle.listing.specs.Listed.{listingOf}
 use Rattle.host.specs.Entries.{Calls, Steps, ClaimMade, claimRefused, claimServed, Claims, Listed, listServed, Lists}
 use Rattle.host.proofs.Determined.{each-case}
-use Rattle.program.specs.Lines.{lengthIn, answerText, step, claim, call}
-use Rattle.program.specs.Frames.{AnswerPrinted, Served, Ended}
+use Rattle.program.specs.Lines.{lengthIn, answerText, asStep, asClaim, asCall}
+use Rattle.program.specs.Inner.Frames.{AnswerPrinted, Served, Ended}
 
 text-served : (n : ℕ) (z : ℤ) (text : List ℕ) → 0 ≡ refusalIn z → text ≡ answerText n z text
 text-served n (pos k) text e = refl
@@ -43,11 +43,11 @@ take-pasted s text = let e : length text ≡ 0 + length text = omega arith in ta
 pub printed-served : (n : ℕ) (z : ℤ) (out : List ℕ) (m r : ℕ) → m ≤ length out → r ≡ refusalIn z → r ≡ 0 → AnswerPrinted n z (take m out) out m
 printed-served n z out m r h e q = record { within = h; bytes = text-served n z (take m out) (sym q ∙ e) }
 
-module _ (n r : ℕ) (line : n < 2 ^ 64) (refusal : r < 2 ^ 64) (s : List ℕ) (room : 128 ≤ length s) where
+module _ (n r : ℕ) (line : n < 2 ^ 64) (refusal : r < 2 ^ 32) (s : List ℕ) (room : 128 ≤ length s) where
   pub refusal-room : 0 + length (refusalText n r) ≤ length s
   refusal-room = omega (arith, refusal-fits n r line refusal)
 
-  pub printed-refusal : (z : ℤ) (text o : List ℕ) (p : ℕ) → Written s 0 (refusalText n r) o p → r ≡ refusalIn z → (r ≡ 0 → ⊥) → AnswerPrinted n z text o p
+  pub printed-refusal : (z : ℤ) (text o : List ℕ) (p : ℕ) → TextPut s 0 (refusalText n r) o p → r ≡ refusalIn z → (r ≡ 0 → ⊥) → AnswerPrinted n z text o p
   printed-refusal z text o p w e ne =
       let size : length o ≡ length s = written-size w refusal-room in
       record {
@@ -55,23 +55,23 @@ module _ (n r : ℕ) (line : n < 2 ^ 64) (refusal : r < 2 ^ 64) (s : List ℕ) (
         bytes = (λ i. take (w .place i) (w .bytes i)) ∙ take-pasted s (refusalText n r) ∙ text-refused n z text r e ne;
       }
 
--- ---- a line served: the answer z that is printed is the answer w that the host's function gave
+-- ---- a line served
 
-module _ {image line after out : List ℕ} {n r : ℕ} {z w : ℤ} (same : z ≡ w) where
-  pub call-served : startsWith (ascii "step=") line ≡ false → startsWith (ascii "claim=") line ≡ false → Calls image line (record { answer = w; image = after }) → AnswerPrinted n z [] out r → Served image line n after out r
-  call-served a b h t = record { within = t .within; served = call a b _ h refl (sym (t .bytes ∙ ap (λ (x : ℤ). answerText n x []) same)) }
+module _ {image line after out : List ℕ} {n r : ℕ} {z : ℤ} where
+  pub call-served : startsWith (ascii "step=") line ≡ false → startsWith (ascii "claim=") line ≡ false → Calls image line (record { answer = z; image = after }) → AnswerPrinted n z [] out r → Served image line n after out r
+  call-served a b h t = record { within = t .within; served = asCall a b _ h refl (sym (t .bytes)) }
 
-  pub step-served : {t u : Tally} → startsWith (ascii "step=") line ≡ true → Steps image line t (record { answer = w; image = after; tally = u }) → AnswerPrinted n z [] out r → Served image line n after out r
-  step-served {t} {u} b h s = record { within = s .within; served = step b t _ h refl (sym (s .bytes ∙ ap (λ (x : ℤ). answerText n x []) same)) }
+  pub step-served : {t u : Tally} → startsWith (ascii "step=") line ≡ true → Steps image line t (record { answer = z; image = after; tally = u }) → AnswerPrinted n z [] out r → Served image line n after out r
+  step-served {t} {u} b h s = record { within = s .within; served = asStep b t _ h refl (sym (s .bytes)) }
 
 -- what was written lies within the output
-refused-length : (k n : ℕ) → lengthIn (numberOf (Refused k)) ≤ n
+refused-length : (k n : ℕ) → lengthIn (returnedNumber (Refused k)) ≤ n
 refused-length zero n = omega arith
 refused-length (suc k) n = omega arith
 
 pasted-within : (out text : List ℕ) → length text ≤ length out → length text ≤ length (pasted out 0 text)
 pasted-within out text h =
-    let w : Written out 0 text (pasted out 0 text) (0 + length text) = record { place = refl; bytes = refl } in
+    let w : TextPut out 0 text (pasted out 0 text) (0 + length text) = record { place = refl; bytes = refl } in
     omega (arith, written-size w (omega arith))
 
 abbrev Within : ClaimMade → Type 0
@@ -91,16 +91,13 @@ served-within image out s (done c) = go (leb (length (resultText (c .result))) (
 claim-within : {image line out : List ℕ} {r : ClaimMade} → Claims image line out r → Within r
 claim-within {image} {line} {out} h = each-case Within (refused-within image out) (λ s l. served-within image out s (claimOf l s)) h
 
-module _ {image line out after output : List ℕ} {z w : ℤ} {k : ℕ} (h : Claims image line out (record { answer = w; image = after; output = output })) (same : z ≡ w) (l : k ≡ lengthIn z) where
-  size : k ≡ lengthIn w
-  size = l ∙ ap lengthIn same
-
+module _ {image line out after output : List ℕ} {z : ℤ} {k : ℕ} (h : Claims image line out (record { answer = z; image = after; output = output })) (l : k ≡ lengthIn z) where
   pub claim-room : k ≤ length output
-  claim-room = subst (λ (x : ℕ). x ≤ length output) (sym size) (claim-within h)
+  claim-room = subst (λ (x : ℕ). x ≤ length output) (sym l) (claim-within h)
 
   pub claim-served : {written : List ℕ} {n r : ℕ} → 128 ≤ length out → startsWith (ascii "claim=") line ≡ true → AnswerPrinted n z (take k output) written r → Served image line n after written r
   claim-served {written} {n} {r} room b t =
-      record { within = t .within; served = claim b out room _ h refl (sym (t .bytes ∙ (λ i. answerText n (same i) (take (size i) output)))) }
+      record { within = t .within; served = asClaim b out room _ h refl (sym (t .bytes ∙ (λ i. answerText n z (take (l i) output)))) }
 
 -- ---- the listing
 
@@ -117,12 +114,11 @@ listed-inside out s = go (leb (length (listingOf s)) (length out)) refl
 list-inside : {image out : List ℕ} {l : Listed} → Lists image out l → Inside l
 list-inside {image} {out} h = each-case Inside (λ k. refused-length k (length out)) (λ s f. listed-inside out s) h
 
-pub list-ended : {image out output : List ℕ} {z w : ℤ} {r : ℕ} → z ≡ w → 16512 ≤ length out → Lists image out (record { answer = w; output = output }) → r ≡ lengthIn z → Ended image output r
-list-ended {image} {out} {output} {z} {w} {r} same room h e =
-    let size : r ≡ lengthIn w = e ∙ ap lengthIn same in
+pub list-ended : {image out output : List ℕ} {z : ℤ} {r : ℕ} → 16512 ≤ length out → Lists image out (record { answer = z; output = output }) → r ≡ lengthIn z → Ended image output r
+list-ended {image} {out} {output} {z} {r} room h e =
     record {
-      within = subst (λ (x : ℕ). x ≤ length output) (sym size) (list-inside h);
-      listing = record { out = out; room = room; listed = record { answer = w; output = output }; lists = h; bytes = ap (λ (x : ℕ). take x output) (sym size) };
+      within = subst (λ (x : ℕ). x ≤ length output) (sym e) (list-inside h);
+      listing = record { out = out; room = room; listed = record { answer = z; output = output }; lists = h; bytes = ap (λ (x : ℕ). take x output) (sym e) };
     }
 
 -- the test of the part of the frame is the test of the line

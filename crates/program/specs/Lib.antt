@@ -1,3 +1,3 @@
 pub mod Lines
 pub mod Transcript
-pub mod Frames
+pub mod Inner

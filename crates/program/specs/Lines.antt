@@ -25,7 +25,27 @@ answerText n (negsuc k) text = refusalText n (suc k)
 -- the line, with its number n, makes the image `after` of the image and prints the text: "claims as result lines", of which
 -- the answer is the length. The output that a claim is lent has room for every result line, so that none is refused for it.
 pub data Line (image line : List ℕ) (n : ℕ) (after text : List ℕ) : Type 0 where
-  step : startsWith (ascii "step=") line ≡ true → (t : Tally) (r : Stepped) → Steps image line t r → r .image ≡ after → answerText n (r .answer) [] ≡ text → Line image line n after text
-  claim : startsWith (ascii "claim=") line ≡ true → (out : List ℕ) → 128 ≤ length out → (r : ClaimMade) → Claims image line out r → r .image ≡ after → answerText n (r .answer) (take (lengthIn (r .answer)) (r .output)) ≡ text
+  asStep :
+      startsWith (ascii "step=") line ≡ true
+      → (t : Tally) (r : Stepped)
+      → Steps image line t r
+      → r .image ≡ after
+      → answerText n (r .answer) [] ≡ text
       → Line image line n after text
-  call : startsWith (ascii "step=") line ≡ false → startsWith (ascii "claim=") line ≡ false → (r : Called) → Calls image line r → r .image ≡ after → answerText n (r .answer) [] ≡ text → Line image line n after text
+  asClaim :
+      startsWith (ascii "claim=") line ≡ true
+      → (out : List ℕ)
+      → 128 ≤ length out
+      → (r : ClaimMade)
+      → Claims image line out r
+      → r .image ≡ after
+      → answerText n (r .answer) (take (lengthIn (r .answer)) (r .output)) ≡ text
+      → Line image line n after text
+  asCall :
+      startsWith (ascii "step=") line ≡ false
+      → startsWith (ascii "claim=") line ≡ false
+      → (r : Called)
+      → Calls image line r
+      → r .image ≡ after
+      → answerText n (r .answer) [] ≡ text
+      → Line image line n after text

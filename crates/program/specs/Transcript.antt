@@ -24,9 +24,12 @@ linesOf (c ∷ cs) = cond (eqb c 10) ([] ∷ linesOf cs) (onFirst c (linesOf cs)
 
 -- lines one after the other, numbered from n on: each gets the image as the one before left it. m is the number of the line
 -- after them.
-pub data Run : (image : List ℕ) (n : ℕ) (lines : List (List ℕ)) (after : List ℕ) (m : ℕ) (text : List ℕ) → Type 0 where
-  none : {image : List ℕ} {n : ℕ} → Run image n [] image n []
-  next : {image between after l : List ℕ} {n m : ℕ} {ls : List (List ℕ)} {text texts : List ℕ} → Line image l n between text → Run between (suc n) ls after m texts → Run image n (l ∷ ls) after m (text ++ texts)
+pub data LineRun : (image : List ℕ) (n : ℕ) (lines : List (List ℕ)) (after : List ℕ) (m : ℕ) (text : List ℕ) → Type 0 where
+  none : {image : List ℕ} {n : ℕ} → LineRun image n [] image n []
+  next : {image between after l : List ℕ} {n m : ℕ} {ls : List (List ℕ)} {text texts : List ℕ}
+      → Line image l n between text
+      → LineRun between (suc n) ls after m texts
+      → LineRun image n (l ∷ ls) after m (text ++ texts)
 
 -- the listing that is printed of an image, with room for every listing
 pub record ListingPrinted (image text : List ℕ) : Type 0 where
@@ -43,6 +46,6 @@ pub record Transcript (input output : List ℕ) : Type 0 where
   pub count : ℕ
   pub text : List ℕ
   pub listing : List ℕ
-  pub runs : Run (encode fresh) 1 (linesOf input) after count text
+  pub runs : LineRun (encode fresh) 1 (linesOf input) after count text
   pub ends : ListingPrinted after listing
   pub whole : text ++ listing ≡ output

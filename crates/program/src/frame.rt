@@ -6,11 +6,11 @@ ghost use mathlib.Core.Path.{_≡_};
 ghost use Prim.Native.Nat.{_+_, _≤_, _<_, _^_};
 ghost use lib.Dec.{ltb};
 ghost use lib.ListN.{length};
-ghost use Rattle.lines.specs.Answers.{lineAt};
-ghost use Rattle.program.specs.Frames.{Ready, Next, LinesServed};
+ghost use Rattle.lines.specs.Forms.{lineAt};
+ghost use Rattle.program.specs.Inner.Frames.{Ready, Next, LinesServed};
 
 // Where the next line stands, its number, and how many bytes of the output are written.
-pub struct Progress {
+pub struct FramePlace {
     pub at: usize,
     pub line: u64,
     pub used: usize,
@@ -26,7 +26,7 @@ fn is_whole(frame: &[u8], at: usize) -> bool
 }
 
 // Whether a whole line stands next, and the output has room for what is printed of it.
-fn has_next(frame: &[u8], p: Progress, out: &[u8]) -> bool
+fn has_next(frame: &[u8], p: FramePlace, out: &[u8]) -> bool
     requires { ⌜ (p .at ≤ length (now frame)) × (p .used ≤ length (now out)) ⌝ }
     ensures { λ r. ⌜ Ready (now (frame .entry)) p (now (out .entry)) r ⌝ }
 {
@@ -37,7 +37,7 @@ fn has_next(frame: &[u8], p: Progress, out: &[u8]) -> bool
 }
 
 // Serves the line that stands next.
-fn serve_next(image: &mut [u8], frame: &[u8], p: Progress, out: &mut [u8]) -> Progress
+fn serve_next(image: &mut [u8], frame: &[u8], p: FramePlace, out: &mut [u8]) -> FramePlace
     requires { ⌜ Ready (now frame) p (now out) true × (p .line + 1 < 2 ^ 64) ⌝ }
     ensures { λ r. ⌜ Next (now (image .entry)) (now (frame .entry)) p (now (out .entry)) (now (image .exit)) (now (out .exit)) r ⌝ }
 {
@@ -45,7 +45,7 @@ fn serve_next(image: &mut [u8], frame: &[u8], p: Progress, out: &mut [u8]) -> Pr
     let used = p.used;
     let n = part_to(frame, at, b'\n').len();
     let written = serve_line(image, frame, at, p.line, &mut out[used..]);
-    Progress {
+    FramePlace {
         at: at + n + 1,
         line: p.line + 1,
         used: used + written,
@@ -53,11 +53,17 @@ fn serve_next(image: &mut [u8], frame: &[u8], p: Progress, out: &mut [u8]) -> Pr
 }
 
 // Serves the whole lines from a place on, until none is left or the output may be too short for what is printed of one.
-pub fn serve_lines(image: &mut [u8], frame: &[u8], at: usize, line: u64, out: &mut [u8]) -> Progress
+pub fn serve_lines(
+    image: &mut [u8],
+    frame: &[u8],
+    at: usize,
+    line: u64,
+    out: &mut [u8],
+) -> FramePlace
     requires { ⌜ (at ≤ length (now frame)) × (line + length (now frame) < 2 ^ 64) ⌝ }
     ensures { λ r. ⌜ LinesServed (now (image .entry)) (now (frame .entry)) at line (now (image .exit)) (now (out .exit)) r × Ready (now (frame .entry)) r (now (out .exit)) false ⌝ }
 {
-    let mut p = Progress { at, line, used: 0 };
+    let mut p = FramePlace { at, line, used: 0 };
     while has_next(frame, p, out) {
         p = serve_next(image, frame, p, out);
     }

@@ -10,8 +10,10 @@ use Rattle.records.specs.declared.labels.Labels.{Labels}
 use Rattle.records.specs.declared.node.NodeRecord.{NodeRecord}
 use Rattle.records.specs.declared.op.OpRecord.{OpRecord}
 use Rattle.records.specs.declared.result.ResultRecord.{ResultRecord}
-use Rattle.records.specs.Bytes.{le16, le32, bytes16, bytes32, bytes8, keysAt, encodeKeys, tab}
-use Rattle.records.specs.Records.{labelsAt, encodeLabels, decodeNode, encodeNode, decodeOp, encodeOp, decodeResult, encodeResult}
+use Rattle.records.specs.Inner.Numbers.{le16, le32, keysAt, tab}
+use Rattle.records.specs.Bytes.{bytes16, bytes32, bytes8, encodeKeys}
+use Rattle.records.specs.Inner.Decoded.{labelsAt, decodeNode, decodeOp, decodeResult}
+use Rattle.records.specs.Records.{encodeLabels, encodeNode, encodeOp, encodeResult}
 use Rattle.records.proofs.Tables.{tab-all}
 
 -- the elements of a list are bytes

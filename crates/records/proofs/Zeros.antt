@@ -11,7 +11,7 @@ use native.Mathlib.Omega.{arith}
 use lib.ListN.{length, getD, take, drop, length-take, List·getD-eq-default}
 use lib.Seq.{take-suc, getD-take, getD-drop}
 use borrow.Author.Tests.{eq-eqb, eqb-true}
-use Rattle.records.specs.Bytes.{allZero}
+use Rattle.records.specs.Inner.Numbers.{allZero}
 
 -- one more element
 pub zero-snoc : (s : List ℕ) (x : ℕ) → allZero (s ++ (x ∷ [])) ≡ (allZero s && eqb x 0)

@@ -5,7 +5,8 @@ ghost use mathlib.Core.Bool.{_&&_};
 ghost use lib.Dec.{eqb};
 ghost use Prim.Native.Nat.{_+_, _≤_, _<_};
 ghost use lib.ListN.{length};
-ghost use Rattle.records.specs.Bytes.{le16, le32, le64, bytes8, keysAt, allZero};
+ghost use Rattle.records.specs.Inner.Numbers.{le16, le32, le64, keysAt, allZero};
+ghost use Rattle.records.specs.Bytes.{bytes8};
 
 fn wide(x: u8) -> u32
     ensures { λ r. ⌜ (r ≡ x) × (r < 256) ⌝ }

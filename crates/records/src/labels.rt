@@ -3,7 +3,7 @@ use crate::bytes::u16_at;
 ghost use mathlib.Core.Path.{_≡_};
 ghost use Prim.Native.Nat.{_+_, _≤_};
 ghost use lib.ListN.{length};
-ghost use Rattle.records.specs.Records.{labelsAt};
+ghost use Rattle.records.specs.Inner.Decoded.{labelsAt};
 
 // A list of labels: the first `count` of `label`. In a valid image the places after them are zero.
 pub struct Labels {

@@ -5,7 +5,8 @@ use crate::bytes::u32_at;
 use graph::keys::Keys;
 ghost use mathlib.Core.Path.{_≡_};
 ghost use lib.ListN.{length};
-ghost use Rattle.records.specs.Records.{decodeNode, encodeNode, Encodes};
+ghost use Rattle.records.specs.Inner.Decoded.{decodeNode, Encodes};
+ghost use Rattle.records.specs.Records.{encodeNode};
 
 pub struct NodeRecord {
     pub value: u32,

@@ -7,7 +7,8 @@ use crate::labels::labels_at;
 use graph::keys::Keys;
 ghost use mathlib.Core.Path.{_≡_};
 ghost use lib.ListN.{length};
-ghost use Rattle.records.specs.Records.{decodeOp, encodeOp, Encodes};
+ghost use Rattle.records.specs.Inner.Decoded.{decodeOp, Encodes};
+ghost use Rattle.records.specs.Records.{encodeOp};
 
 pub struct OpRecord {
     pub station: u8,

@@ -5,7 +5,8 @@ use crate::bytes::u32_at;
 use graph::keys::Keys;
 ghost use mathlib.Core.Path.{_≡_};
 ghost use lib.ListN.{length};
-ghost use Rattle.records.specs.Records.{decodeResult, encodeResult, Encodes};
+ghost use Rattle.records.specs.Inner.Decoded.{decodeResult, Encodes};
+ghost use Rattle.records.specs.Records.{encodeResult};
 
 pub struct ResultRecord {
     pub label: u16,

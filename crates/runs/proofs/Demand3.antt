@@ -18,8 +18,9 @@ use Rattle.graph.specs.Sessions.{Session, pending, labelsOfResults}
 use Rattle.graph.specs.Steps as graph
 use Rattle.graph.specs.Allowed.{allowed}
 use Rattle.graph.specs.Drain.{Drained, drain}
-use Rattle.graph.specs.Runs.{Run, start, find, ofKind, workSteps}
-use Rattle.graph.specs.Runs as graphRuns
+use Rattle.graph.specs.EventRuns.{EventRun, start}
+use Rattle.graph.specs.Counts.{resultOfLabel, ofKind, quotedSteps}
+use Rattle.graph.specs.EventRuns as graphRuns
 use Rattle.graph.specs.Valid.{Each, Given, Valid}
 use Rattle.graph.proofs.Answers.{isDone, by-bool}
 use Rattle.graph.proofs.Effects.{costs}
@@ -28,14 +29,13 @@ use Rattle.graph.proofs.Validity.{valid-fresh}
 use Rattle.graph.proofs.Drains.{work-cons, drain-drains, drain-idle, drain-works}
 use Rattle.graph.proofs.Demand3 as sessions
 use Rattle.text.specs.Text.{ascii}
-use Rattle.lines.specs.Forms.{work, drain as drainForm, stepText}
-use Rattle.lines.specs.Answers.{IsStep, IsClaim}
+use Rattle.lines.specs.Forms.{work, drainForm, stepText, IsStep, IsClaim}
 use Rattle.panel.specs.declared.tally.Tally.{Tally}
 use Rattle.panel.specs.Tally.{upBy, each, counted, zeros}
 use Rattle.panel.proofs.TallyLaws.{counted-kinds, up-from-zero}
 use Rattle.valid.specs.Values.{encode}
 use Rattle.host.specs.Entries.{ImageOf, served, Stepped, stepServed, stepMade, Steps}
-use Rattle.runs.specs.Runs.{Sent, step, claim, Runs, opening, after, acceptedLines, TextsOf, noLine, aLine, Pending, Wrote, ClaimedIn, here, there, WouldWrite, OneTally, lastTally}
+use Rattle.runs.specs.Runs.{Sent, claimSent, Runs, opening, after, acceptedLines, TextsOf, noLine, aLine, Pending, Wrote, ClaimedIn, here, there, WouldWrite, OneTally, lastTally}
 use Rattle.runs.specs.Demand.{ResultOf, claimed, unclaimed, HasResult, ClaimsMeant, Progress, StepLines, NonePending, Cleared, Demand3, PendingOrResult, isPending, hasResult}
 use Rattle.host.proofs.Determined.{step-once}
 use Rattle.runs.proofs.Entered.{own}
@@ -50,29 +50,29 @@ texts-length (aLine i h) = ap suc (texts-length h)
 
 -- RESULTS
 pub data InEither (l : ℕ) (q : Result) (xs ys : List Result) : Type 0 where
-  first : find l xs ≡ some q → InEither l q xs ys
-  second : find l ys ≡ some q → InEither l q xs ys
+  first : resultOfLabel l xs ≡ some q → InEither l q xs ys
+  second : resultOfLabel l ys ≡ some q → InEither l q xs ys
 
-pub find-either : (l : ℕ) (q : Result) (xs ys : List Result) → find l (xs ++ ys) ≡ some q → InEither l q xs ys
-find-either l q xs ys e = go (find l xs) refl (sym (find-append l xs ys) ∙ e)
+pub find-either : (l : ℕ) (q : Result) (xs ys : List Result) → resultOfLabel l (xs ++ ys) ≡ some q → InEither l q xs ys
+find-either l q xs ys e = go (resultOfLabel l xs) refl (sym (find-append l xs ys) ∙ e)
   where
-    go : (p : Option Result) → find l xs ≡ p → orThat p (find l ys) ≡ some q → InEither l q xs ys
+    go : (p : Option Result) → resultOfLabel l xs ≡ p → orThat p (resultOfLabel l ys) ≡ some q → InEither l q xs ys
     go none f e = second e
     go (some r) f e = first (f ∙ e)
 
 -- what was claimed was written
-pub gave-claimed : (l : ℕ) (q : Result) {es : List Sent} {qs : List Result} → Gave es qs → find l qs ≡ some q → ClaimedIn l q es
+pub gave-claimed : (l : ℕ) (q : Result) {es : List Sent} {qs : List Result} → Gave es qs → resultOfLabel l qs ≡ some q → ClaimedIn l q es
 gave-claimed l q noClaim e = absurd (none-some e)
 gave-claimed l q (pastCall h) e = there (gave-claimed l q h e)
 gave-claimed l q (pastStep h) e = there (gave-claimed l q h e)
 gave-claimed l q (pastRefusal n h) e = there (gave-claimed l q h e)
 gave-claimed l q (pastClaim {line} {out} {r} {es} {q = p} {qs} i w h) e = go (where-found l q p qs e) (gave-claimed l q h)
   where
-    go : Where l q p qs → (find l qs ≡ some q → ClaimedIn l q es) → ClaimedIn l q (claim line out r ∷ es)
+    go : Where l q p qs → (resultOfLabel l qs ≡ some q → ClaimedIn l q es) → ClaimedIn l q (claimSent line out r ∷ es)
     go (first-of d s) g = here (subst (IsClaim line) d i) (subst (λ (x : Result). Wrote out x r) s w)
     go (later n s) g = there (g s)
 
-module _ (meant : List Result) (all : List Result) (right : (pre post : List Result) (r : Result) → all ≡ pre ++ (r ∷ post) → find (r .label) meant ≡ some r) where
+module _ (meant : List Result) (all : List Result) (right : (pre post : List Result) (r : Result) → all ≡ pre ++ (r ∷ post) → resultOfLabel (r .label) meant ≡ some r) where
   gave-meant : (pre : List Result) {es : List Sent} {qs : List Result} → Gave es qs → all ≡ pre ++ qs → ClaimsMeant meant es
   gave-meant pre noClaim e = tt
   gave-meant pre (pastCall h) e = gave-meant pre h e
@@ -96,14 +96,14 @@ module _ (es : List Sent) (h : Runs opening es) where
   abbrev pub to : Reached start es
   to = reached start valid-fresh es h
 
-  abbrev pub x : Run
+  abbrev pub x : EventRun
   x = adding start (to .now) (to .calls) (to .steps) (to .gave)
 
   abbrev pub s : Session
   s = x .now
 
-  pub d : graphRuns.Demand3 x
-  d = subst graphRuns.Demand3 (to .moved) (sessions.demand3 (to .made))
+  pub d : graphRuns.SessionDemand3 x
+  d = subst graphRuns.SessionDemand3 (to .moved) (sessions.demand3 (to .made))
 
   pub v : Valid s
   v = d .valid
@@ -160,13 +160,13 @@ module _ (es : List Sent) (h : Runs opening es) where
             };
       })
 
-  bounded : workSteps (to .steps) ≤ 73 * length (acceptedLines es)
+  bounded : quotedSteps (to .steps) ≤ 73 * length (acceptedLines es)
   bounded = omega (arith, d .bound, d .labels, size)
 
   tallied : OneTally zeros es → lastTally zeros es ≡ each (λ k c. upBy c (ofKind k (to .steps))) zeros
   tallied o = to .tally zeros o ∙ counted-kinds zeros (to .steps) refl
 
-  small : workSteps (to .steps) ≤ 4784055
+  small : quotedSteps (to .steps) ≤ 4784055
   small = omega (arith, bounded, size, v .labels)
 
   one-by-one : StepLines (encode ((drain s) .end)) (after opening es) ((drain s) .took)
@@ -186,7 +186,7 @@ module _ (es : List Sent) (h : Runs opening es) where
       subst Cleared (sym (drain-made t r k))
       (record {
         answer = refl;
-        none = λ l p. true≢false (sym (pending-only ((drain s) .end) (drain-drains s v .valid) l p) ∙ ap (contains l) (d .drained));
+        none = λ l p. true≢false (sym (pending-only ((drain s) .end) (drain-drains s v .valid) l p) ∙ ap (contains l) (d .cleared));
       })
 
   idles : NonePending es → (t : Tally) (r : Stepped) → Steps (after opening es) (stepText drainForm) t r → r ≡ record { answer = pos 0; image = after opening es; tally = t }
@@ -221,7 +221,7 @@ module _ (es : List Sent) (h : Runs opening es) where
           ap (λ (t : Tally). t .«move_on») (tallied o) ∙ up-from-zero (ofKind 2 (to .steps)) (omega (arith, small)),
           ap (λ (t : Tally). t .finish) (tallied o) ∙ up-from-zero (ofKind 3 (to .steps)) (omega (arith, small)),
         );
-        drained = one-by-one;
+        oneByOne = one-by-one;
         cleared = clears;
         idle = idles;
       }

@@ -6,8 +6,8 @@ use native.Mathlib.Omega.{arith}
 use mathlib.Core.Bool.{false}
 use Rattle.graph.specs.Sessions.{Session}
 use Rattle.graph.specs.Valid.{Valid}
-use Rattle.panel.specs.declared.answer.Answer.the-variants.{Refused}
-use Rattle.panel.specs.Answer.{numberOf}
+use Rattle.panel.specs.declared.returned.Returned.the-variants.{Refused}
+use Rattle.panel.specs.Returned.{returnedNumber}
 use Rattle.valid.specs.Values.{encode}
 use Rattle.host.specs.Entries.{ImageOf, Enters, otherLength, otherBytes, otherLine, served}
 use Rattle.host.proofs.Determined.{same-session, image-size}
@@ -25,6 +25,6 @@ module _ {F R : Type 0} {Is : F → Type 0} {refuse : ℕ → R} {serve : Sessio
   entered (served u i f is e) = subst P (sym (e ∙ ap (λ (x : Session). serve x f) (same-session i (own s v)))) (serves f is)
 
 -- a refusal is below 0
-pub refused-served : (n : ℕ) → 1 ≤ n → isServed (numberOf (Refused n)) ≡ false
+pub refused-served : (n : ℕ) → 1 ≤ n → isServed (returnedNumber (Refused n)) ≡ false
 refused-served zero h = absurd (omega arith)
 refused-served (suc n) h = refl

@@ -6,16 +6,16 @@ use mathlib.Core.List.{List, [], _∷_}
 use Rattle.host.specs.Entries.{Called, Stepped, ClaimMade}
 use Rattle.host.proofs.Determined.{call-once, step-once, claim-once}
 use Rattle.host.proofs.Answered.{call-answered, step-answered, claim-answered}
-use Rattle.runs.specs.Runs.{Sent, call, step, claim, Input, callInput, stepInput, claimInput, inputsOf, Runs, opening}
+use Rattle.runs.specs.Runs.{Sent, callSent, stepSent, claimSent, Input, callInput, stepInput, claimInput, inputsOf, Runs, opening}
 use Rattle.runs.specs.Demand.{RunOf}
 use Rattle.runs.proofs.Demand3.{demand3}
 
 -- the run of the inputs on an image
 unfoldable pub sentOn : List ℕ → List Input → List Sent
 sentOn image [] = []
-sentOn image (callInput line ∷ is) = call line (call-answered image line .0) ∷ sentOn (call-answered image line .0 .image) is
-sentOn image (stepInput line t ∷ is) = step line t (step-answered image line t .0) ∷ sentOn (step-answered image line t .0 .image) is
-sentOn image (claimInput line out ∷ is) = claim line out (claim-answered image line out .0) ∷ sentOn (claim-answered image line out .0 .image) is
+sentOn image (callInput line ∷ is) = callSent line (call-answered image line .0) ∷ sentOn (call-answered image line .0 .image) is
+sentOn image (stepInput line t ∷ is) = stepSent line t (step-answered image line t .0) ∷ sentOn (step-answered image line t .0 .image) is
+sentOn image (claimInput line out ∷ is) = claimSent line out (claim-answered image line out .0) ∷ sentOn (claim-answered image line out .0 .image) is
 
 sent-inputs : (image : List ℕ) (is : List Input) → inputsOf (sentOn image is) ≡ is
 unfolding sentOn
@@ -35,18 +35,18 @@ sent-runs image (claimInput line out ∷ is) = (claim-answered image line out .1
 pub sent-only : (image : List ℕ) (es : List Sent) → Runs image es → es ≡ sentOn image (inputsOf es)
 unfolding sentOn
 sent-only image [] h = refl
-sent-only image (call line r ∷ es) h =
+sent-only image (callSent line r ∷ es) h =
     let a : r ≡ call-answered image line .0 = call-once (h .0) (call-answered image line .1) in
     let t : es ≡ sentOn (call-answered image line .0 .image) (inputsOf es) = sent-only (r .image) es (h .1) ∙ ap (λ (x : Called). sentOn (x .image) (inputsOf es)) a in
-    λ i. call line (a i) ∷ t i
-sent-only image (step line t r ∷ es) h =
+    λ i. callSent line (a i) ∷ t i
+sent-only image (stepSent line t r ∷ es) h =
     let a : r ≡ step-answered image line t .0 = step-once (h .0) (step-answered image line t .1) in
     let t′ : es ≡ sentOn (step-answered image line t .0 .image) (inputsOf es) = sent-only (r .image) es (h .1) ∙ ap (λ (x : Stepped). sentOn (x .image) (inputsOf es)) a in
-    λ i. step line t (a i) ∷ t′ i
-sent-only image (claim line out r ∷ es) h =
+    λ i. stepSent line t (a i) ∷ t′ i
+sent-only image (claimSent line out r ∷ es) h =
     let a : r ≡ claim-answered image line out .0 = claim-once (h .0) (claim-answered image line out .1) in
     let t : es ≡ sentOn (claim-answered image line out .0 .image) (inputsOf es) = sent-only (r .image) es (h .1) ∙ ap (λ (x : ClaimMade). sentOn (x .image) (inputsOf es)) a in
-    λ i. claim line out (a i) ∷ t i
+    λ i. claimSent line out (a i) ∷ t i
 
 -- ONE RUN OF EVERY LIST OF INPUTS
 pub every-run : (is : List Input) → (es : List Sent) × (inputsOf es ≡ is) × Runs opening es

@@ -18,13 +18,12 @@ use Rattle.graph.specs.Steps as graph
 use Rattle.graph.specs.Acceptance.{accept, callTests, accepted, Claimed, keeping}
 use Rattle.graph.specs.Acceptance as acceptance
 use Rattle.graph.specs.Drain.{drain}
-use Rattle.graph.specs.Runs.{Event, calls, steps, drains, claims, Run, onCall, onStep, onClaim, event, events}
+use Rattle.graph.specs.EventRuns.{Event, calls, steps, drains, claims, EventRun, onCall, onStep, onClaim, event, events}
 use Rattle.graph.specs.Valid.{Valid}
 use Rattle.graph.proofs.Answers.{Holds, holds-at}
 use Rattle.graph.proofs.Validity.{ValidClaim, step-valid, accept-valid, claim-valid, Fine, claim-fine}
 use Rattle.graph.proofs.Drains.{done-holds, drain-drains}
-use Rattle.lines.specs.Forms.{StepForm, work, drain as drainForm, stepKeys}
-use Rattle.lines.specs.Answers.{IsCall, IsStep, IsClaim}
+use Rattle.lines.specs.Forms.{StepForm, work, drainForm, stepKeys, IsCall, IsStep, IsClaim}
 use Rattle.print.specs.Printed.{resultText}
 use Rattle.panel.specs.declared.tally.Tally.{Tally}
 use Rattle.panel.specs.Tally.{counted}
@@ -33,16 +32,16 @@ use Rattle.valid.specs.Values.{encode}
 use Rattle.host.specs.Entries.{Called, callRefused, callServed, Calls, Stepped, stepRefused, stepServed, stepMade, Steps, ClaimMade, claimRefused, claimWritten, claimServed, Claims}
 use Rattle.host.proofs.Entering.{unless-done, unless-number}
 use Rattle.host.proofs.Stepping.{step-refused as refusal-number}
-use Rattle.runs.specs.Runs.{Sent, call, step, claim, isServed, acceptedLines, labelsGiven, labelsFrom, TextsOf, aLine, Wrote, Took, one, several, Taken, afterCall, afterClaim, afterRefusal, afterStep, OneTally, lastTally}
+use Rattle.runs.specs.Runs.{Sent, callSent, stepSent, claimSent, isServed, acceptedLines, labelsGiven, labelsFrom, TextsOf, aLine, Wrote, Took, one, several, TakenBy, afterCall, afterClaim, afterRefusal, afterStep, OneTally, lastTally}
 use Rattle.runs.proofs.Entered.{own, entered, refused-served}
 
 -- the results that the served claims of a list wrote, in order
 pub data Gave : List Sent → List Result → Type 0 where
   noClaim : Gave [] []
-  pastCall : {line : List ℕ} {r : Called} {es : List Sent} {qs : List Result} → Gave es qs → Gave (call line r ∷ es) qs
-  pastStep : {line : List ℕ} {t : Tally} {r : Stepped} {es : List Sent} {qs : List Result} → Gave es qs → Gave (step line t r ∷ es) qs
-  pastRefusal : {line out : List ℕ} {r : ClaimMade} {es : List Sent} {qs : List Result} → isServed (r .answer) ≡ false → Gave es qs → Gave (claim line out r ∷ es) qs
-  pastClaim : {line out : List ℕ} {r : ClaimMade} {es : List Sent} {q : Result} {qs : List Result} → IsClaim line (q .label) → Wrote out q r → Gave es qs → Gave (claim line out r ∷ es) (q ∷ qs)
+  pastCall : {line : List ℕ} {r : Called} {es : List Sent} {qs : List Result} → Gave es qs → Gave (callSent line r ∷ es) qs
+  pastStep : {line : List ℕ} {t : Tally} {r : Stepped} {es : List Sent} {qs : List Result} → Gave es qs → Gave (stepSent line t r ∷ es) qs
+  pastRefusal : {line out : List ℕ} {r : ClaimMade} {es : List Sent} {qs : List Result} → isServed (r .answer) ≡ false → Gave es qs → Gave (claimSent line out r ∷ es) qs
+  pastClaim : {line out : List ℕ} {r : ClaimMade} {es : List Sent} {q : Result} {qs : List Result} → IsClaim line (q .label) → Wrote out q r → Gave es qs → Gave (claimSent line out r ∷ es) (q ∷ qs)
 
 -- the calls accepted in a list were given the labels after l
 abbrev pub Labelled : ℕ → List Sent → Type 0
@@ -54,9 +53,9 @@ Tallied es ts = (t : Tally) → OneTally t es → lastTally t es ≡ counted t t
 
 -- the image that a line left
 abbrev pub left : Sent → List ℕ
-left (call line r) = r .image
-left (step line t r) = r .image
-left (claim line out r) = r .image
+left (callSent line r) = r .image
+left (stepSent line t r) = r .image
+left (claimSent line out r) = r .image
 
 -- the last label given, after these calls
 abbrev lastAfter : ℕ → List Call → ℕ
@@ -67,21 +66,21 @@ lastAfter l (c ∷ cs) = lastAfter (suc l) cs
 pub record Adds (s : Session) (e : Sent) (cs : List Call) (us : List Step) (qs : List Result) : Type 0 where
   pub texts : (es : List Sent) {ds : List Call} → TextsOf (acceptedLines es) ds → TextsOf (acceptedLines (e ∷ es)) (cs ++ ds)
   pub labels : (es : List Sent) → Labelled (lastAfter (s .last) cs) es → Labelled (s .last) (e ∷ es)
-  pub took : {es : List Sent} {ts : List Step} → Taken (left e) es ts → Taken (encode s) (e ∷ es) (us ++ ts)
+  pub took : {es : List Sent} {ts : List Step} → TakenBy (left e) es ts → TakenBy (encode s) (e ∷ es) (us ++ ts)
   pub tally : (es : List Sent) (ts : List Step) → Tallied es ts → Tallied (e ∷ es) (us ++ ts)
   pub wrote : {es : List Sent} {rs : List Result} → Gave es rs → Gave (e ∷ es) (qs ++ rs)
 
 module _ {s : Session} {line : List ℕ} where
-  call-refused : (n : ℕ) → 1 ≤ n → Adds s (call line (callRefused (encode s) n)) [] [] []
+  call-refused : (n : ℕ) → 1 ≤ n → Adds s (callSent line (callRefused (encode s) n)) [] [] []
   call-refused n m = record { texts = λ es h. rw (refused-served n m) h; labels = λ es h. rw (refused-served n m) h; took = afterCall; tally = λ es ts h. h; wrote = pastCall }
 
-  call-accepted : {c : Call} (u : Session) → IsCall line c → u .last ≡ suc (s .last) → Adds s (call line (callServed (encode s) (done u))) (c ∷ []) [] []
+  call-accepted : {c : Call} (u : Session) → IsCall line c → u .last ≡ suc (s .last) → Adds s (callSent line (callServed (encode s) (done u))) (c ∷ []) [] []
   call-accepted u i next = record { texts = λ es h. aLine i h; labels = λ es h j. pos (next j) ∷ h j; took = afterCall; tally = λ es ts h. h; wrote = pastCall }
 
-  step-refused : {t : Tally} (n : ℕ) → 1 ≤ n → Adds s (step line t (stepRefused (encode s) t n)) [] [] []
+  step-refused : {t : Tally} (n : ℕ) → 1 ≤ n → Adds s (stepSent line t (stepRefused (encode s) t n)) [] [] []
   step-refused {t} n m = record { texts = λ es h. h; labels = λ es h. h; took = afterRefusal (refused-served n m); tally = λ es ts h z o. h t (o .1) ∙ ap (λ (y : Tally). counted y ts) (o .0); wrote = pastStep }
 
-  step-served : {t : Tally} {us : List Step} (u : Session) → Took (encode s) line us → Adds s (step line t (stepServed (encode s) t us (done u))) [] us []
+  step-served : {t : Tally} {us : List Step} (u : Session) → Took (encode s) line us → Adds s (stepSent line t (stepServed (encode s) t us (done u))) [] us []
   step-served {t} {us} u took =
       record {
         texts = λ es h. h;
@@ -91,18 +90,18 @@ module _ {s : Session} {line : List ℕ} where
         wrote = pastStep;
       }
 
-  claim-refused : {out : List ℕ} (n : ℕ) → 1 ≤ n → Adds s (claim line out (claimRefused (encode s) out n)) [] [] []
+  claim-refused : {out : List ℕ} (n : ℕ) → 1 ≤ n → Adds s (claimSent line out (claimRefused (encode s) out n)) [] [] []
   claim-refused n m = record { texts = λ es h. h; labels = λ es h. h; took = afterClaim; tally = λ es ts h. h; wrote = pastRefusal (refused-served n m) }
 
-  claim-served : {out : List ℕ} (c : Claimed) → IsClaim line (c .result .label) → Adds s (claim line out (claimWritten out s c)) [] [] (c .result ∷ [])
+  claim-served : {out : List ℕ} (c : Claimed) → IsClaim line (c .result .label) → Adds s (claimSent line out (claimWritten out s c)) [] [] (c .result ∷ [])
   claim-served c i = record { texts = λ es h. h; labels = λ es h. h; took = afterClaim; tally = λ es ts h. h; wrote = pastClaim i (record { answer = refl; output = refl }) }
 
 -- the run x, led on to session u by what was added
-abbrev pub adding : Run → Session → List Call → List Step → List Result → Run
+abbrev pub adding : EventRun → Session → List Call → List Step → List Result → EventRun
 adding x u cs us qs = record { now = u; accepted = x .accepted ++ cs; claimed = x .claimed ++ qs; taken = x .taken ++ us }
 
 -- the session's own events that a line makes of the run x: none where it is refused, else one
-pub record OneLine (x : Run) (e : Sent) : Type 0 where
+pub record OneLine (x : EventRun) (e : Sent) : Type 0 where
   pub made : List Event
   pub now : Session
   pub calls : List Call
@@ -117,10 +116,10 @@ pub record OneLine (x : Run) (e : Sent) : Type 0 where
 no-more : {A : Type 0} (xs : List A) → xs ≡ xs ++ []
 no-more xs = sym (append-nil xs)
 
-pub unmoved : (x : Run) → x ≡ adding x (x .now) [] [] []
+pub unmoved : (x : EventRun) → x ≡ adding x (x .now) [] [] []
 unmoved x = λ i. record { now = x .now; accepted = no-more (x .accepted) i; claimed = no-more (x .claimed) i; taken = no-more (x .taken) i }
 
-module _ (x : Run) (v : Valid (x .now)) where
+module _ (x : EventRun) (v : Valid (x .now)) where
   abbrev s : Session
   s = x .now
 
@@ -128,10 +127,10 @@ module _ (x : Run) (v : Valid (x .now)) where
   refuses a same = record { made = []; now = s; calls = []; steps = []; gave = []; moved = unmoved x; adds = a; last = refl; image = same; valid = v }
 
   -- CALLS
-  pub call-line : {line : List ℕ} {r : Called} → Calls (encode s) line r → OneLine x (call line r)
-  call-line {line} h = entered s v (λ (r : Called). OneLine x (call line r)) (refuses (call-refused 10 (omega arith)) refl) (λ c i. form c i (accept c s) refl) h
+  pub call-line : {line : List ℕ} {r : Called} → Calls (encode s) line r → OneLine x (callSent line r)
+  call-line {line} h = entered s v (λ (r : Called). OneLine x (callSent line r)) (refuses (call-refused 10 (omega arith)) refl) (λ c i. form c i (accept c s) refl) h
     where
-      form : (c : Call) → IsCall line c → (a : Answer Session) → accept c s ≡ a → OneLine x (call line (callServed (encode s) a))
+      form : (c : Call) → IsCall line c → (a : Answer Session) → accept c s ≡ a → OneLine x (callSent line (callServed (encode s) a))
       form c i (refused n) e = refuses (call-refused n (unless-number (callTests c s) (accepted c s) (omega arith, (omega arith, (omega arith, (omega arith, (omega arith, (omega arith, tt)))))) e)) refl
       form c i (done u) e =
           let next : u .last ≡ suc (s .last) = sym (ap (λ (y : Session). y .last) (unless-done (callTests c s) (accepted c s) e .0)) in
@@ -149,10 +148,10 @@ module _ (x : Run) (v : Valid (x .now)) where
           }
 
   -- STEPS
-  pub step-line : {line : List ℕ} {t : Tally} {r : Stepped} → Steps (encode s) line t r → OneLine x (step line t r)
-  step-line {line} {t} h = entered s v (λ (r : Stepped). OneLine x (step line t r)) (refuses (step-refused 10 (omega arith)) refl) form h
+  pub step-line : {line : List ℕ} {t : Tally} {r : Stepped} → Steps (encode s) line t r → OneLine x (stepSent line t r)
+  step-line {line} {t} h = entered s v (λ (r : Stepped). OneLine x (stepSent line t r)) (refuses (step-refused 10 (omega arith)) refl) form h
     where
-      some : (g : Event) (us : List Step) (u : Session) → event g x ≡ record { now = u; accepted = x .accepted; claimed = x .claimed; taken = x .taken ++ us } → Took (encode s) line us → u .last ≡ s .last → Valid u → OneLine x (step line t (stepServed (encode s) t us (done u)))
+      some : (g : Event) (us : List Step) (u : Session) → event g x ≡ record { now = u; accepted = x .accepted; claimed = x .claimed; taken = x .taken ++ us } → Took (encode s) line us → u .last ≡ s .last → Valid u → OneLine x (stepSent line t (stepServed (encode s) t us (done u)))
       some g us u moved took last w =
           record {
             made = g ∷ [];
@@ -167,23 +166,23 @@ module _ (x : Run) (v : Valid (x .now)) where
             valid = w;
           }
 
-      taken : (w : Step) → IsStep line (work w) → (a : Answer Session) → graph.step w s ≡ a → OneLine x (step line t (stepServed (encode s) t (w ∷ []) a))
+      taken : (w : Step) → IsStep line (work w) → (a : Answer Session) → graph.step w s ≡ a → OneLine x (stepSent line t (stepServed (encode s) t (w ∷ []) a))
       taken w i (refused n) e = refuses (step-refused n (refusal-number w s e)) refl
       taken w i (done u) e = let d = done-holds e (step-valid w s v) in some (steps w) (w ∷ []) u (ap (onStep w x) e) (one w i) (d .last) (d .valid)
 
-      tested : (w : Step) → IsStep line (work w) → (b : Bool) → OneLine x (step line t (stepServed (encode s) t (w ∷ []) (andThen (cond b (refused 11) (done s)) (graph.step w))))
+      tested : (w : Step) → IsStep line (work w) → (b : Bool) → OneLine x (stepSent line t (stepServed (encode s) t (w ∷ []) (andThen (cond b (refused 11) (done s)) (graph.step w))))
       tested w i true = refuses (step-refused 11 (omega arith)) refl
       tested w i false = taken w i (graph.step w s) refl
 
-      form : (f : StepForm) → IsStep line f → OneLine x (step line t (stepMade (encode s) t s f))
+      form : (f : StepForm) → IsStep line f → OneLine x (stepSent line t (stepMade (encode s) t s f))
       form (work w) i = tested w i (not (areKeys (stepKeys (work w))))
       form drainForm i = let d = drain-drains s v in some drains ((drain s) .took) ((drain s) .end) refl (several s (own s v) i) (d .last) (d .valid)
 
   -- CLAIMS
-  pub claim-line : {line out : List ℕ} {r : ClaimMade} → Claims (encode s) line out r → OneLine x (claim line out r)
-  claim-line {line} {out} h = entered s v (λ (r : ClaimMade). OneLine x (claim line out r)) (refuses (claim-refused 10 (omega arith)) refl) (λ l i. form l i (acceptance.claim l s) refl) h
+  pub claim-line : {line out : List ℕ} {r : ClaimMade} → Claims (encode s) line out r → OneLine x (claimSent line out r)
+  claim-line {line} {out} h = entered s v (λ (r : ClaimMade). OneLine x (claimSent line out r)) (refuses (claim-refused 10 (omega arith)) refl) (λ l i. form l i (acceptance.claim l s) refl) h
     where
-      room : (l : ℕ) (c : Claimed) → IsClaim line l → acceptance.claim l s ≡ done c → (b : Bool) → OneLine x (claim line out (cond b (claimWritten out s c) (claimRefused (encode s) out 33)))
+      room : (l : ℕ) (c : Claimed) → IsClaim line l → acceptance.claim l s ≡ done c → (b : Bool) → OneLine x (claimSent line out (cond b (claimWritten out s c) (claimRefused (encode s) out 33)))
       room l c i e true =
           record {
             made = claims l ∷ [];
@@ -199,6 +198,6 @@ module _ (x : Run) (v : Valid (x .now)) where
           }
       room l c i e false = refuses (claim-refused 33 (omega arith)) refl
 
-      form : (l : ℕ) → IsClaim line l → (a : Answer Claimed) → acceptance.claim l s ≡ a → OneLine x (claim line out (claimServed (encode s) out s a))
+      form : (l : ℕ) → IsClaim line l → (a : Answer Claimed) → acceptance.claim l s ≡ a → OneLine x (claimSent line out (claimServed (encode s) out s a))
       form l i (refused n) e = refuses (claim-refused n (subst (Fine l s) e (claim-fine l s v) .0)) refl
       form l i (done c) e = room l c i e (leb (length (resultText (c .result))) (length out))

@@ -11,7 +11,7 @@ use lib.ListN.{length, take, replicate, length-replicate}
 use lib.Seq.{take-append-seam}
 use Rattle.graph.specs.Nodes.{Result}
 use Rattle.graph.specs.OneAtATime.{oneAtATime}
-use Rattle.graph.specs.Runs.{find}
+use Rattle.graph.specs.Counts.{resultOfLabel}
 use Rattle.text.specs.Text.{pasted}
 use Rattle.lines.specs.Forms.{claimText}
 use Rattle.lines.proofs.Claims.{claim-unique}
@@ -19,7 +19,7 @@ use Rattle.print.specs.Printed.{resultText}
 use Rattle.print.proofs.ReadBack.{result-inj}
 use Rattle.host.specs.Entries.{ClaimMade, Claims}
 use Rattle.host.proofs.Determined.{claim-forms, claim-once}
-use Rattle.runs.specs.Runs.{Sent, call, step, claim, Runs, opening, after, isServed, Wrote, ClaimedIn, here, there, WouldWrite}
+use Rattle.runs.specs.Runs.{Sent, callSent, stepSent, claimSent, Runs, opening, after, isServed, Wrote, ClaimedIn, here, there, WouldWrite}
 use Rattle.runs.specs.Demand.{ResultOf, claimed, unclaimed, GaveMeant, ClaimsMeant}
 use Rattle.graph.proofs.Found.{some-same}
 use Rattle.runs.proofs.Demand3.{demand3}
@@ -40,24 +40,24 @@ wrote-same {out} {p} {q} {r} w u =
     result-inj p q (sym (written out (resultText p)) ∙ (λ i. take (n i) (o i)) ∙ written out (resultText q))
 
 -- a claim in the list wrote what is meant
-claimed-meant : (meant : List Result) (l : ℕ) (q : Result) {es : List Sent} → ClaimsMeant meant es → ClaimedIn l q es → find l meant ≡ some q
+claimed-meant : (meant : List Result) (l : ℕ) (q : Result) {es : List Sent} → ClaimsMeant meant es → ClaimedIn l q es → resultOfLabel l meant ≡ some q
 claimed-meant meant l q m (here i w) =
     let g = m .0 (ap isServed (w .answer)) in
-    ap (λ (k : ℕ). find k meant) (claim-forms l (g .label) i (g .text)) ∙ g .same ∙ ap some (wrote-same (g .wrote) w)
-claimed-meant meant l q m (there {e = call line r} c) = claimed-meant meant l q m c
-claimed-meant meant l q m (there {e = step line t r} c) = claimed-meant meant l q m c
-claimed-meant meant l q m (there {e = claim line out r} c) = claimed-meant meant l q (m .1) c
+    ap (λ (k : ℕ). resultOfLabel k meant) (claim-forms l (g .label) i (g .text)) ∙ g .same ∙ ap some (wrote-same (g .wrote) w)
+claimed-meant meant l q m (there {e = callSent line r} c) = claimed-meant meant l q m c
+claimed-meant meant l q m (there {e = stepSent line t r} c) = claimed-meant meant l q m c
+claimed-meant meant l q m (there {e = claimSent line out r} c) = claimed-meant meant l q (m .1) c
 
 -- ONE CLAIM MORE
 module _ (line out : List ℕ) (r : ClaimMade) where
   abbrev more : List Sent → List Sent
-  more es = es ++ (claim line out r ∷ [])
+  more es = es ++ (claimSent line out r ∷ [])
 
   more-runs : (image : List ℕ) (es : List Sent) → Runs image es → Claims (after image es) line out r → Runs image (more es)
   more-runs image [] h c = (c, tt)
-  more-runs image (call l a ∷ es) h c = (h .0, more-runs (a .image) es (h .1) c)
-  more-runs image (step l t a ∷ es) h c = (h .0, more-runs (a .image) es (h .1) c)
-  more-runs image (claim l o a ∷ es) h c = (h .0, more-runs (a .image) es (h .1) c)
+  more-runs image (callSent l a ∷ es) h c = (h .0, more-runs (a .image) es (h .1) c)
+  more-runs image (stepSent l t a ∷ es) h c = (h .0, more-runs (a .image) es (h .1) c)
+  more-runs image (claimSent l o a ∷ es) h c = (h .0, more-runs (a .image) es (h .1) c)
 
   more-claimed : {l : ℕ} {q : Result} {es : List Sent} → ClaimedIn l q es → ClaimedIn l q (more es)
   more-claimed (here i w) = here i w
@@ -65,9 +65,9 @@ module _ (line out : List ℕ) (r : ClaimMade) where
 
   last-meant : (meant : List Result) (es : List Sent) → ClaimsMeant meant (more es) → isServed (r .answer) ≡ true → GaveMeant meant line out r
   last-meant meant [] m e = m .0 e
-  last-meant meant (call l a ∷ es) m e = last-meant meant es m e
-  last-meant meant (step l t a ∷ es) m e = last-meant meant es m e
-  last-meant meant (claim l o a ∷ es) m e = last-meant meant es (m .1) e
+  last-meant meant (callSent l a ∷ es) m e = last-meant meant es m e
+  last-meant meant (stepSent l t a ∷ es) m e = last-meant meant es m e
+  last-meant meant (claimSent l o a ∷ es) m e = last-meant meant es (m .1) e
 
 both-claimed : (es : List Sent) → Runs opening es → (l : ℕ) (p q : Result) → ClaimedIn l p es → ClaimedIn l q es → p ≡ q
 both-claimed es h l p q c d =
@@ -90,7 +90,7 @@ module _ (es : List Sent) (h : Runs opening es) (l : ℕ) where
       let g = last-meant (claimText l) out r meant es (t .claims) (ap isServed (w .wrote .answer)) in
       some-same
       (sym (claimed-meant meant l p (t .claims) (more-claimed (claimText l) out r c))
-      ∙ ap (λ (k : ℕ). find k meant) (claim-unique l (g .label) (g .text .same)) ∙ g .same ∙ ap some (wrote-same (g .wrote) (w .wrote)))
+      ∙ ap (λ (k : ℕ). resultOfLabel k meant) (claim-unique l (g .label) (g .text .same)) ∙ g .same ∙ ap some (wrote-same (g .wrote) (w .wrote)))
 
   pub result-same : (p q : Result) → ResultOf es l p → ResultOf es l q → p ≡ q
   result-same p q (claimed c) (claimed d) = both-claimed es h l p q c d

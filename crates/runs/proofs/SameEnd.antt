@@ -7,7 +7,7 @@ use mathlib.Core.List.{List, _∷_}
 use lib.ListN.{length}
 use Rattle.graph.specs.Calls.{Call}
 use Rattle.graph.specs.OneAtATime.{oneAtATime}
-use Rattle.graph.specs.Runs.{find}
+use Rattle.graph.specs.Counts.{resultOfLabel}
 use Rattle.runs.specs.Runs.{Sent, Runs, opening, after, acceptedLines, TextsOf, noLine, aLine, here, there, GraphOf}
 use Rattle.runs.specs.Demand.{ResultOf, NonePending, SameEnd}
 use Rattle.graph.proofs.Found.{some-same}
@@ -36,6 +36,6 @@ module _ (es fs : List Sent) (h : Runs opening es) (k : Runs opening fs) (same :
             let r = result-of (demand3 es h .results l a b) (p l a b) in
             let b′ : l ≤ length (acceptedLines fs) = omega (arith, ap length same) in
             let t = result-of (demand3 fs k .results l a b′) (q l a b′) in
-            let alike : t .result ≡ r .result = some-same (sym (t .same) ∙ ap (λ (cs : List Call). find l ((oneAtATime cs) .results)) (sym calls-same) ∙ r .same) in
+            let alike : t .result ≡ r .result = some-same (sym (t .same) ∙ ap (λ (cs : List Call). resultOfLabel l ((oneAtATime cs) .results)) (sym calls-same) ∙ r .same) in
             record { result = r .result; here = r .given; there = subst (ResultOf fs l) alike (t .given) };
       }

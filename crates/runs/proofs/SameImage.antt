@@ -15,7 +15,8 @@ use Rattle.graph.specs.Nodes.{Node, Result}
 use Rattle.graph.specs.OneAtATime.{oneAtATime}
 use Rattle.graph.specs.Sessions.{Station, Session, graphOf, labelsOfResults, pending, live}
 use Rattle.graph.specs.Drain.{backmost}
-use Rattle.graph.specs.Runs.{Run, find}
+use Rattle.graph.specs.EventRuns.{EventRun}
+use Rattle.graph.specs.Counts.{resultOfLabel}
 use Rattle.graph.specs.Valid.{Each, Given, count}
 use Rattle.graph.proofs.Answers.{and-left, and-right}
 use Rattle.graph.proofs.Drains.{Resting, no-units, pending-resting}
@@ -33,40 +34,40 @@ use Rattle.runs.proofs.Demand3 as main
 use Rattle.runs.proofs.SameEnd.{texts-same}
 
 -- FOUND BY LABEL
-counted : (l : ℕ) (q : Result) (rs : List Result) → find l rs ≡ some q → 1 ≤ count l (labelsOfResults rs)
+counted : (l : ℕ) (q : Result) (rs : List Result) → resultOfLabel l rs ≡ some q → 1 ≤ count l (labelsOfResults rs)
 counted l q [] e = absurd (none-some e)
 counted l q (r ∷ rs) e = go (where-found l q r rs e) (counted l q rs)
   where
-    go : Where l q r rs → (find l rs ≡ some q → 1 ≤ count l (labelsOfResults rs)) → 1 ≤ count l (labelsOfResults (r ∷ rs))
+    go : Where l q r rs → (resultOfLabel l rs ≡ some q → 1 ≤ count l (labelsOfResults rs)) → 1 ≤ count l (labelsOfResults (r ∷ rs))
     go (first-of d s) g = rw (eq-eqb l (r .label) (sym d)) (omega arith)
     go (later n s) g = omega (arith, g s)
 
-given : (last l : ℕ) (q : Result) (rs : List Result) → Each (Given last) (labelsOfResults rs) → find l rs ≡ some q → Given last l
+given : (last l : ℕ) (q : Result) (rs : List Result) → Each (Given last) (labelsOfResults rs) → resultOfLabel l rs ≡ some q → Given last l
 given last l q [] h e = absurd (none-some e)
 given last l q (r ∷ rs) h e = go (where-found l q r rs e) (given last l q rs (h .1))
   where
-    go : Where l q r rs → (find l rs ≡ some q → Given last l) → Given last l
+    go : Where l q r rs → (resultOfLabel l rs ≡ some q → Given last l) → Given last l
     go (first-of d s) g = subst (Given last) d (h .0)
     go (later n s) g = g s
 
-above-found : (d l : ℕ) (q : Result) (rs : List Result) → above d (labelsOfResults rs) ≡ true → find l rs ≡ some q → d < l
+above-found : (d l : ℕ) (q : Result) (rs : List Result) → above d (labelsOfResults rs) ≡ true → resultOfLabel l rs ≡ some q → d < l
 above-found d l q [] h e = absurd (none-some e)
 above-found d l q (r ∷ rs) h e = go (where-found l q r rs e) (above-found (r .label) l q rs (and-right (ltb d (r .label)) _ h))
   where
     low : d < r .label
     low = ltb-true d (r .label) (and-left _ _ h)
 
-    go : Where l q r rs → (find l rs ≡ some q → r .label < l) → d < l
+    go : Where l q r rs → (resultOfLabel l rs ≡ some q → r .label < l) → d < l
     go (first-of e s) g = omega (arith, low, e)
     go (later n s) g = omega (arith, low, g s)
 
 -- rising lists that find the same are the same
-Finds : List Result → List Result → Type 0
-Finds xs ys = (l : ℕ) (q : Result) → find l xs ≡ some q → find l ys ≡ some q
+FindsSame : List Result → List Result → Type 0
+FindsSame xs ys = (l : ℕ) (q : Result) → resultOfLabel l xs ≡ some q → resultOfLabel l ys ≡ some q
 
 module _ (x y : Result) (xs ys : List Result) (a : above (x .label) (labelsOfResults xs) ≡ true) (b : above (y .label) (labelsOfResults ys) ≡ true) where
-  heads : Finds (x ∷ xs) (y ∷ ys) → Finds (y ∷ ys) (x ∷ xs) → y ≡ x
-  unfolding Finds
+  heads : FindsSame (x ∷ xs) (y ∷ ys) → FindsSame (y ∷ ys) (x ∷ xs) → y ≡ x
+  unfolding FindsSame
   heads f g = go (where-found (x .label) x y ys (f (x .label) x (find-here (x .label) x xs refl))) (where-found (y .label) y x xs (g (y .label) y (find-here (y .label) y ys refl)))
     where
       go : Where (x .label) x y ys → Where (y .label) y x xs → y ≡ x
@@ -74,14 +75,14 @@ module _ (x y : Result) (xs ys : List Result) (a : above (x .label) (labelsOfRes
       go (later n s) (first-of d t) = absurd (n (sym d))
       go (later n s) (later m t) = absurd (omega (arith, above-found (y .label) (x .label) x ys b s, above-found (x .label) (y .label) y xs a t))
 
-  tails : x .label ≡ y .label → Finds (x ∷ xs) (y ∷ ys) → Finds xs ys
-  unfolding Finds
+  tails : x .label ≡ y .label → FindsSame (x ∷ xs) (y ∷ ys) → FindsSame xs ys
+  unfolding FindsSame
   tails e f l q h =
       let low : x .label < l = above-found (x .label) l q xs a h in
       sym (find-skip l y ys (λ d. omega (arith, low, e, d))) ∙ f l q (find-skip l x xs (λ d. omega (arith, low, d)) ∙ h)
 
-same-list : (xs ys : List Result) → rising (labelsOfResults xs) ≡ true → rising (labelsOfResults ys) ≡ true → Finds xs ys → Finds ys xs → xs ≡ ys
-unfolding Finds
+same-list : (xs ys : List Result) → rising (labelsOfResults xs) ≡ true → rising (labelsOfResults ys) ≡ true → FindsSame xs ys → FindsSame ys xs → xs ≡ ys
+unfolding FindsSame
 same-list [] [] a b f g = refl
 same-list [] (y ∷ ys) a b f g = absurd (none-some (g (y .label) y (find-here (y .label) y ys refl)))
 same-list (x ∷ xs) [] a b f g = absurd (none-some (f (x .label) x (find-here (x .label) x xs refl)))
@@ -93,7 +94,7 @@ same-list (x ∷ xs) (y ∷ ys) a b f g =
 -- a claim in the list is one of those that were served
 record FoundIn (l : ℕ) (qs : List Result) : Type 0 where
   which : Result
-  found : find l qs ≡ some which
+  found : resultOfLabel l qs ≡ some which
 
 claimed-gave : (l : ℕ) (q : Result) {es : List Sent} {qs : List Result} → ClaimedIn l q es → Gave es qs → FoundIn l qs
 claimed-gave l q (here i w) (pastRefusal n g) = absurd (true≢false (sym (ap isServed (w .answer)) ∙ n))
@@ -144,9 +145,9 @@ module _ (es : List Sent) (h : Runs opening es) where
       )
 
   once : (l : ℕ) → count l (labelsOfResults (main.x es h .claimed)) + count l (live s) ≤ 1
-  once l = subst (λ (y : Run). count l (labelsOfResults (y .claimed)) + count l (live (y .now)) ≤ 1) (main.to es h .moved) (label-once (main.to es h .made) l)
+  once l = subst (λ (y : EventRun). count l (labelsOfResults (y .claimed)) + count l (live (y .now)) ≤ 1) (main.to es h .moved) (label-once (main.to es h .made) l)
 
-  not-both : (l : ℕ) (q p : Result) → find l (s .results) ≡ some q → find l (main.x es h .claimed) ≡ some p → ⊥
+  not-both : (l : ℕ) (q p : Result) → resultOfLabel l (s .results) ≡ some q → resultOfLabel l (main.x es h .claimed) ≡ some p → ⊥
   not-both l q p e f = omega (arith, counted l q (s .results) e, counted l p (main.x es h .claimed) f, results-live l, once l)
 
   results-given : Each (Given (s .last)) (labelsOfResults (s .results))
@@ -157,27 +158,27 @@ module _ (es : List Sent) (h : Runs opening es) where
     idle l = ap (contains l) (main.no-more es h np)
 
     -- what the session holds under a label is what is meant, and was not claimed
-    held-meant : (l : ℕ) (q : Result) → find l (s .results) ≡ some q → find l meant ≡ some q
+    held-meant : (l : ℕ) (q : Result) → resultOfLabel l (s .results) ≡ some q → resultOfLabel l meant ≡ some q
     held-meant l q e =
         let g = given (s .last) l q (s .results) results-given e in
         let r = main.d es h .results l (g .0) (omega (arith, g .1, main.d es h .labels)) (idle l) in
         go (r .result) (r .there) (find-either l (r .result) (main.x es h .claimed) (s .results) (r .here))
       where
-        go : (p : Result) → find l meant ≡ some p → InEither l p (main.x es h .claimed) (s .results) → find l meant ≡ some q
+        go : (p : Result) → resultOfLabel l meant ≡ some p → InEither l p (main.x es h .claimed) (s .results) → resultOfLabel l meant ≡ some q
         go p m (first f) = absurd (not-both l q p e f)
         go p m (second f) = m ∙ sym f ∙ e
 
     -- and what is meant under a label that was not claimed is held
-    meant-held : (l : ℕ) (q : Result) → 1 ≤ l → l ≤ s .last → find l meant ≡ some q → (ClaimedLabel l es → ⊥) → find l (s .results) ≡ some q
+    meant-held : (l : ℕ) (q : Result) → 1 ≤ l → l ≤ s .last → resultOfLabel l meant ≡ some q → (ClaimedLabel l es → ⊥) → resultOfLabel l (s .results) ≡ some q
     meant-held l q a b e n =
         let r = main.d es h .results l a (omega (arith, b, main.d es h .labels)) (idle l) in
         go (r .result) (r .there) (find-either l (r .result) (main.x es h .claimed) (s .results) (r .here))
       where
-        go : (p : Result) → find l meant ≡ some p → InEither l p (main.x es h .claimed) (s .results) → find l (s .results) ≡ some q
+        go : (p : Result) → resultOfLabel l meant ≡ some p → InEither l p (main.x es h .claimed) (s .results) → resultOfLabel l (s .results) ≡ some q
         go p m (first f) = absurd (n (record { result = p; is = gave-claimed l p (main.to es h .wrote) f }))
         go p m (second f) = f ∙ sym m ∙ e
 
-    held-unclaimed : (l : ℕ) (q : Result) → find l (s .results) ≡ some q → ClaimedLabel l es → ⊥
+    held-unclaimed : (l : ℕ) (q : Result) → resultOfLabel l (s .results) ≡ some q → ClaimedLabel l es → ⊥
     held-unclaimed l q e c =
         let f = claimed-gave l (c .result) (c .is) (main.to es h .wrote) in
         not-both l q (f .which) e (f .found)
@@ -189,11 +190,11 @@ module _ (es fs : List Sent) (h : Runs opening es) (k : Runs opening fs) (same :
   last : main.s es h .last ≡ main.s fs k .last
   last = main.size es h ∙ ap length same ∙ sym (main.size fs k)
 
-  results-found : ((l : ℕ) → ClaimedLabel l fs → ClaimedLabel l es) → Finds (main.s es h .results) (main.s fs k .results)
-  unfolding Finds
+  results-found : ((l : ℕ) → ClaimedLabel l fs → ClaimedLabel l es) → FindsSame (main.s es h .results) (main.s fs k .results)
+  unfolding FindsSame
   results-found c l r e =
       let g = given (main.s es h .last) l r (main.s es h .results) (results-given es h) e in
-      let m : find l (meant fs k) ≡ some r = sym (ap (λ (cs : List Call). find l ((oneAtATime cs) .results)) fed) ∙ held-meant es h p l r e in
+      let m : resultOfLabel l (meant fs k) ≡ some r = sym (ap (λ (cs : List Call). resultOfLabel l ((oneAtATime cs) .results)) fed) ∙ held-meant es h p l r e in
       meant-held fs k q l r (g .0) (omega (arith, g .1, last)) m (λ d. held-unclaimed es h p l r e (c l d))
 
 module _ (es fs : List Sent) (h : Runs opening es) (k : Runs opening fs) (same : acceptedLines es ≡ acceptedLines fs) (p : NonePending es) (q : NonePending fs) (to : (l : ℕ) → ClaimedLabel l es → ClaimedLabel l fs) (from : (l : ℕ) → ClaimedLabel l fs → ClaimedLabel l es) where

@@ -13,12 +13,13 @@ use lib.ListN.{length, length-append}
 use borrow.Author.Tests.{lt-ltb, le-leb, eqb-true, eq-eqb, ne-eqb}
 use Rattle.graph.specs.Refusals.{Answer, refused, done, mapDone, andThen, unless}
 use Rattle.graph.specs.KeyLists.{areKeys, contains}
-use Rattle.graph.specs.Calls.{areWords}
+use Rattle.graph.specs.Words.{areWords}
 use Rattle.graph.specs.Nodes.{Result}
 use Rattle.graph.specs.Sessions.{Station, Session, pending}
 use Rattle.graph.specs.Steps.{Step, admit, realise, move, finish, join, split, swap, fuse, Change, behind, at, step}
 use Rattle.graph.specs.Acceptance.{Claimed, takeResult, claim}
-use Rattle.graph.specs.Runs.{workSteps, stepAll, find}
+use Rattle.graph.specs.Counts.{quotedSteps, resultOfLabel}
+use Rattle.graph.specs.EventRuns.{stepAll}
 use Rattle.graph.specs.Valid.{KeysFall, Valid}
 use Rattle.graph.proofs.Answers.{isDone, isDone-map, and-both}
 use Rattle.graph.proofs.Effects.{costs}
@@ -26,13 +27,12 @@ use Rattle.graph.proofs.Validity.{step-valid, Fine, claim-fine}
 use Rattle.graph.proofs.Drains.{done-holds, work-cons}
 use Rattle.text.specs.Text.{ascii, decimal, pasted}
 use Rattle.text.proofs.Decimals.{len-ten}
-use Rattle.lines.specs.Forms.{work, field, stepText, stepNumbers, stepKeys, claimText}
-use Rattle.lines.specs.Answers.{IsStep, IsClaim, stepFormTests}
+use Rattle.lines.specs.Forms.{work, field, stepText, stepNumbers, stepKeys, claimText, IsStep, IsClaim, stepFormTests}
 use Rattle.lines.proofs.Claims.{claim-unique}
 use Rattle.print.specs.Printed.{resultText}
-use Rattle.panel.specs.declared.answer.Answer.the-variants.{Refused}
+use Rattle.panel.specs.declared.returned.Returned.the-variants.{Refused}
 use Rattle.panel.specs.declared.tally.Tally.{Tally}
-use Rattle.panel.specs.Answer.{numberOf, refusalIn}
+use Rattle.panel.specs.Returned.{returnedNumber, refusalIn}
 use Rattle.panel.specs.Tally.{counted}
 use Rattle.valid.specs.Values.{encode}
 use Rattle.host.specs.Entries.{served, ClaimMade, claimRefused, claimWritten, claimServed, stepServed, Steps}
@@ -41,7 +41,7 @@ use Rattle.runs.specs.Demand.{StepLines, ended, stepped}
 use Rattle.runs.proofs.Entered.{own, entered}
 use Rattle.graph.proofs.Found.{none-some, Where, first-of, later, where-found}
 
-refusal-of : (n : ℕ) → refusalIn (numberOf (Refused n)) ≡ n
+refusal-of : (n : ℕ) → refusalIn (returnedNumber (Refused n)) ≡ n
 refusal-of zero = refl
 refusal-of (suc n) = refl
 
@@ -123,11 +123,11 @@ cost-most (split k i j) = omega arith
 cost-most (swap k i) = omega arith
 cost-most (fuse k i) = omega arith
 
-work-most : (ts : List Step) → workSteps ts ≤ length ts
+work-most : (ts : List Step) → quotedSteps ts ≤ length ts
 work-most [] = omega arith
 work-most (t ∷ ts) = omega (arith, work-cons t ts, cost-most t, work-most ts)
 
-pub all-lines : (ts : List Step) (s u : Session) → Valid s → workSteps ts ≡ length ts → stepAll ts s ≡ done u → StepLines (encode u) (encode s) ts
+pub all-lines : (ts : List Step) (s u : Session) → Valid s → quotedSteps ts ≡ length ts → stepAll ts s ≡ done u → StepLines (encode u) (encode s) ts
 all-lines [] s u v n e = ended (ap (λ (x : Answer Session). encode (sessionIn s x)) e)
 all-lines (t ∷ ts) s u v n e = go (step t s) refl e (λ x w q. all-lines ts x u w (omega (arith, n, work-cons t ts, cost-most t, work-most ts)) q)
   where
@@ -176,17 +176,17 @@ record Found (l : ℕ) (rs : List Result) (q : Result) : Type 0 where
   is : takeResult l rs ≡ done taken
   same : taken .result ≡ q
 
-found-taken : (l : ℕ) (rs : List Result) (q : Result) → find l rs ≡ some q → Found l rs q
+found-taken : (l : ℕ) (rs : List Result) (q : Result) → resultOfLabel l rs ≡ some q → Found l rs q
 found-taken l [] q e = absurd (none-some e)
 found-taken l (r ∷ rs) q e = go (where-found l q r rs e) (found-taken l rs q)
   where
-    go : Where l q r rs → (find l rs ≡ some q → Found l rs q) → Found l (r ∷ rs) q
+    go : Where l q r rs → (resultOfLabel l rs ≡ some q → Found l rs q) → Found l (r ∷ rs) q
     go (first-of d s) g = record { taken = record { result = r; others = rs }; is = rw (eq-eqb (r .label) l d) refl; same = s }
     go (later n s) g =
         let f = g s in
         record { taken = record { result = f .taken .result; others = r ∷ f .taken .others }; is = rw (ne-eqb (r .label) l n, f .is) refl; same = f .same }
 
-pub would-write : (s : Session) → Valid s → (l : ℕ) → 1 ≤ l → l ≤ s .last → contains l (pending s) ≡ false → (q : Result) → find l (s .results) ≡ some q → (out : List ℕ) → length (resultText q) ≤ length out → WouldWrite (encode s) out l q
+pub would-write : (s : Session) → Valid s → (l : ℕ) → 1 ≤ l → l ≤ s .last → contains l (pending s) ≡ false → (q : Result) → resultOfLabel l (s .results) ≡ some q → (out : List ℕ) → length (resultText q) ≤ length out → WouldWrite (encode s) out l q
 would-write s v l h k c q e out room =
     let f = found-taken l (s .results) q e in
     let is : claim l s ≡ done (f .taken) = claim-given s l h k ∙ ap (λ (b : Bool). cond b (refused 31) (takeResult l (s .results))) c ∙ f .is in

@@ -10,8 +10,7 @@ use Rattle.graph.specs.Refusals.{Answer, refused, done, andThen, unless}
 use Rattle.graph.specs.Sessions.{Session}
 use Rattle.graph.specs.Steps.{Step, step}
 use Rattle.graph.specs.Acceptance.{accept, Claimed, claim}
-use Rattle.lines.specs.Forms.{StepForm, work, drain as drains}
-use Rattle.lines.specs.Answers.{stepFormTests}
+use Rattle.lines.specs.Forms.{StepForm, work, drainForm, stepFormTests}
 use Rattle.panel.specs.declared.tally.Tally.{Tally}
 use Rattle.print.specs.Printed.{resultText}
 use Rattle.listing.specs.Listed.{listingOf}
@@ -39,7 +38,7 @@ step-leaves {image} {line} {t} h = each-case (λ (r : Stepped). isServed (r .ans
 
     made : (s : Session) (f : StepForm) → isServed (stepMade image t s f .answer) ≡ false → StepLeaves image t (stepMade image t s f)
     made s (work w) e = taken (w ∷ []) (andThen (unless (stepFormTests (work w)) s) (step w)) e
-    made s drains e = absurd (true≢false e)
+    made s drainForm e = absurd (true≢false e)
 
 pub record ClaimLeaves (image out : List ℕ) (r : ClaimMade) : Type 0 where
   pub same : r .image ≡ image

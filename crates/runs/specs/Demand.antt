@@ -13,26 +13,27 @@ use Rattle.graph.specs.OneAtATime.{oneAtATime}
 use Rattle.graph.specs.Sessions.{Session}
 use Rattle.graph.specs.Steps.{Step}
 use Rattle.graph.specs.Drain.{drain}
-use Rattle.graph.specs.Runs.{find, ofKind, workSteps}
-use Rattle.lines.specs.Forms.{work, drain as drains, stepText}
-use Rattle.lines.specs.Answers.{IsClaim}
+use Rattle.graph.specs.Counts.{resultOfLabel, ofKind, quotedSteps}
+use Rattle.lines.specs.Forms.{work, drainForm, stepText, IsClaim}
 use Rattle.print.specs.Printed.{resultText}
 use Rattle.panel.specs.declared.tally.Tally.{Tally}
 use Rattle.panel.specs.Tally.{counted, zeros}
 use Rattle.valid.specs.Values.{encode}
 use Rattle.host.specs.Entries.{ImageOf, Stepped, ClaimMade, Steps}
-use Rattle.runs.specs.Runs.{Sent, call, step, claim, Input, inputsOf, Runs, opening, after, isServed, acceptedLines, labelsGiven, labelsFrom, TextsOf, Pending, Allowed, Wrote, ClaimedIn, WouldWrite, GraphOf, Taken, OneTally, lastTally}
+use Rattle.runs.specs.Runs.{Sent, callSent, stepSent, claimSent, Input, inputsOf, Runs, opening, after, isServed, acceptedLines, labelsGiven, labelsFrom, TextsOf, Pending, Allowed, Wrote, ClaimedIn, WouldWrite, GraphOf, TakenBy, OneTally, lastTally}
 
 -- label l has this result: "the value and the `left` in the line that its claim wrote or, while unclaimed, would write given room"
 pub data ResultOf (es : List Sent) (l : ℕ) (q : Result) : Type 0 where
   claimed : ClaimedIn l q es → ResultOf es l q
-  unclaimed : ((out : List ℕ) → length (resultText q) ≤ length out → WouldWrite (after opening es) out l q) → ResultOf es l q
+  unclaimed :
+      ((out : List ℕ) → length (resultText q) ≤ length out → WouldWrite (after opening es) out l q)
+      → ResultOf es l q
 
 -- label l has a result, that of one-at-a-time processing
 pub record HasResult (es : List Sent) (meant : List Result) (l : ℕ) : Type 0 where
   pub result : Result
   pub given : ResultOf es l result
-  pub same : find l meant ≡ some result
+  pub same : resultOfLabel l meant ≡ some result
 
 -- an accepted call is pending, or it is not and has its result
 pub data PendingOrResult (es : List Sent) (meant : List Result) (l : ℕ) : Type 0 where
@@ -44,25 +45,28 @@ pub record GaveMeant (meant : List Result) (line out : List ℕ) (r : ClaimMade)
   pub label : ℕ
   pub text : IsClaim line label
   pub result : Result
-  pub same : find label meant ≡ some result
+  pub same : resultOfLabel label meant ≡ some result
   pub wrote : Wrote out result r
 
 abbrev pub ClaimsMeant : List Result → List Sent → Type 0
 ClaimsMeant meant [] = Unit {0}
-ClaimsMeant meant (call line r ∷ es) = ClaimsMeant meant es
-ClaimsMeant meant (step line t r ∷ es) = ClaimsMeant meant es
-ClaimsMeant meant (claim line out r ∷ es) = (isServed (r .answer) ≡ true → GaveMeant meant line out r) × ClaimsMeant meant es
+ClaimsMeant meant (callSent line r ∷ es) = ClaimsMeant meant es
+ClaimsMeant meant (stepSent line t r ∷ es) = ClaimsMeant meant es
+ClaimsMeant meant (claimSent line out r ∷ es) = (isServed (r .answer) ≡ true → GaveMeant meant line out r) × ClaimsMeant meant es
 
 -- some admit, realise, move or finish line would be answered 0
 pub record Progress (image : List ℕ) : Type 0 where
   pub what : Step
-  pub kind : workSteps (what ∷ []) ≡ 1
+  pub kind : quotedSteps (what ∷ []) ≡ 1
   pub allowed : (t : Tally) → Allowed image (stepText (work what)) t
 
 -- the steps, sent as lines one by one, are each answered 0 whatever tally they are lent, and lead to the image `end`
 pub data StepLines (end : List ℕ) : List ℕ → List Step → Type 0 where
   ended : {image : List ℕ} → image ≡ end → StepLines end image []
-  stepped : {image : List ℕ} {w : Step} {ts : List Step} (next : List ℕ) → ((t : Tally) → Steps image (stepText (work w)) t (record { answer = pos 0; image = next; tally = counted t (w ∷ []) })) → StepLines end next ts → StepLines end image (w ∷ ts)
+  stepped : {image : List ℕ} {w : Step} {ts : List Step} (next : List ℕ)
+      → ((t : Tally) → Steps image (stepText (work w)) t (record { answer = pos 0; image = next; tally = counted t (w ∷ []) }))
+      → StepLines end next ts
+      → StepLines end image (w ∷ ts)
 
 -- no accepted call is pending
 abbrev pub NonePending : List Sent → Type 0
@@ -93,18 +97,27 @@ pub record Demand3 (es : List Sent) : Type 0 where
   pub progress : (l : ℕ) → Pending (after opening es) l → Progress (after opening es)
   -- the steps taken, and at most 73 of the four kinds for each call accepted
   pub steps : List Step
-  pub taken : Taken opening es steps
-  pub bound : workSteps steps ≤ 73 * length (acceptedLines es)
+  pub taken : TakenBy opening es steps
+  pub bound : quotedSteps steps ≤ 73 * length (acceptedLines es)
   -- "which stays far below resting": 73 × 65,535
-  pub below : workSteps steps ≤ 4784055
+  pub below : quotedSteps steps ≤ 4784055
   -- "With one tally, zeros at the start .., each of these four kinds' number equals its count there"
-  pub tally : OneTally zeros es → (lastTally zeros es .admit ≡ ofKind 0 steps) × (lastTally zeros es .realise ≡ ofKind 1 steps) × (lastTally zeros es .«move_on» ≡ ofKind 2 steps) × (lastTally zeros es .finish ≡ ofKind 3 steps)
+  pub tally :
+      OneTally zeros es
+      → (lastTally zeros es .admit ≡ ofKind 0 steps)
+      × (lastTally zeros es .realise ≡ ofKind 1 steps)
+      × (lastTally zeros es .«move_on» ≡ ofKind 2 steps)
+      × (lastTally zeros es .finish ≡ ofKind 3 steps)
   -- a drain's steps, sent one by one as lines, are each answered 0 and lead to the image that the drain leaves
-  pub drained : StepLines (encode ((drain session) .end)) (after opening es) ((drain session) .took)
+  pub oneByOne : StepLines (encode ((drain session) .end)) (after opening es) ((drain session) .took)
   -- a drain is served, and leaves none pending
-  pub cleared : (t : Tally) (r : Stepped) → Steps (after opening es) (stepText drains) t r → Cleared r
+  pub cleared : (t : Tally) (r : Stepped) → Steps (after opening es) (stepText drainForm) t r → Cleared r
   -- "With none pending it is accepted and takes no step."
-  pub idle : NonePending es → (t : Tally) (r : Stepped) → Steps (after opening es) (stepText drains) t r → r ≡ record { answer = pos 0; image = after opening es; tally = t }
+  pub idle :
+      NonePending es
+      → (t : Tally) (r : Stepped)
+      → Steps (after opening es) (stepText drainForm) t r
+      → r ≡ record { answer = pos 0; image = after opening es; tally = t }
 
 -- what is sent has one run from the image that opening writes, and demand 3 holds of it
 pub record RunOf (is : List Input) : Type 0 where

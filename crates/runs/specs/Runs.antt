@@ -13,8 +13,7 @@ use Rattle.graph.specs.Sessions.{Session, fresh, graphOf}
 use Rattle.graph.specs.Steps.{Step}
 use Rattle.graph.specs.Drain.{drain}
 use Rattle.text.specs.Text.{pasted}
-use Rattle.lines.specs.Forms.{work, drain as drains, claimText}
-use Rattle.lines.specs.Answers.{IsCall, IsStep, IsClaim}
+use Rattle.lines.specs.Forms.{work, drainForm, claimText, IsCall, IsStep, IsClaim}
 use Rattle.print.specs.Printed.{resultText}
 use Rattle.panel.specs.declared.tally.Tally.{Tally}
 use Rattle.valid.specs.Values.{encode}
@@ -23,9 +22,9 @@ use Rattle.host.specs.Entries.{ImageOf, Called, Stepped, ClaimMade, Calls, Step
 -- a line that was sent, and what the host's function gave and left: "A line may have any bytes, a step may be lent any tally, and
 -- a claim any output"
 pub data Sent : Type 0 where
-  call : (line : List ℕ) → Called → Sent
-  step : (line : List ℕ) → Tally → Stepped → Sent
-  claim : (line out : List ℕ) → ClaimMade → Sent
+  callSent : (line : List ℕ) → Called → Sent
+  stepSent : (line : List ℕ) → Tally → Stepped → Sent
+  claimSent : (line out : List ℕ) → ClaimMade → Sent
 
 -- what is sent, without what was given and left
 pub data Input : Type 0 where
@@ -35,16 +34,16 @@ pub data Input : Type 0 where
 
 abbrev pub inputsOf : List Sent → List Input
 inputsOf [] = []
-inputsOf (call line r ∷ es) = callInput line ∷ inputsOf es
-inputsOf (step line t r ∷ es) = stepInput line t ∷ inputsOf es
-inputsOf (claim line out r ∷ es) = claimInput line out ∷ inputsOf es
+inputsOf (callSent line r ∷ es) = callInput line ∷ inputsOf es
+inputsOf (stepSent line t r ∷ es) = stepInput line t ∷ inputsOf es
+inputsOf (claimSent line out r ∷ es) = claimInput line out ∷ inputsOf es
 
 -- "Each line gets the image as the lines before left it"
 abbrev pub Runs : List ℕ → List Sent → Type 0
 Runs image [] = Unit {0}
-Runs image (call line r ∷ es) = Calls image line r × Runs (r .image) es
-Runs image (step line t r ∷ es) = Steps image line t r × Runs (r .image) es
-Runs image (claim line out r ∷ es) = Claims image line out r × Runs (r .image) es
+Runs image (callSent line r ∷ es) = Calls image line r × Runs (r .image) es
+Runs image (stepSent line t r ∷ es) = Steps image line t r × Runs (r .image) es
+Runs image (claimSent line out r ∷ es) = Claims image line out r × Runs (r .image) es
 
 -- "It starts from the image that opening writes."
 abbrev pub opening : List ℕ
@@ -52,9 +51,9 @@ opening = encode fresh
 
 abbrev pub after : List ℕ → List Sent → List ℕ
 after image [] = image
-after image (call line r ∷ es) = after (r .image) es
-after image (step line t r ∷ es) = after (r .image) es
-after image (claim line out r ∷ es) = after (r .image) es
+after image (callSent line r ∷ es) = after (r .image) es
+after image (stepSent line t r ∷ es) = after (r .image) es
+after image (claimSent line out r ∷ es) = after (r .image) es
 
 -- an answer that is no refusal
 abbrev pub isServed : ℤ → Bool
@@ -64,15 +63,15 @@ isServed (negsuc n) = false
 -- "Accepted are the call lines answered with a label"
 abbrev pub acceptedLines : List Sent → List (List ℕ)
 acceptedLines [] = []
-acceptedLines (call line r ∷ es) = cond (isServed (r .answer)) (line ∷ acceptedLines es) (acceptedLines es)
-acceptedLines (step line t r ∷ es) = acceptedLines es
-acceptedLines (claim line out r ∷ es) = acceptedLines es
+acceptedLines (callSent line r ∷ es) = cond (isServed (r .answer)) (line ∷ acceptedLines es) (acceptedLines es)
+acceptedLines (stepSent line t r ∷ es) = acceptedLines es
+acceptedLines (claimSent line out r ∷ es) = acceptedLines es
 
 abbrev pub labelsGiven : List Sent → List ℤ
 labelsGiven [] = []
-labelsGiven (call line r ∷ es) = cond (isServed (r .answer)) (r .answer ∷ labelsGiven es) (labelsGiven es)
-labelsGiven (step line t r ∷ es) = labelsGiven es
-labelsGiven (claim line out r ∷ es) = labelsGiven es
+labelsGiven (callSent line r ∷ es) = cond (isServed (r .answer)) (r .answer ∷ labelsGiven es) (labelsGiven es)
+labelsGiven (stepSent line t r ∷ es) = labelsGiven es
+labelsGiven (claimSent line out r ∷ es) = labelsGiven es
 
 -- so many labels from l on: "these answers are 1, 2, 3 and so on"
 abbrev pub labelsFrom : ℕ → ℕ → List ℤ
@@ -82,7 +81,10 @@ labelsFrom l (suc n) = pos l ∷ labelsFrom (suc l) n
 -- "One-at-a-time processing is fed exactly these lines, in that order": the calls that they are the texts of
 pub data TextsOf : List (List ℕ) → List Call → Type 0 where
   noLine : TextsOf [] []
-  aLine : {line : List ℕ} {lines : List (List ℕ)} {c : Call} {cs : List Call} → IsCall line c → TextsOf lines cs → TextsOf (line ∷ lines) (c ∷ cs)
+  aLine : {line : List ℕ} {lines : List (List ℕ)} {c : Call} {cs : List Call}
+      → IsCall line c
+      → TextsOf lines cs
+      → TextsOf (line ∷ lines) (c ∷ cs)
 
 -- "an accepted call is pending where a claim of its label would be refused with 31"
 abbrev pub Pending : List ℕ → ℕ → Type 0
@@ -101,7 +103,10 @@ pub record Wrote (out : List ℕ) (q : Result) (r : ClaimMade) : Type 0 where
 
 -- a claim of label l in the list wrote q
 pub data ClaimedIn (l : ℕ) (q : Result) : List Sent → Type 0 where
-  here : {line out : List ℕ} {r : ClaimMade} {es : List Sent} → IsClaim line l → Wrote out q r → ClaimedIn l q (claim line out r ∷ es)
+  here : {line out : List ℕ} {r : ClaimMade} {es : List Sent}
+      → IsClaim line l
+      → Wrote out q r
+      → ClaimedIn l q (claimSent line out r ∷ es)
   there : {e : Sent} {es : List Sent} → ClaimedIn l q es → ClaimedIn l q (e ∷ es)
 
 -- a claim of label l would write q, given room
@@ -119,25 +124,36 @@ pub record GraphOf (image : List ℕ) (nodes : List Node) : Type 0 where
 -- the steps that a step line answered 0 took: its own, or "those that drains took by their rule"
 pub data Took (image line : List ℕ) : List Step → Type 0 where
   one : (w : Step) → IsStep line (work w) → Took image line (w ∷ [])
-  several : (s : Session) → ImageOf image s → IsStep line drains → Took image line ((drain s) .took)
+  several : (s : Session) → ImageOf image s → IsStep line drainForm → Took image line ((drain s) .took)
 
 -- "The steps taken are the .. answered 0, and those that drains took"
-pub data Taken : List ℕ → List Sent → List Step → Type 0 where
-  nothingSent : {image : List ℕ} → Taken image [] []
-  afterCall : {image line : List ℕ} {r : Called} {es : List Sent} {ts : List Step} → Taken (r .image) es ts → Taken image (call line r ∷ es) ts
-  afterClaim : {image line out : List ℕ} {r : ClaimMade} {es : List Sent} {ts : List Step} → Taken (r .image) es ts → Taken image (claim line out r ∷ es) ts
-  afterRefusal : {image line : List ℕ} {t : Tally} {r : Stepped} {es : List Sent} {ts : List Step} → isServed (r .answer) ≡ false → Taken (r .image) es ts → Taken image (step line t r ∷ es) ts
-  afterStep : {image line : List ℕ} {t : Tally} {r : Stepped} {es : List Sent} {us ts : List Step} → isServed (r .answer) ≡ true → Took image line us → Taken (r .image) es ts → Taken image (step line t r ∷ es) (us ++ ts)
+pub data TakenBy : List ℕ → List Sent → List Step → Type 0 where
+  nothingSent : {image : List ℕ} → TakenBy image [] []
+  afterCall : {image line : List ℕ} {r : Called} {es : List Sent} {ts : List Step}
+      → TakenBy (r .image) es ts
+      → TakenBy image (callSent line r ∷ es) ts
+  afterClaim : {image line out : List ℕ} {r : ClaimMade} {es : List Sent} {ts : List Step}
+      → TakenBy (r .image) es ts
+      → TakenBy image (claimSent line out r ∷ es) ts
+  afterRefusal : {image line : List ℕ} {t : Tally} {r : Stepped} {es : List Sent} {ts : List Step}
+      → isServed (r .answer) ≡ false
+      → TakenBy (r .image) es ts
+      → TakenBy image (stepSent line t r ∷ es) ts
+  afterStep : {image line : List ℕ} {t : Tally} {r : Stepped} {es : List Sent} {us ts : List Step}
+      → isServed (r .answer) ≡ true
+      → Took image line us
+      → TakenBy (r .image) es ts
+      → TakenBy image (stepSent line t r ∷ es) (us ++ ts)
 
 -- "With one tally .. written by nobody else": each step is lent it as the one before left it
 abbrev pub OneTally : Tally → List Sent → Type 0
 OneTally t [] = Unit {0}
-OneTally t (call line r ∷ es) = OneTally t es
-OneTally t (step line u r ∷ es) = (u ≡ t) × OneTally (r .tally) es
-OneTally t (claim line out r ∷ es) = OneTally t es
+OneTally t (callSent line r ∷ es) = OneTally t es
+OneTally t (stepSent line u r ∷ es) = (u ≡ t) × OneTally (r .tally) es
+OneTally t (claimSent line out r ∷ es) = OneTally t es
 
 abbrev pub lastTally : Tally → List Sent → Tally
 lastTally t [] = t
-lastTally t (call line r ∷ es) = lastTally t es
-lastTally t (step line u r ∷ es) = lastTally (r .tally) es
-lastTally t (claim line out r ∷ es) = lastTally t es
+lastTally t (callSent line r ∷ es) = lastTally t es
+lastTally t (stepSent line u r ∷ es) = lastTally (r .tally) es
+lastTally t (claimSent line out r ∷ es) = lastTally t es

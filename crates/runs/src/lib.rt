@@ -1,1 +1,1 @@
-// Demand 3 of lines and images, as definitions and one theorem.
+// Demand 3 of lines and images, as definitions and theorems.

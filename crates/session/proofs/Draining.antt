@@ -1,9 +1,9 @@
 -- The step that drain takes on a flat session, by what stands at the queue's head.
 -- Assumes nothing.
-use mathlib.Core.Path.{_≡_, _∙_, ap}
+use mathlib.Core.Path.{_≡_, sym, _∙_, ap}
 use Prim.Native.Nat.{ℕ, _-_, _≤_, _<_}
 use native.Mathlib.Omega.{arith}
-use mathlib.Core.Bool.{true, false, or-true}
+use mathlib.Core.Bool.{true, false, or-true, true≢false}
 use mathlib.Core.List.{List, [], _∷_}
 use mathlib.Core.Option.{Option, some}
 use lib.Dec.{eqb}
@@ -13,16 +13,25 @@ use borrow.Author.Tests.{lt-ltb, le-ltb}
 use Rattle.graph.specs.Lists.{any}
 use Rattle.graph.specs.Refusals.{Answer, refused, done, mapDone}
 use Rattle.graph.specs.KeyLists.{isNil}
+use Rattle.graph.specs.Nodes.{targetsKey, mayFinishAt}
+use Rattle.graph.specs.OneAtATime.{Labelled, addOf, opOf, isOp}
 use Rattle.graph.specs.Steps.{Step, admit, realise, move, finish}
 use Rattle.graph.specs.Drain.{orElse}
 use Rattle.graph.proofs.Answers.{eqb-same, by-bool}
-use Rattle.queue.specs.Flat.{Tagged, Flat, find, atPlace, isAt, endOf}
-use Rattle.worksteps.specs.FlatSteps.{mapFrom, firstIn, noOp, noNode, moveTo, withQueue, opIn, hitsKey, headUnit, onPlace, moveFlat, actAt, actFlat, realiseFlat, finishesAt, finishPlace, leaveFlat, finishFlat, admitCall, known, flatStep}
-use Rattle.worksteps.specs.FlatEvents.{firstPlace, FlatTaken, flatTaking, flatDrainStepAt, flatDrainStep}
-use Rattle.worksteps.proofs.Turns.{any-first, first-stop}
+use Rattle.flat.specs.Flat.{Tagged, Flat}
+use Rattle.flat.specs.Inner.Nested.{ofOp, atPlace}
+use Rattle.flat.specs.Inner.Queues.{firstIndex, isAt, endOf}
+use Rattle.flat.specs.Inner.FlatSteps.{mapFrom, firstIn, noOp, noNode, moveTo, withQueue, hitsKey, headUnit, onPlace, moveFlat, actAt, actFlat, realiseFlat, finishesAt, finishPlace, leaveFlat, finishFlat, admitCall, known, flatStep}
+use Rattle.flat.specs.Inner.FlatEvents.{firstPlace, FlatTaken, flatTaking, flatDrainStepAt, flatDrainStep}
+use Rattle.flat.proofs.Turns.{any-first, first-stop}
 
 abbrev pub taken : Step → Flat → FlatTaken
 taken t f = record { what = t; to = f }
+
+-- an operation that doesn't target the last node
+finishes-last : (k : ℕ) (w : Labelled) → isOp w ≡ true → eqb k 1 ≡ true → ofOp false (λ o. targetsKey o k) w ≡ false → ofOp false (λ o. mayFinishAt o k (eqb k 1)) w ≡ true
+finishes-last k (addOf l v) op e h = absurd (true≢false (sym op))
+finishes-last k (opOf o) op e h = rw (e, h) (or-true (isNil (o .targets)))
 
 -- nothing waits
 pub drain-empty : (f : Flat) → f .queue ≡ [] → flatDrainStep f ≡ refused 21
@@ -48,7 +57,7 @@ module _ (f : Flat) (k : ℕ) (x : Tagged) (xs : List Tagged) (stands : f .queue
   -- the head unit of that station begins the queue
   head : (g : ℕ → ℕ → Flat → Answer Flat) → headUnit k g f ≡ g 0 e f
   head g =
-      let first : find (atPlace k) (f .queue) ≡ 0 = rw (stands, place, eqb-same k) in
+      let first : firstIndex (atPlace k) (f .queue) ≡ 0 = rw (stands, place, eqb-same k) in
       let at : isAt k 0 (f .queue) ≡ true = rw (stands, place) (eqb-same k) in
       rw (first, at)
 
@@ -80,15 +89,15 @@ module _ (f : Flat) (k : ℕ) (x : Tagged) (xs : List Tagged) (stands : f .queue
       no-realise h ∙ ap (λ (y : Answer Flat). orElse (mapDone (taken (finish k)) y) (flatTaking (move k) f)) s
 
   -- at the last station an operation that doesn't target the node finishes
-  last-finishes : e ≤ length (f .queue) → 0 < e → e ≤ p → eqb k 1 ≡ true → r ≡ 0
-  last-finishes w z h l =
+  last-finishes : isOp (getD (f .queue) 0 noOp .call) ≡ true → e ≤ length (f .queue) → 0 < e → e ≤ p → eqb k 1 ≡ true → r ≡ 0
+  last-finishes op w z h l =
       let hit : hitsKey k (getD (f .queue) 0 noOp) ≡ false = by-bool (hitsKey k (getD (f .queue) 0 noOp)) (λ t. absurd (omega (arith, first-stop (hitsKey k) (f .queue) e w 0 noOp z t))) (λ t. t) in
-      first-stop (finishesAt k) (f .queue) e w 0 noOp z (rw (l, hit) (or-true (isNil (opIn (getD (f .queue) 0 noOp) .targets))))
+      first-stop (finishesAt k) (f .queue) e w 0 noOp z (finishes-last k (getD (f .queue) 0 noOp .call) op l hit)
 
-  pub drain-moves : e ≤ length (f .queue) → 0 < e → e ≤ p → e ≤ r → flatDrainStep f ≡ done (taken (move k) (withQueue f (mapFrom (moveTo (k - 1)) 0 e (f .queue))))
-  drain-moves w z h j =
+  pub drain-moves : isOp (getD (f .queue) 0 noOp .call) ≡ true → e ≤ length (f .queue) → 0 < e → e ≤ p → e ≤ r → flatDrainStep f ≡ done (taken (move k) (withQueue f (mapFrom (moveTo (k - 1)) 0 e (f .queue))))
+  drain-moves op w z h j =
       let s : flatStep (finish k) f ≡ refused 22 = finish-is ∙ rw (le-ltb r e j) in
-      let one : eqb k 1 ≡ false = by-bool (eqb k 1) (λ l. absurd (omega (arith, last-finishes w z h l))) (λ l. l) in
+      let one : eqb k 1 ≡ false = by-bool (eqb k 1) (λ l. absurd (omega (arith, last-finishes op w z h l))) (λ l. l) in
       let none : any (hitsKey k) (slice 0 e (f .queue)) ≡ false = any-first (hitsKey k) (f .queue) e w 0 (omega arith) ∙ le-ltb p e h in
       let t : flatStep (move k) f ≡ done (withQueue f (mapFrom (moveTo (k - 1)) 0 e (f .queue))) = move-is ∙ rw (one, none) in
       no-realise h

@@ -1,5 +1,1 @@
-pub mod DrainStep
-pub mod Drained
-pub mod WorkSteps
-pub mod Claims
-pub mod Accepts
+pub mod Inner

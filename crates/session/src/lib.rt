@@ -1,5 +1,5 @@
-// Acceptance, work steps of every kind, drain and claims on a live image.
+// Acceptance, work steps of every kind, drain and claims on an image that holds a valid session.
 pub mod accepts;
+pub mod anystep;
 pub mod claims;
 pub mod drain;
-pub mod steps;

@@ -1,21 +1,22 @@
 -- Records and what they stand for: the laws by which every reader and writer goes from an image's view to the flat session held.
 -- Assumes nothing.
 use mathlib.Core.Path.{_≡_, refl, sym, ap, _∙_}
-use Prim.Native.Nat.{ℕ, zero, suc, _+_, _≤_, _<_}
+use Prim.Native.Nat.{ℕ, zero, suc, _≤_, _<_}
 use native.Mathlib.Omega.{arith}
 use mathlib.Core.List.{List, [], _∷_, _++_, map, map-append}
 use lib.ListN.{length, getD, set, take, drop, length-map}
-use Rattle.graph.specs.Lists.{removeAt}
 use Rattle.graph.specs.Nodes.{Node, Result}
-use Rattle.queue.specs.Flat.{Tagged}
-use Rattle.worksteps.specs.FlatSteps.{withQueue}
+use Rattle.flat.specs.Flat.{Tagged}
+use Rattle.flat.specs.Inner.Queues.{removeAt}
+use Rattle.flat.specs.Inner.FlatSteps.{withQueue}
 use Rattle.records.specs.declared.node.NodeRecord.{NodeRecord}
 use Rattle.records.specs.declared.op.OpRecord.{OpRecord}
 use Rattle.records.specs.declared.result.ResultRecord.{ResultRecord}
-use Rattle.image.specs.Layout.{View, view, Written, withOps, insertAt}
-use Rattle.image.specs.Layout.{withNodes as viewNodes, withResults as viewResults, withLast as viewLast}
-use Rattle.valid.specs.Values.{nodeOf, nodeRecord, taggedOf, taggedRecord, resultOf, resultRecord, flatOf, viewOf}
-use Rattle.state.specs.State.{held, Proper, Shows, withNodes, withResults, withLast}
+use Rattle.image.specs.Layout.{View}
+use Rattle.image.specs.Inner.Regions.{view, ViewWritten, viewWithOps, insertAt, viewWithNodes, viewWithResults, viewWithLast}
+use Rattle.valid.specs.Inner.Decoded.{decodedNode, taggedOf, decodedResult, flatOf}
+use Rattle.valid.specs.Values.{nodeRecord, taggedRecord, resultRecord, viewOf}
+use Rattle.state.specs.Inner.State.{flatIn, Proper, Shows, withNodes, withResults, withLast}
 
 -- LISTS
 module _ {A B : Type 0} (f : A → B) where
@@ -95,72 +96,72 @@ module _ {A B : Type 0} (f : A → B) (g : B → A) where
 
 -- THE REGIONS OF A PROPER IMAGE
 abbrev pub NodesStand : List NodeRecord → List Node → Type 0
-NodesStand = Stands nodeOf nodeRecord
+NodesStand = Stands decodedNode nodeRecord
 
 abbrev pub QueueStands : List OpRecord → List Tagged → Type 0
 QueueStands = Stands taggedOf taggedRecord
 
 abbrev pub ResultsStand : List ResultRecord → List Result → Type 0
-ResultsStand = Stands resultOf resultRecord
+ResultsStand = Stands decodedResult resultRecord
 
 module _ (s : List ℕ) (proper : Proper s) where
-  pub nodes-stand : NodesStand (view s .nodes) (held s .nodes)
-  unfolding held
+  pub nodes-stand : NodesStand (view s .nodes) (flatIn s .nodes)
+  unfolding flatIn
   nodes-stand = record { things = refl; records = ap (λ (v : View). v .nodes) (proper .clean) }
 
-  pub queue-stands : QueueStands (view s .ops) (held s .queue)
-  unfolding held
+  pub queue-stands : QueueStands (view s .ops) (flatIn s .queue)
+  unfolding flatIn
   queue-stands = record { things = refl; records = ap (λ (v : View). v .ops) (proper .clean) }
 
-  pub results-stand : ResultsStand (view s .results) (held s .results)
-  unfolding held
+  pub results-stand : ResultsStand (view s .results) (flatIn s .results)
+  unfolding flatIn
   results-stand = record { things = refl; records = ap (λ (v : View). v .results) (proper .clean) }
 
-  pub last-held : view s .last ≡ held s .last
-  unfolding held
+  pub last-held : view s .last ≡ flatIn s .last
+  unfolding flatIn
   last-held = refl
 
   -- at most 64 of each
-  pub few-nodes : length (held s .nodes) ≤ 64
-  few-nodes = rw (stands-length nodeOf nodeRecord nodes-stand) at (proper .sound .nodes)
+  pub few-nodes : length (flatIn s .nodes) ≤ 64
+  few-nodes = rw (stands-length decodedNode nodeRecord nodes-stand) at (proper .sound .nodes)
 
-  pub few-ops : length (held s .queue) ≤ 64
+  pub few-ops : length (flatIn s .queue) ≤ 64
   few-ops = rw (stands-length taggedOf taggedRecord queue-stands) at (proper .sound .ops)
 
-  pub few-results : length (held s .results) ≤ 64
-  few-results = rw (stands-length resultOf resultRecord results-stand) at (proper .sound .results)
+  pub few-results : length (flatIn s .results) ≤ 64
+  few-results = rw (stands-length decodedResult resultRecord results-stand) at (proper .sound .results)
 
   -- WHAT THE WRITERS STATE, of the image t after them
   module _ (t : List ℕ) where
-    shown : (v : View) → v ≡ viewOf (flatOf v) → Written v s t → Shows (flatOf v) t
-    unfolding held
+    shown : (v : View) → v ≡ viewOf (flatOf v) → ViewWritten v s t → Shows (flatOf v) t
+    unfolding flatIn
     shown v clean w =
         record {
           proper = record { sound = w .sound; canonical = w .canonical (proper .canonical); clean = w .after ∙ clean ∙ ap (λ (u : View). viewOf (flatOf u)) (sym (w .after)) };
           shows = ap flatOf (w .after);
         }
 
-    pub nodes-shown : {xs : List NodeRecord} {ys : List Node} → NodesStand xs ys → Written (viewNodes (view s) xs) s t → Shows (withNodes (held s) ys) t
-    unfolding held
+    pub nodes-shown : {xs : List NodeRecord} {ys : List Node} → NodesStand xs ys → ViewWritten (viewWithNodes (view s) xs) s t → Shows (withNodes (flatIn s) ys) t
+    unfolding flatIn
     nodes-shown {xs} {ys} e w =
         rw (e .things) at
-        (shown (viewNodes (view s) xs)
+        (shown (viewWithNodes (view s) xs)
         (λ i. record { nodes = (e .records ∙ ap (map nodeRecord) (sym (e .things))) i; ops = (proper .clean i) .ops; results = (proper .clean i) .results; last = view s .last }) w)
 
-    pub queue-shown : {xs : List OpRecord} {ys : List Tagged} → QueueStands xs ys → Written (withOps (view s) xs) s t → Shows (withQueue (held s) ys) t
-    unfolding held
+    pub queue-shown : {xs : List OpRecord} {ys : List Tagged} → QueueStands xs ys → ViewWritten (viewWithOps (view s) xs) s t → Shows (withQueue (flatIn s) ys) t
+    unfolding flatIn
     queue-shown {xs} {ys} e w =
         rw (e .things) at
-        (shown (withOps (view s) xs)
+        (shown (viewWithOps (view s) xs)
         (λ i. record { nodes = (proper .clean i) .nodes; ops = (e .records ∙ ap (map taggedRecord) (sym (e .things))) i; results = (proper .clean i) .results; last = view s .last }) w)
 
-    pub results-shown : {xs : List ResultRecord} {ys : List Result} → ResultsStand xs ys → Written (viewResults (view s) xs) s t → Shows (withResults (held s) ys) t
-    unfolding held
+    pub results-shown : {xs : List ResultRecord} {ys : List Result} → ResultsStand xs ys → ViewWritten (viewWithResults (view s) xs) s t → Shows (withResults (flatIn s) ys) t
+    unfolding flatIn
     results-shown {xs} {ys} e w =
         rw (e .things) at
-        (shown (viewResults (view s) xs)
+        (shown (viewWithResults (view s) xs)
         (λ i. record { nodes = (proper .clean i) .nodes; ops = (proper .clean i) .ops; results = (e .records ∙ ap (map resultRecord) (sym (e .things))) i; last = view s .last }) w)
 
-    pub last-shown : {l : ℕ} → Written (viewLast (view s) l) s t → Shows (withLast (held s) l) t
-    unfolding held
-    last-shown {l} w = shown (viewLast (view s) l) (λ i. record { nodes = (proper .clean i) .nodes; ops = (proper .clean i) .ops; results = (proper .clean i) .results; last = l }) w
+    pub last-shown : {l : ℕ} → ViewWritten (viewWithLast (view s) l) s t → Shows (withLast (flatIn s) l) t
+    unfolding flatIn
+    last-shown {l} w = shown (viewWithLast (view s) l) (λ i. record { nodes = (proper .clean i) .nodes; ops = (proper .clean i) .ops; results = (proper .clean i) .results; last = l }) w

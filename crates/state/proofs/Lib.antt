@@ -3,3 +3,5 @@ pub mod NodeLaws
 pub mod QueueRecords
 pub mod QueueHeld
 pub mod ResultLaws
+pub mod Serving
+pub mod Working

@@ -8,21 +8,23 @@ use mathlib.Core.List.{[]}
 use lib.Dec.{eqb}
 use lib.ListN.{getD}
 use Rattle.graph.specs.Acts.{isMap}
-use Rattle.graph.specs.OneAtATime.{Labelled, addOf, opOf}
+use Rattle.graph.specs.OneAtATime.{Labelled, addOf, opOf, isOp}
 use Rattle.graph.specs.Packed.{listed, packed}
 use Rattle.graph.specs.declared.act.Act.{Act}
 use Rattle.graph.specs.declared.act.Act.the-variants.{Map, Link, Unlink, Sum, Top, Pick, Near}
 use Rattle.graph.specs.declared.keys.Keys.{Keys}
 use Rattle.graph.proofs.KeyLaws.{listed-packed, normal}
 use Rattle.graph.proofs.Answers.{by-bool}
-use Rattle.queue.specs.Flat.{Tagged, isOp}
-use Rattle.worksteps.specs.FlatSteps.{moveTo, openAs, opIn}
+use Rattle.flat.specs.Flat.{Tagged}
+use Rattle.flat.specs.Inner.Nested.{ofOp}
+use Rattle.flat.specs.Inner.FlatSteps.{moveTo, openAs}
 use Rattle.records.specs.declared.labels.Labels.{Labels}
 use Rattle.records.specs.declared.op.OpRecord.{OpRecord}
-use Rattle.valid.specs.Values.{Fields, actOf, heldOf, fieldsOf, callOf, taggedOf, callRecord, taggedRecord, labelsOf}
+use Rattle.valid.specs.Values.{Fields, fieldsOf, callRecord, taggedRecord}
+use Rattle.valid.specs.Inner.Decoded.{actOf, heldOf, decodedCall, taggedOf, labelsOf}
 use Rattle.valid.proofs.Decoding.{flag-kept}
 use Rattle.state.specs.declared.operation.Operation.{Operation}
-use Rattle.state.specs.Operations.{opValue, Normal, Carries, Lists, Reads}
+use Rattle.state.specs.Inner.Operations.{opValue, Normal, Carries, KeysListed, RecordFor}
 
 -- KINDS
 pub other-act : (kind key a b : ℕ) → (kind ≡ 1 → ⊥) → (kind ≡ 2 → ⊥) → (kind ≡ 3 → ⊥) → (kind ≡ 5 → ⊥) → (kind ≡ 6 → ⊥) → (kind ≡ 7 → ⊥) → Sum ≡ actOf kind key a b
@@ -49,15 +51,15 @@ map-holds (suc (suc (suc (suc (suc (suc (suc (suc kind)))))))) key a b e = absur
 
 -- RECORDS READ
 module _ (r : OpRecord) where
-  pub is-add : {x : Tagged} → Reads x r → eqb (r .kind) 0 ≡ not (isOp (x .call))
+  pub is-add : {x : Tagged} → RecordFor x r → eqb (r .kind) 0 ≡ not (isOp (x .call))
   is-add h = by-bool (eqb (r .kind) 0) (λ e. rw e refl) (λ e. rw e refl) ∙ ap (λ (x : Tagged). not (isOp (x .call))) (sym (h .is))
 
-  pub add-of : eqb (r .kind) 0 ≡ true → callOf r ≡ addOf (getD (r .labels .label) 0 0) (r .b)
+  pub add-of : eqb (r .kind) 0 ≡ true → decodedCall r ≡ addOf (getD (r .labels .label) 0 0) (r .b)
   add-of e = rw e refl
 
   module _ (clean : taggedRecord (taggedOf r) ≡ r) where
     -- an add has no targets, and its record none
-    pub targets-of : Lists (opIn (taggedOf r) .targets) (r .targets)
+    pub targets-of : KeysListed (ofOp [] (λ o. o .targets) (decodedCall r)) (r .targets)
     targets-of =
         by-bool (eqb (r .kind) 0)
         (λ e.
@@ -66,7 +68,7 @@ module _ (r : OpRecord) where
         (λ e. record { is = rw e refl; keys = sym (ap (λ (x : OpRecord). x .targets) (rw e at clean)) })
 
     pub operation-of : eqb (r .kind) 0 ≡ false
-        → Carries (callOf r) (record { act = actOf (r .kind) (r .key) (r .a) (r .b); held = heldOf (r .kind) (r .b); targets = r .targets; labels = r .labels })
+        → Carries (decodedCall r) (record { act = actOf (r .kind) (r .key) (r .a) (r .b); held = heldOf (r .kind) (r .b); targets = r .targets; labels = r .labels })
     operation-of e =
         let same : callRecord (r .station) (eqb (r .opens) 1) (opOf (record { act = actOf (r .kind) (r .key) (r .a) (r .b); held = heldOf (r .kind) (r .b); targets = listed (r .targets); labels = labelsOf (r .labels) })) ≡ r = rw e at clean in
         record {
@@ -80,7 +82,7 @@ recordWith p opens f ts ls =
     record { station = p; opens = opens; kind = f .kind; key = f .key; a = f .a; b = f .b; targets = ts; labels = ls; spare = 0 }
 
 call-of : (act : Act) (h p opens : ℕ) (ts : Keys) (ls : Labels) → (isMap act ≡ true → h ≡ 0)
-    → opOf (record { act = act; held = h; targets = listed ts; labels = labelsOf ls }) ≡ callOf (recordWith p opens (fieldsOf act h) ts ls)
+    → opOf (record { act = act; held = h; targets = listed ts; labels = labelsOf ls }) ≡ decodedCall (recordWith p opens (fieldsOf act h) ts ls)
 call-of (Map m) h p opens ts ls e = λ i. opOf (record { act = Map m; held = e refl i; targets = listed ts; labels = labelsOf ls })
 call-of (Link k) h p opens ts ls e = refl
 call-of (Unlink k) h p opens ts ls e = refl
@@ -89,11 +91,11 @@ call-of Top h p opens ts ls e = refl
 call-of Pick h p opens ts ls e = refl
 call-of (Near k) h p opens ts ls e = refl
 
-pub reads : (x : Tagged) (r : OpRecord) → x ≡ taggedOf r → taggedRecord x ≡ r → Reads x r
+pub reads : (x : Tagged) (r : OpRecord) → x ≡ taggedOf r → taggedRecord x ≡ r → RecordFor x r
 reads x r e f = record { is = e; clean = ap taggedRecord (sym e) ∙ f }
 
 pub reads-operation : (p opens : ℕ) (o : Operation) (f : Fields) → f ≡ fieldsOf (o .act) (o .held) → opens ≤ 1 → Normal o
-    → Reads (record { place = p; opens = eqb opens 1; call = opOf (opValue o) }) (recordWith p opens f (o .targets) (o .labels))
+    → RecordFor (record { place = p; opens = eqb opens 1; call = opOf (opValue o) }) (recordWith p opens f (o .targets) (o .labels))
 reads-operation p opens o f e h n =
     rw e
     (reads (record { place = p; opens = eqb opens 1; call = opOf (opValue o) }) (recordWith p opens (fieldsOf (o .act) (o .held)) (o .targets) (o .labels))
@@ -134,7 +136,7 @@ flag-read false = refl
 
 module _ (r : OpRecord) (clean : taggedRecord (taggedOf r) ≡ r) where
   pub clean-opens : r .opens ≤ 1
-  clean-opens = rw (sym (ap (λ (x : OpRecord). x .opens) clean)) (go (callOf r) (eqb (r .opens) 1))
+  clean-opens = rw (sym (ap (λ (x : OpRecord). x .opens) clean)) (go (decodedCall r) (eqb (r .opens) 1))
     where
       go : (c : Labelled) (b : Bool) → (callRecord (r .station) b c) .opens ≤ 1
       go (addOf l v) true = omega arith
@@ -142,12 +144,12 @@ module _ (r : OpRecord) (clean : taggedRecord (taggedOf r) ≡ r) where
       go (opOf o) true = omega arith
       go (opOf o) false = omega arith
 
-  pub reads-stationed : (k : ℕ) → Reads (moveTo k (taggedOf r)) (stationed k r)
+  pub reads-stationed : (k : ℕ) → RecordFor (moveTo k (taggedOf r)) (stationed k r)
   reads-stationed k =
-      reads (moveTo k (taggedOf r)) (stationed k r) refl (call-stationed k (r .station) (eqb (r .opens) 1) (callOf r) ∙ ap (stationed k) clean)
+      reads (moveTo k (taggedOf r)) (stationed k r) refl (call-stationed k (r .station) (eqb (r .opens) 1) (decodedCall r) ∙ ap (stationed k) clean)
 
-  pub reads-marked : (b : Bool) → Reads (openAs b (taggedOf r)) (marked (cond b 1 0) r)
+  pub reads-marked : (b : Bool) → RecordFor (openAs b (taggedOf r)) (marked (cond b 1 0) r)
   reads-marked b =
       reads (openAs b (taggedOf r)) (marked (cond b 1 0) r)
-      (λ i. record { place = r .station; opens = flag-read b i; call = callOf r })
-      (call-marked (r .station) (eqb (r .opens) 1) b (callOf r) ∙ ap (marked (cond b 1 0)) clean)
+      (λ i. record { place = r .station; opens = flag-read b i; call = decodedCall r })
+      (call-marked (r .station) (eqb (r .opens) 1) b (decodedCall r) ∙ ap (marked (cond b 1 0)) clean)

@@ -11,7 +11,6 @@ use lib.ListN.{length, getD, take}
 use lib.Seq.{take-suc, length-take-le}
 use borrow.Author.Tests.{eq-eqb, ne-eqb, ltb-true, ltb-false}
 use Rattle.graph.specs.declared.keys.Keys.{Keys}
-use Rattle.graph.specs.Lists.{removeAt}
 use Rattle.graph.specs.Packed.{listed, packed}
 use Rattle.graph.specs.Refusals.{refused, done}
 use Rattle.graph.specs.Nodes.{Result, resultsFor}
@@ -22,12 +21,13 @@ use Rattle.records.specs.declared.result.ResultRecord.{ResultRecord}
 use Rattle.graph.specs.KeyLists.{above, rising}
 use Rattle.graph.proofs.Answers.{and-left, and-right}
 use Rattle.graph.proofs.Limits.{rising-above}
-use Rattle.image.specs.Layout.{view, resultRegion, blank, Written, insertAt}
-use Rattle.image.specs.Layout.{withResults as viewResults}
-use Rattle.queue.specs.Flat.{Flat}
-use Rattle.valid.specs.Values.{labelsOf, packedLabels, resultOf, resultRecord}
-use Rattle.state.specs.State.{held, Proper, Shows, withResults}
-use Rattle.state.specs.Results.{IsOutcome, noResult, resultWith, placeOf, takenAt}
+use Rattle.image.specs.Inner.Regions.{view, resultRegion, blank, ViewWritten, insertAt, viewWithResults}
+use Rattle.flat.specs.Flat.{Flat}
+use Rattle.flat.specs.Inner.Queues.{removeAt}
+use Rattle.valid.specs.Inner.Decoded.{labelsOf, decodedResult}
+use Rattle.valid.specs.Values.{packedLabels, resultRecord}
+use Rattle.state.specs.Inner.State.{flatIn, Proper, Shows, withResults}
+use Rattle.state.specs.Inner.Results.{IsCallResult, noResult, resultWith, placeOf, takenAt}
 use Rattle.state.proofs.Holding.{ResultsStand, stands-length, stands-at, clean-at, stands-insert, stands-remove, results-stand, results-shown}
 
 -- BY LABEL
@@ -94,20 +94,20 @@ abbrev made : ℕ → ℕ → Keys → ResultRecord
 made l v ts = record { label = l; value = v; left = ts; spare = 0 }
 
 module _ (s : List ℕ) (proper : Proper s) where
-  stand : ResultsStand (view s .results) (held s .results)
+  stand : ResultsStand (view s .results) (flatIn s .results)
   stand = results-stand s proper
 
-  pub result-count : length (view s .results) ≡ length (held s .results)
-  result-count = stands-length resultOf resultRecord stand
+  pub result-count : length (view s .results) ≡ length (flatIn s .results)
+  result-count = stands-length decodedResult resultRecord stand
 
-  module _ (i : ℕ) (h : i < length (held s .results)) where
+  module _ (i : ℕ) (h : i < length (flatIn s .results)) where
     pub in-view : i < length (view s .results)
     in-view = rw result-count h
 
-    pub outcome-of : {r : ResultRecord} → r ≡ getD (view s .results) i (blank resultRegion) → IsOutcome (getD (held s .results) i noResult) (record { label = r .label; value = r .value; left = r .left })
-    outcome-of {r} e =
-        let n : resultOf r ≡ getD (held s .results) i noResult = ap resultOf e ∙ sym (stands-at resultOf resultRecord stand i (blank resultRegion) noResult in-view) in
-        let clean : resultRecord (resultOf r) ≡ r = ap (λ (y : ResultRecord). resultRecord (resultOf y)) e ∙ clean-at resultOf resultRecord stand i (blank resultRegion) in-view ∙ sym e in
+    pub call-result-of : {r : ResultRecord} → r ≡ getD (view s .results) i (blank resultRegion) → IsCallResult (getD (flatIn s .results) i noResult) (record { label = r .label; value = r .value; left = r .left })
+    call-result-of {r} e =
+        let n : decodedResult r ≡ getD (flatIn s .results) i noResult = ap decodedResult e ∙ sym (stands-at decodedResult resultRecord stand i (blank resultRegion) noResult in-view) in
+        let clean : resultRecord (decodedResult r) ≡ r = ap (λ (y : ResultRecord). resultRecord (decodedResult y)) e ∙ clean-at decodedResult resultRecord stand i (blank resultRegion) in-view ∙ sym e in
         record {
           label = ap (λ (y : Result). y .label) n;
           value = ap (λ (y : Result). y .value) n;
@@ -115,30 +115,30 @@ module _ (s : List ℕ) (proper : Proper s) where
         }
 
   module _ (t : List ℕ) where
-    pub result-put : (p l v : ℕ) (ts : Keys) → p ≡ placeOf l (held s .results) → ts ≡ packed (listed ts)
-        → Written (viewResults (view s) (insertAt p (made l v ts) (view s .results))) s t
-        → Shows (withResults (held s) (insert (resultWith l v (listed ts)) (held s .results))) t
+    pub result-put : (p l v : ℕ) (ts : Keys) → p ≡ placeOf l (flatIn s .results) → ts ≡ packed (listed ts)
+        → ViewWritten (viewWithResults (view s) (insertAt p (made l v ts) (view s .results))) s t
+        → Shows (withResults (flatIn s) (insert (resultWith l v (listed ts)) (flatIn s .results))) t
     result-put p l v ts e normal w =
-        rw (e, insert-place (resultWith l v (listed ts)) (held s .results)) at
-        (results-shown s proper t (stands-insert resultOf resultRecord stand p (made l v ts) (λ i. made l v (sym normal i))) w)
+        rw (e, insert-place (resultWith l v (listed ts)) (flatIn s .results)) at
+        (results-shown s proper t (stands-insert decodedResult resultRecord stand p (made l v ts) (λ i. made l v (sym normal i))) w)
 
-    pub result-taken : (p : ℕ) → Written (viewResults (view s) (removeAt p (view s .results))) s t → Shows (withResults (held s) (removeAt p (held s .results))) t
-    result-taken p w = results-shown s proper t (stands-remove resultOf resultRecord stand p) w
+    pub result-taken : (p : ℕ) → ViewWritten (viewWithResults (view s) (removeAt p (view s .results))) s t → Shows (withResults (flatIn s) (removeAt p (flatIn s .results))) t
+    result-taken p w = results-shown s proper t (stands-remove decodedResult resultRecord stand p) w
 
 -- STORED ONE BY ONE: t holds what s does, with the results of the first i labels
 module _ (s each : List ℕ) (v : ℕ) (ts : List ℕ) where
   abbrev pub Stored : ℕ → List ℕ → Type 0
-  Stored i t = Shows (withResults (held s) (store (resultsFor (take i each) v ts) (held s .results))) t
+  Stored i t = Shows (withResults (flatIn s) (store (resultsFor (take i each) v ts) (flatIn s .results))) t
 
   module _ (i : ℕ) (t : List ℕ) (h : i < length each) (x : Stored i t) where
-    pub stored-count : length (held t .results) ≡ i + length (held s .results)
+    pub stored-count : length (flatIn t .results) ≡ i + length (flatIn s .results)
     stored-count =
         ap (λ (f : Flat). length (f .results)) (x .shows)
-        ∙ length-stored v ts (take i each) (held s .results)
-        ∙ ap (λ (n : ℕ). n + length (held s .results)) (length-take-le i each (omega arith))
+        ∙ length-stored v ts (take i each) (flatIn s .results)
+        ∙ ap (λ (n : ℕ). n + length (flatIn s .results)) (length-take-le i each (omega arith))
 
-    pub stored-next : (u : List ℕ) → Shows (withResults (held t) (insert (resultWith (getD each i 0) v ts) (held t .results))) u → Stored (i + 1) u
-    stored-next u w = rw (add-one i, take-suc each i 0 h, store-next v ts (take i each) (getD each i 0) (held s .results)) (rw (x .shows) at w)
+    pub stored-next : (u : List ℕ) → Shows (withResults (flatIn t) (insert (resultWith (getD each i 0) v ts) (flatIn t .results))) u → Stored (i + 1) u
+    stored-next u w = rw (add-one i, take-suc each i 0 h, store-next v ts (take i each) (getD each i 0) (flatIn s .results)) (rw (x .shows) at w)
 
 pub labels-count : (l : Labels) → l ≡ packedLabels (labelsOf l) → l .count ≡ length (labelsOf l)
 unfolding packedLabels

@@ -1,3 +1,1 @@
-pub mod Results
-pub mod State
-pub mod Operations
+pub mod Inner

@@ -11,10 +11,10 @@ ghost use Prim.Native.Nat.{_<_};
 ghost use lib.ListN.{length, getD, set};
 ghost use Rattle.graph.specs.Packed.{listed, packed};
 ghost use Rattle.graph.specs.Nodes.{newNode};
-ghost use Rattle.worksteps.specs.FlatSteps.{noNode, known};
-ghost use Rattle.state.specs.Operations.{Bounded};
-ghost use Rattle.state.specs.State.{held, Proper, Shows, withNodes};
-ghost use Rattle.state.specs.Results.{IsBody, nodeWith};
+ghost use Rattle.flat.specs.Inner.FlatSteps.{noNode, known};
+ghost use Rattle.state.specs.Inner.Operations.{Bounded};
+ghost use Rattle.state.specs.Inner.State.{flatIn, Proper, Shows, withNodes};
+ghost use Rattle.state.specs.Inner.Results.{IsBody, nodeWith};
 
 // A node's key, value and links.
 pub struct Body {
@@ -25,7 +25,7 @@ pub struct Body {
 
 pub fn total(image: &[u8]) -> usize
     requires { ⌜ Proper (now image) ⌝ }
-    ensures { λ r. ⌜ Bounded (length (held (now (image .entry)) .nodes)) 64 r ⌝ }
+    ensures { λ r. ⌜ Bounded (length (flatIn (now (image .entry)) .nodes)) 64 r ⌝ }
 {
     node_count(image)
 }
@@ -33,7 +33,7 @@ pub fn total(image: &[u8]) -> usize
 // Whether a node has this key.
 pub fn is_known(image: &[u8], k: u8) -> bool
     requires { ⌜ Proper (now image) ⌝ }
-    ensures { λ r. ⌜ r ≡ known k (held (now (image .entry))) ⌝ }
+    ensures { λ r. ⌜ r ≡ known k (flatIn (now (image .entry))) ⌝ }
 {
     if k < 1 {
         return false;
@@ -43,8 +43,8 @@ pub fn is_known(image: &[u8], k: u8) -> bool
 }
 
 pub fn body_at(image: &[u8], i: usize) -> Body
-    requires { ⌜ (Proper (now image)) × (i < length (held (now image) .nodes)) ⌝ }
-    ensures { λ r. ⌜ IsBody (getD (held (now (image .entry)) .nodes) i noNode) r ⌝ }
+    requires { ⌜ (Proper (now image)) × (i < length (flatIn (now image) .nodes)) ⌝ }
+    ensures { λ r. ⌜ IsBody (getD (flatIn (now (image .entry)) .nodes) i noNode) r ⌝ }
 {
     let n = node_at(image, i);
     let links = n.links;
@@ -57,8 +57,8 @@ pub fn body_at(image: &[u8], i: usize) -> Body
 
 // Another value and other links for the node at i.
 pub fn put_body(image: &mut [u8], i: usize, value: u32, links: Keys)
-    requires { ⌜ (Proper (now image)) × (i < length (held (now image) .nodes)) × (links ≡ packed (listed links)) ⌝ }
-    ensures { λ _. ⌜ Shows (withNodes (held (now (image .entry))) (set (held (now (image .entry)) .nodes) i (nodeWith (getD (held (now (image .entry)) .nodes) i noNode) value (listed links)))) (now (image .exit)) ⌝ }
+    requires { ⌜ (Proper (now image)) × (i < length (flatIn (now image) .nodes)) × (links ≡ packed (listed links)) ⌝ }
+    ensures { λ _. ⌜ Shows (withNodes (flatIn (now (image .entry))) (set (flatIn (now (image .entry)) .nodes) i (nodeWith (getD (flatIn (now (image .entry)) .nodes) i noNode) value (listed links)))) (now (image .exit)) ⌝ }
 {
     let n = node_at(image, i);
     put_node(
@@ -75,8 +75,8 @@ pub fn put_body(image: &mut [u8], i: usize, value: u32, links: Keys)
 
 // The node of an add, in front of the others.
 pub fn append_body(image: &mut [u8], value: u32)
-    requires { ⌜ (Proper (now image)) × (length (held (now image) .nodes) < 64) ⌝ }
-    ensures { λ _. ⌜ Shows (withNodes (held (now (image .entry))) (held (now (image .entry)) .nodes ++ (newNode (length (held (now (image .entry)) .nodes)) value ∷ []))) (now (image .exit)) ⌝ }
+    requires { ⌜ (Proper (now image)) × (length (flatIn (now image) .nodes) < 64) ⌝ }
+    ensures { λ _. ⌜ Shows (withNodes (flatIn (now (image .entry))) (flatIn (now (image .entry)) .nodes ++ (newNode (length (flatIn (now (image .entry)) .nodes)) value ∷ []))) (now (image .exit)) ⌝ }
 {
     let n = node_count(image);
     let key = (n + 1) as u8;

@@ -9,8 +9,9 @@ ghost use mathlib.Core.Bool.{true, false, cond};
 ghost use Prim.Native.Nat.{_≤_};
 ghost use lib.Dec.{eqb};
 ghost use Rattle.graph.specs.OneAtATime.{addOf, opOf};
-ghost use Rattle.valid.specs.Values.{actOf, heldOf, fields, fieldsOf, callOf, taggedOf, taggedRecord};
-ghost use Rattle.state.specs.Operations.{opValue, fieldsValue, Normal, Carries, Reads};
+ghost use Rattle.valid.specs.Inner.Decoded.{actOf, heldOf, decodedCall, taggedOf};
+ghost use Rattle.valid.specs.Values.{fields, fieldsOf, taggedRecord};
+ghost use Rattle.state.specs.Inner.Operations.{opValue, fieldsValue, Normal, Carries, RecordFor};
 
 // A call that visits nodes: its act, what it holds, the targets that remain, and the labels that its result is for.
 pub struct Operation {
@@ -101,7 +102,7 @@ pub fn flag(b: bool) -> u8
 // The operation of a clean record that is no add's.
 pub fn operation_of(r: OpRecord) -> Operation
     requires { ⌜ (eqb (r .kind) 0 ≡ false) × (taggedRecord (taggedOf r) ≡ r) ⌝ }
-    ensures { λ o. ⌜ Carries (callOf r) o ⌝ }
+    ensures { λ o. ⌜ Carries (decodedCall r) o ⌝ }
 {
     let targets = r.targets;
     let labels = r.labels;
@@ -116,7 +117,7 @@ pub fn operation_of(r: OpRecord) -> Operation
 // The record of an operation at a station; opens is 1 where it opens a unit, else 0.
 pub fn record_of(station: u8, opens: u8, o: Operation) -> OpRecord
     requires { ⌜ (opens ≤ 1) × (Normal o) ⌝ }
-    ensures { λ r. ⌜ Reads (record { place = station; opens = eqb opens 1; call = opOf (opValue o) }) r ⌝ }
+    ensures { λ r. ⌜ RecordFor (record { place = station; opens = eqb opens 1; call = opOf (opValue o) }) r ⌝ }
 {
     let act = o.act;
     let f = fields_of(act, o.held);
@@ -137,7 +138,7 @@ pub fn record_of(station: u8, opens: u8, o: Operation) -> OpRecord
 
 // The record of an add, which waits in the top stream.
 pub fn add_record(label: u16, value: u32) -> OpRecord
-    ensures { λ r. ⌜ Reads (record { place = 65; opens = true; call = addOf label value }) r ⌝ }
+    ensures { λ r. ⌜ RecordFor (record { place = 65; opens = true; call = addOf label value }) r ⌝ }
 {
     OpRecord {
         station: 65,

@@ -17,47 +17,48 @@ ghost use mathlib.Core.Bool.{true, false, not};
 ghost use mathlib.Core.List.{[], _∷_, _++_};
 ghost use Prim.Native.Nat.{_<_};
 ghost use lib.ListN.{length, getD, set};
-ghost use Rattle.graph.specs.Lists.{removeAt};
-ghost use Rattle.graph.specs.OneAtATime.{addOf, opOf};
-ghost use Rattle.queue.specs.Flat.{isOp, find, atPlace, breaks, endOf};
-ghost use Rattle.worksteps.specs.FlatSteps.{alter, noOp, moveTo, openAs, withOp, withQueue, opIn};
-ghost use Rattle.valid.specs.Values.{taggedOf, taggedRecord};
-ghost use Rattle.state.specs.Operations.{opValue, addValue, Normal, Carries, Lists, Reads, Bounded};
-ghost use Rattle.state.specs.State.{held, Proper, Shows};
+ghost use Rattle.graph.specs.OneAtATime.{addOf, opOf, isOp};
+ghost use Rattle.flat.specs.Inner.Nested.{ofOp, atPlace};
+ghost use Rattle.flat.specs.Inner.Queues.{firstIndex, breaks, endOf, removeAt};
+ghost use Rattle.flat.specs.Inner.FlatSteps.{alter, noOp, moveTo, openAs, withOp, withQueue};
+ghost use Rattle.valid.specs.Inner.Decoded.{taggedOf};
+ghost use Rattle.valid.specs.Values.{taggedRecord};
+ghost use Rattle.state.specs.Inner.Operations.{opValue, addValue, Normal, Carries, KeysListed, RecordFor, Bounded};
+ghost use Rattle.state.specs.Inner.State.{flatIn, Proper, Shows};
 
 pub fn total(image: &[u8]) -> usize
     requires { ⌜ Proper (now image) ⌝ }
-    ensures { λ r. ⌜ Bounded (length (held (now (image .entry)) .queue)) 64 r ⌝ }
+    ensures { λ r. ⌜ Bounded (length (flatIn (now (image .entry)) .queue)) 64 r ⌝ }
 {
     op_count(image)
 }
 
 fn record_at(image: &[u8], i: usize) -> OpRecord
-    requires { ⌜ (Proper (now image)) × (i < length (held (now image) .queue)) ⌝ }
-    ensures { λ r. ⌜ Reads (getD (held (now (image .entry)) .queue) i noOp) r ⌝ }
+    requires { ⌜ (Proper (now image)) × (i < length (flatIn (now image) .queue)) ⌝ }
+    ensures { λ r. ⌜ RecordFor (getD (flatIn (now (image .entry)) .queue) i noOp) r ⌝ }
 {
     op_at(image, i)
 }
 
 pub fn place_at(image: &[u8], i: usize) -> u8
-    requires { ⌜ (Proper (now image)) × (i < length (held (now image) .queue)) ⌝ }
-    ensures { λ r. ⌜ r ≡ (getD (held (now (image .entry)) .queue) i noOp) .place ⌝ }
+    requires { ⌜ (Proper (now image)) × (i < length (flatIn (now image) .queue)) ⌝ }
+    ensures { λ r. ⌜ r ≡ (getD (flatIn (now (image .entry)) .queue) i noOp) .place ⌝ }
 {
     let r = record_at(image, i);
     r.station
 }
 
 pub fn opens_at(image: &[u8], i: usize) -> bool
-    requires { ⌜ (Proper (now image)) × (i < length (held (now image) .queue)) ⌝ }
-    ensures { λ r. ⌜ r ≡ (getD (held (now (image .entry)) .queue) i noOp) .opens ⌝ }
+    requires { ⌜ (Proper (now image)) × (i < length (flatIn (now image) .queue)) ⌝ }
+    ensures { λ r. ⌜ r ≡ (getD (flatIn (now (image .entry)) .queue) i noOp) .opens ⌝ }
 {
     let r = record_at(image, i);
     r.opens == 1
 }
 
 pub fn is_add_at(image: &[u8], i: usize) -> bool
-    requires { ⌜ (Proper (now image)) × (i < length (held (now image) .queue)) ⌝ }
-    ensures { λ r. ⌜ r ≡ not (isOp ((getD (held (now (image .entry)) .queue) i noOp) .call)) ⌝ }
+    requires { ⌜ (Proper (now image)) × (i < length (flatIn (now image) .queue)) ⌝ }
+    ensures { λ r. ⌜ r ≡ not (isOp ((getD (flatIn (now (image .entry)) .queue) i noOp) .call)) ⌝ }
 {
     let r = record_at(image, i);
     r.kind == 0
@@ -65,24 +66,24 @@ pub fn is_add_at(image: &[u8], i: usize) -> bool
 
 // The targets that remain; an add has none.
 pub fn targets_at(image: &[u8], i: usize) -> Keys
-    requires { ⌜ (Proper (now image)) × (i < length (held (now image) .queue)) ⌝ }
-    ensures { λ r. ⌜ Lists (opIn (getD (held (now (image .entry)) .queue) i noOp) .targets) r ⌝ }
+    requires { ⌜ (Proper (now image)) × (i < length (flatIn (now image) .queue)) ⌝ }
+    ensures { λ r. ⌜ KeysListed (ofOp [] (λ o. o .targets) ((getD (flatIn (now (image .entry)) .queue) i noOp) .call)) r ⌝ }
 {
     let r = record_at(image, i);
     r.targets
 }
 
 pub fn operation_at(image: &[u8], i: usize) -> Operation
-    requires { ⌜ (Proper (now image)) × (i < length (held (now image) .queue)) × (isOp ((getD (held (now image) .queue) i noOp) .call) ≡ true) ⌝ }
-    ensures { λ r. ⌜ Carries ((getD (held (now (image .entry)) .queue) i noOp) .call) r ⌝ }
+    requires { ⌜ (Proper (now image)) × (i < length (flatIn (now image) .queue)) × (isOp ((getD (flatIn (now image) .queue) i noOp) .call) ≡ true) ⌝ }
+    ensures { λ r. ⌜ Carries ((getD (flatIn (now (image .entry)) .queue) i noOp) .call) r ⌝ }
 {
     let r = record_at(image, i);
     operation_of(r)
 }
 
 pub fn add_at(image: &[u8], i: usize) -> Added
-    requires { ⌜ (Proper (now image)) × (i < length (held (now image) .queue)) × (isOp ((getD (held (now image) .queue) i noOp) .call) ≡ false) ⌝ }
-    ensures { λ r. ⌜ (getD (held (now (image .entry)) .queue) i noOp) .call ≡ addValue r ⌝ }
+    requires { ⌜ (Proper (now image)) × (i < length (flatIn (now image) .queue)) × (isOp ((getD (flatIn (now image) .queue) i noOp) .call) ≡ false) ⌝ }
+    ensures { λ r. ⌜ (getD (flatIn (now (image .entry)) .queue) i noOp) .call ≡ addValue r ⌝ }
 {
     let r = record_at(image, i);
     let labels = r.labels;
@@ -96,7 +97,7 @@ pub fn add_at(image: &[u8], i: usize) -> Added
 // The first operation of station k, or the queue's end.
 pub fn first_at(image: &[u8], k: u8) -> usize
     requires { ⌜ Proper (now image) ⌝ }
-    ensures { λ r. ⌜ r ≡ find (atPlace k) (held (now (image .entry)) .queue) ⌝ }
+    ensures { λ r. ⌜ r ≡ firstIndex (atPlace k) (flatIn (now (image .entry)) .queue) ⌝ }
 {
     let n = total(image);
     let mut i: usize = 0;
@@ -111,8 +112,8 @@ pub fn first_at(image: &[u8], k: u8) -> usize
 
 // The operation at i does not go on with a unit of station k.
 fn breaks_at(image: &[u8], k: u8, i: usize) -> bool
-    requires { ⌜ (Proper (now image)) × (i < length (held (now image) .queue)) ⌝ }
-    ensures { λ r. ⌜ r ≡ breaks k (getD (held (now (image .entry)) .queue) i noOp) ⌝ }
+    requires { ⌜ (Proper (now image)) × (i < length (flatIn (now image) .queue)) ⌝ }
+    ensures { λ r. ⌜ r ≡ breaks k (getD (flatIn (now (image .entry)) .queue) i noOp) ⌝ }
 {
     if place_at(image, i) != k {
         return true;
@@ -122,8 +123,8 @@ fn breaks_at(image: &[u8], k: u8, i: usize) -> bool
 
 // Where the unit of station k that starts at p ends.
 pub fn unit_end(image: &[u8], k: u8, p: usize) -> usize
-    requires { ⌜ (Proper (now image)) × (p < length (held (now image) .queue)) ⌝ }
-    ensures { λ r. ⌜ Bounded (endOf k p (held (now (image .entry)) .queue)) (length (held (now (image .entry)) .queue)) r ⌝ }
+    requires { ⌜ (Proper (now image)) × (p < length (flatIn (now image) .queue)) ⌝ }
+    ensures { λ r. ⌜ Bounded (endOf k p (flatIn (now (image .entry)) .queue)) (length (flatIn (now (image .entry)) .queue)) r ⌝ }
 {
     let n = total(image);
     let mut i = p + 1;
@@ -137,15 +138,15 @@ pub fn unit_end(image: &[u8], k: u8, p: usize) -> usize
 }
 
 fn put_record(image: &mut [u8], i: usize, r: OpRecord)
-    requires { ⌜ (Proper (now image)) × (i < length (held (now image) .queue)) × (taggedRecord (taggedOf r) ≡ r) ⌝ }
-    ensures { λ _. ⌜ Shows (withQueue (held (now (image .entry))) (set (held (now (image .entry)) .queue) i (taggedOf r))) (now (image .exit)) ⌝ }
+    requires { ⌜ (Proper (now image)) × (i < length (flatIn (now image) .queue)) × (taggedRecord (taggedOf r) ≡ r) ⌝ }
+    ensures { λ _. ⌜ Shows (withQueue (flatIn (now (image .entry))) (set (flatIn (now (image .entry)) .queue) i (taggedOf r))) (now (image .exit)) ⌝ }
 {
     put_op(image, i, r);
 }
 
 pub fn set_place(image: &mut [u8], i: usize, k: u8)
-    requires { ⌜ (Proper (now image)) × (i < length (held (now image) .queue)) ⌝ }
-    ensures { λ _. ⌜ Shows (withQueue (held (now (image .entry))) (alter i (moveTo k) (held (now (image .entry)) .queue))) (now (image .exit)) ⌝ }
+    requires { ⌜ (Proper (now image)) × (i < length (flatIn (now image) .queue)) ⌝ }
+    ensures { λ _. ⌜ Shows (withQueue (flatIn (now (image .entry))) (alter i (moveTo k) (flatIn (now (image .entry)) .queue))) (now (image .exit)) ⌝ }
 {
     let mut r = record_at(image, i);
     r.station = k;
@@ -153,8 +154,8 @@ pub fn set_place(image: &mut [u8], i: usize, k: u8)
 }
 
 pub fn set_opens(image: &mut [u8], i: usize, b: bool)
-    requires { ⌜ (Proper (now image)) × (i < length (held (now image) .queue)) ⌝ }
-    ensures { λ _. ⌜ Shows (withQueue (held (now (image .entry))) (alter i (openAs b) (held (now (image .entry)) .queue))) (now (image .exit)) ⌝ }
+    requires { ⌜ (Proper (now image)) × (i < length (flatIn (now image) .queue)) ⌝ }
+    ensures { λ _. ⌜ Shows (withQueue (flatIn (now (image .entry))) (alter i (openAs b) (flatIn (now (image .entry)) .queue))) (now (image .exit)) ⌝ }
 {
     let mut r = record_at(image, i);
     r.opens = flag(b);
@@ -163,8 +164,8 @@ pub fn set_opens(image: &mut [u8], i: usize, b: bool)
 
 // The operation at i becomes o, at its station and with its mark.
 pub fn put_operation(image: &mut [u8], i: usize, o: Operation)
-    requires { ⌜ (Proper (now image)) × (i < length (held (now image) .queue)) × (Normal o) ⌝ }
-    ensures { λ _. ⌜ Shows (withQueue (held (now (image .entry))) (set (held (now (image .entry)) .queue) i (withOp (getD (held (now (image .entry)) .queue) i noOp) (opValue o)))) (now (image .exit)) ⌝ }
+    requires { ⌜ (Proper (now image)) × (i < length (flatIn (now image) .queue)) × (Normal o) ⌝ }
+    ensures { λ _. ⌜ Shows (withQueue (flatIn (now (image .entry))) (set (flatIn (now (image .entry)) .queue) i (withOp (getD (flatIn (now (image .entry)) .queue) i noOp) (opValue o)))) (now (image .exit)) ⌝ }
 {
     let old = record_at(image, i);
     let r = record_of(old.station, old.opens, o);
@@ -172,8 +173,8 @@ pub fn put_operation(image: &mut [u8], i: usize, o: Operation)
 }
 
 pub fn exchange(image: &mut [u8], i: usize, j: usize)
-    requires { ⌜ (Proper (now image)) × (i < length (held (now image) .queue)) × (j < length (held (now image) .queue)) ⌝ }
-    ensures { λ _. ⌜ Shows (withQueue (held (now (image .entry))) (set (set (held (now (image .entry)) .queue) i (getD (held (now (image .entry)) .queue) j noOp)) j (getD (held (now (image .entry)) .queue) i noOp))) (now (image .exit)) ⌝ }
+    requires { ⌜ (Proper (now image)) × (i < length (flatIn (now image) .queue)) × (j < length (flatIn (now image) .queue)) ⌝ }
+    ensures { λ _. ⌜ Shows (withQueue (flatIn (now (image .entry))) (set (set (flatIn (now (image .entry)) .queue) i (getD (flatIn (now (image .entry)) .queue) j noOp)) j (getD (flatIn (now (image .entry)) .queue) i noOp))) (now (image .exit)) ⌝ }
 {
     let x = record_at(image, i);
     let y = record_at(image, j);
@@ -182,23 +183,23 @@ pub fn exchange(image: &mut [u8], i: usize, j: usize)
 }
 
 pub fn remove(image: &mut [u8], i: usize)
-    requires { ⌜ (Proper (now image)) × (i < length (held (now image) .queue)) ⌝ }
-    ensures { λ _. ⌜ Shows (withQueue (held (now (image .entry))) (removeAt i (held (now (image .entry)) .queue))) (now (image .exit)) ⌝ }
+    requires { ⌜ (Proper (now image)) × (i < length (flatIn (now image) .queue)) ⌝ }
+    ensures { λ _. ⌜ Shows (withQueue (flatIn (now (image .entry))) (removeAt i (flatIn (now (image .entry)) .queue))) (now (image .exit)) ⌝ }
 {
     remove_op(image, i);
 }
 
 fn append_record(image: &mut [u8], r: OpRecord)
-    requires { ⌜ (Proper (now image)) × (length (held (now image) .queue) < 64) × (taggedRecord (taggedOf r) ≡ r) ⌝ }
-    ensures { λ _. ⌜ Shows (withQueue (held (now (image .entry))) (held (now (image .entry)) .queue ++ (taggedOf r ∷ []))) (now (image .exit)) ⌝ }
+    requires { ⌜ (Proper (now image)) × (length (flatIn (now image) .queue) < 64) × (taggedRecord (taggedOf r) ≡ r) ⌝ }
+    ensures { λ _. ⌜ Shows (withQueue (flatIn (now (image .entry))) (flatIn (now (image .entry)) .queue ++ (taggedOf r ∷ []))) (now (image .exit)) ⌝ }
 {
     append_op(image, r);
 }
 
 // An add at the end of the top stream.
 pub fn append_add(image: &mut [u8], label: u16, value: u32)
-    requires { ⌜ (Proper (now image)) × (length (held (now image) .queue) < 64) ⌝ }
-    ensures { λ _. ⌜ Shows (withQueue (held (now (image .entry))) (held (now (image .entry)) .queue ++ (record { place = 65; opens = true; call = addOf label value } ∷ []))) (now (image .exit)) ⌝ }
+    requires { ⌜ (Proper (now image)) × (length (flatIn (now image) .queue) < 64) ⌝ }
+    ensures { λ _. ⌜ Shows (withQueue (flatIn (now (image .entry))) (flatIn (now (image .entry)) .queue ++ (record { place = 65; opens = true; call = addOf label value } ∷ []))) (now (image .exit)) ⌝ }
 {
     let r = add_record(label, value);
     append_record(image, r);
@@ -206,8 +207,8 @@ pub fn append_add(image: &mut [u8], label: u16, value: u32)
 
 // An operation at the end of the top stream.
 pub fn append_operation(image: &mut [u8], o: Operation)
-    requires { ⌜ (Proper (now image)) × (length (held (now image) .queue) < 64) × (Normal o) ⌝ }
-    ensures { λ _. ⌜ Shows (withQueue (held (now (image .entry))) (held (now (image .entry)) .queue ++ (record { place = 65; opens = true; call = opOf (opValue o) } ∷ []))) (now (image .exit)) ⌝ }
+    requires { ⌜ (Proper (now image)) × (length (flatIn (now image) .queue) < 64) × (Normal o) ⌝ }
+    ensures { λ _. ⌜ Shows (withQueue (flatIn (now (image .entry))) (flatIn (now (image .entry)) .queue ++ (record { place = 65; opens = true; call = opOf (opValue o) } ∷ []))) (now (image .exit)) ⌝ }
 {
     let r = record_of(65, 1, o);
     append_record(image, r);

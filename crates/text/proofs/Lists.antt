@@ -1,12 +1,12 @@
 -- Laws of `commas`: how a list of numbers grows, that its text determines it, and where it ends.
 -- Assumes nothing.
-use Prim.Native.Nat.{ℕ, _+_, _<_}
+use Prim.Native.Nat.{ℕ, _<_}
 use mathlib.Core.Path.{_≡_, refl, sym, ap, _∙_}
 use mathlib.Core.List.{List, [], _∷_, _++_, append-nil, append-assoc}
 use native.Mathlib.Omega.{arith}
 use lib.ListN.{length, drop, length-append}
 use Rattle.text.specs.Text.{decimal, further, commas, texts}
-use Rattle.text.specs.Reads.{Gap}
+use Rattle.text.specs.Inner.PartsRead.{Gap}
 use Rattle.text.proofs.Decimals.{decimal-is}
 use Rattle.text.proofs.Splits.{Clean, decimal-clean, same-number}
 

@@ -8,7 +8,8 @@ use native.Mathlib.Nat.{add-assoc, add-zero}
 use native.Mathlib.Numerals.{add-one}
 use lib.ListN.{length, take, drop, set, getD, length-append, length-take, length-drop, take-append-drop, List·getD-append}
 use lib.Seq.{set-split, getD-take, getD-drop, getD-append-add, take-at, length-take-le, drop-append-add, take-suc, drop-drop, take-all}
-use Rattle.text.specs.Text.{pasted, decimal, Written}
+use Rattle.text.specs.Text.{pasted, decimal}
+use Rattle.text.specs.Inner.Put.{TextPut}
 use Rattle.text.proofs.Decimals.{decimal-low, decimal-high, len-low, len-high}
 
 pasted-none : (s : List ℕ) (at : ℕ) → pasted s at [] ≡ s
@@ -67,24 +68,24 @@ pasted-more s at n a b h e =
 
 -- ---- texts one after another
 
-pub written-none : (s : List ℕ) (at : ℕ) → Written s at [] s at
+pub written-none : (s : List ℕ) (at : ℕ) → TextPut s at [] s at
 written-none s at = record { place = omega arith; bytes = sym (pasted-none s at) }
 
 -- a byte stored
-pub written-one : (s : List ℕ) (at b : ℕ) → at < length s → Written s at (b ∷ []) (set s at b) (at + 1)
+pub written-one : (s : List ℕ) (at b : ℕ) → at < length s → TextPut s at (b ∷ []) (set s at b) (at + 1)
 written-one s at b h = record { place = omega arith; bytes = pasted-one s at b h }
 
-pub written-size : {s a o : List ℕ} {at p : ℕ} → Written s at a o p → at + length a ≤ length s → length o ≡ length s
+pub written-size : {s a o : List ℕ} {at p : ℕ} → TextPut s at a o p → at + length a ≤ length s → length o ≡ length s
 written-size {s} {a} {o} {at} w h = ap length (w .bytes) ∙ length-pasted s at a h
 
 -- room for the next text
-pub written-room : {s a o : List ℕ} {at p : ℕ} → Written s at a o p → (b : List ℕ) → at + length (a ++ b) ≤ length s → p + length b ≤ length o
+pub written-room : {s a o : List ℕ} {at p : ℕ} → TextPut s at a o p → (b : List ℕ) → at + length (a ++ b) ≤ length s → p + length b ≤ length o
 written-room {s} {a} {o} w b h =
     let l : length (a ++ b) ≡ length a + length b = length-append a b in
     omega (arith, w .place, written-size w (omega arith))
 
 -- the next text
-pub written-then : {s a o b o′ : List ℕ} {at p p′ : ℕ} → Written s at a o p → Written o p b o′ p′ → at + length (a ++ b) ≤ length s → Written s at (a ++ b) o′ p′
+pub written-then : {s a o b o′ : List ℕ} {at p p′ : ℕ} → TextPut s at a o p → TextPut o p b o′ p′ → at + length (a ++ b) ≤ length s → TextPut s at (a ++ b) o′ p′
 written-then {s} {a} {o} {b} {o′} {at} {p} {p′} w v h =
     let l : length (a ++ b) ≡ length a + length b = length-append a b in
     record {
@@ -97,30 +98,30 @@ front-fits at a b h = omega (arith, length-append a b)
 
 -- ---- a copy: the first i bytes of the literal are written
 
-module _ (s : List ℕ) (at : ℕ) (literal out : List ℕ) (i : ℕ) (fits : at + length literal ≤ length s) (w : Written s at (take i literal) out (at + i)) where
-  pub copy-more : i < length literal → length out ≡ length s → Written s at (take (i + 1) literal) (set out (at + i) (getD literal i 0)) (at + (i + 1))
+module _ (s : List ℕ) (at : ℕ) (literal out : List ℕ) (i : ℕ) (fits : at + length literal ≤ length s) (w : TextPut s at (take i literal) out (at + i)) where
+  pub copy-more : i < length literal → length out ≡ length s → TextPut s at (take (i + 1) literal) (set out (at + i) (getD literal i 0)) (at + (i + 1))
   copy-more h e =
       let t : take (i + 1) literal ≡ take i literal ++ (getD literal i 0 ∷ []) = rw add-one (take-suc literal i 0 h) in
       let l : length (take i literal) ≡ i = length-take-le i literal (omega arith) in
       let r = written-then w (written-one out (at + i) (getD literal i 0) (omega arith)) (omega (arith, length-append (take i literal) (getD literal i 0 ∷ []))) in
       rw t (record { place = omega (arith, r .place); bytes = r .bytes })
 
-  pub copy-all : length literal ≤ i → Written s at literal out (at + i)
+  pub copy-all : length literal ≤ i → TextPut s at literal out (at + i)
   copy-all h = rw (take-all i literal h) at w
 
 -- ---- a decimal, digit by digit
 
-pub put-low : (s : List ℕ) (at v : ℕ) → v < 10 → at + length (decimal v) ≤ length s → Written s at (decimal v) (set s at (48 + v)) (at + 1)
+pub put-low : (s : List ℕ) (at v : ℕ) → v < 10 → at + length (decimal v) ≤ length s → TextPut s at (decimal v) (set s at (48 + v)) (at + 1)
 put-low s at v h fits = rw (decimal-low v h) (written-one s at (48 + v) (omega (arith, len-low v h)))
 
-module _ {s o : List ℕ} {at n v : ℕ} (h : 10 ≤ v) (fits : at + length (decimal v) ≤ length s) (w : Written s at (decimal (v / 10)) o n) where
+module _ {s o : List ℕ} {at n v : ℕ} (h : 10 ≤ v) (fits : at + length (decimal v) ≤ length s) (w : TextPut s at (decimal (v / 10)) o n) where
   last-digit : List ℕ
   last-digit = (48 + v % 10) ∷ []
 
   pub put-within : n < length o
   put-within = omega (arith, len-high v h, w .place, written-size w (omega (arith, len-high v h)))
 
-  pub put-high : Written s at (decimal v) (set o n (48 + v % 10)) (n + 1)
+  pub put-high : TextPut s at (decimal v) (set o n (48 + v % 10)) (n + 1)
   put-high =
       rw (decimal-high v h)
       (written-then w (written-one o n (48 + v % 10) put-within) (omega (arith, ap length (decimal-high v h))))

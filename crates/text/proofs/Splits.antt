@@ -12,7 +12,7 @@ use lib.Dec.{eqb}
 use lib.ListN.{length, take, drop, getD, length-drop, drop-of-length-le, length-append, take-append-drop}
 use lib.Seq.{take-suc, drop-cons, append-snoc, take-all, take-append-seam, drop-append-seam, drop-drop}
 use Rattle.text.specs.Text.{upTo, decimal}
-use Rattle.text.specs.Reads.{PlaceOf, Gap}
+use Rattle.text.specs.Inner.PartsRead.{LiteralAt, Gap}
 use Rattle.text.specs.declared.cut.Place.the-variants.{At, Missing}
 use Rattle.text.proofs.Decimals.{Figures, decimal-is, decimal-inj}
 
@@ -141,13 +141,13 @@ same-number stop h v w x y e gx gy =
 -- ---- a literal at a place
 
 module _ (s : List ℕ) (at : ℕ) (literal : List ℕ) where
-  pub too-short : length s - at < length literal → PlaceOf s at literal Missing
+  pub too-short : length s - at < length literal → LiteralAt s at literal Missing
   too-short h x e = omega (arith, length-append literal x, ap length e, length-drop at s)
 
   front : take (at + length literal - at) (drop at s) ≡ take (length literal) (drop at s)
   front = rw add-sub-cancel-left
 
-  pub stands : at ≤ length s → length literal ≤ length s - at → take (at + length literal - at) (drop at s) ≡ literal → PlaceOf s at literal (At (at + length literal))
+  pub stands : at ≤ length s → length literal ≤ length s - at → take (at + length literal - at) (drop at s) ≡ literal → LiteralAt s at literal (At (at + length literal))
   stands h h′ e = (
     omega arith,
     sym (take-append-drop (length literal) (drop at s))
@@ -155,5 +155,5 @@ module _ (s : List ℕ) (at : ℕ) (literal : List ℕ) where
         ∙ ap (λ (r : List ℕ). literal ++ r) (drop-drop (length literal) at s),
   )
 
-  pub differs : (take (at + length literal - at) (drop at s) ≡ literal → ⊥) → PlaceOf s at literal Missing
+  pub differs : (take (at + length literal - at) (drop at s) ≡ literal → ⊥) → LiteralAt s at literal Missing
   differs ne x e = ne (front ∙ ap (take (length literal)) e ∙ take-append-seam literal x)

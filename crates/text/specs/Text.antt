@@ -5,7 +5,6 @@ use Prim.Native.Char.{code}
 use Prim.Native.String.{String, [] as none, _∷_ as _then_}
 use mathlib.Core.Bool.{Bool, true, false, cond}
 use mathlib.Core.List.{List, [], _∷_, _++_}
-use mathlib.Core.Path.{_≡_}
 use lib.Dec.{ltb, eqb}
 use lib.ListN.{length, take, drop}
 
@@ -52,8 +51,3 @@ commas (t ∷ ts) = decimal t ++ further ts
 -- the buffer with this text from `at` on
 unfoldable pub pasted : List ℕ → ℕ → List ℕ → List ℕ
 pasted buffer at text = take at buffer ++ (text ++ drop (at + length text) buffer)
-
--- a writer put this text into the buffer `was`: `place` is where it ends, and no byte outside it changed
-pub record Written (was : List ℕ) (at : ℕ) (text out : List ℕ) (r : ℕ) : Type 0 where
-  pub place : r ≡ at + length text
-  pub bytes : out ≡ pasted was at text

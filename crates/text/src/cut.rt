@@ -3,7 +3,7 @@ ghost use mathlib.Core.Path.{_≡_};
 ghost use Prim.Native.Nat.{_≤_};
 ghost use lib.ListN.{length, drop};
 ghost use Rattle.text.specs.Text.{upTo, startsWith};
-ghost use Rattle.text.specs.Reads.{PlaceOf};
+ghost use Rattle.text.specs.Inner.PartsRead.{LiteralAt};
 
 // The part of `s` up to its first byte `stop`, or all of it.
 fn up_to(s: &[u8], stop: u8) -> &[u8]
@@ -38,7 +38,7 @@ pub enum Place {
 // Where `literal` ends, if it stands in `s` at `at`.
 pub fn past(s: &[u8], at: usize, literal: &[u8]) -> Place
     requires { ⌜ at ≤ length (now s) ⌝ }
-    ensures { λ r. ⌜ PlaceOf (now (s .entry)) at (now (literal .entry)) r ⌝ }
+    ensures { λ r. ⌜ LiteralAt (now (s .entry)) at (now (literal .entry)) r ⌝ }
 {
     let n = literal.len();
     if s.len() - at < n {

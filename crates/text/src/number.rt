@@ -2,8 +2,9 @@
 ghost use mathlib.Core.Path.{_≡_};
 ghost use Prim.Native.Nat.{_+_, _≤_};
 ghost use lib.ListN.{length};
-ghost use Rattle.text.specs.Text.{decimal, Written};
-ghost use Rattle.text.specs.Reads.{NumberOf, LengthOf};
+ghost use Rattle.text.specs.Text.{decimal};
+ghost use Rattle.text.specs.Inner.Put.{TextPut};
+ghost use Rattle.text.specs.Inner.PartsRead.{DecimalOf, LengthOf};
 
 pub enum Number {
     Is(u32),
@@ -18,7 +19,7 @@ fn wide(x: u8) -> u64
 
 // The number whose decimal is the whole of `s`: no leading zeros, at most 4,294,967,295.
 pub fn read_number(s: &[u8]) -> Number
-    ensures { λ r. ⌜ NumberOf (now (s .entry)) r ⌝ }
+    ensures { λ r. ⌜ DecimalOf (now (s .entry)) r ⌝ }
 {
     if s.len() == 0 {
         return Number::Not;
@@ -61,7 +62,7 @@ pub fn decimal_len(v: u32) -> usize
 // Writes the decimal of `v` from `at` on, and returns the place after it.
 pub fn put_wide(out: &mut [u8], at: usize, v: u64) -> usize
     requires { ⌜ at + length (decimal v) ≤ length (now out) ⌝ }
-    ensures { λ r. ⌜ Written (now (out .entry)) at (decimal v) (now (out .exit)) r ⌝ }
+    ensures { λ r. ⌜ TextPut (now (out .entry)) at (decimal v) (now (out .exit)) r ⌝ }
 {
     if v < 10 {
         out[at] = (48 + v) as u8;
@@ -75,7 +76,7 @@ pub fn put_wide(out: &mut [u8], at: usize, v: u64) -> usize
 // The same of a number of 32 bits, as all numbers of a session are.
 pub fn put_decimal(out: &mut [u8], at: usize, v: u32) -> usize
     requires { ⌜ at + length (decimal v) ≤ length (now out) ⌝ }
-    ensures { λ r. ⌜ Written (now (out .entry)) at (decimal v) (now (out .exit)) r ⌝ }
+    ensures { λ r. ⌜ TextPut (now (out .entry)) at (decimal v) (now (out .exit)) r ⌝ }
 {
     put_wide(out, at, v as u64)
 }

@@ -10,12 +10,13 @@ use lib.ListN.{length, getD, drop, length-drop}
 use borrow.Author.Tests.{ltb-true, ltb-false, eq-eqb, ne-eqb}
 use Rattle.graph.specs.Refusals.{Answer, refused, done, mapDone, andThen}
 use Rattle.graph.proofs.Answers.{Holds, refuses, holds, holds-cond, holds-at, by-bool}
-use Rattle.queue.specs.Flat.{Tagged, Flat, find, breaks, atPlace, isAt, endOf}
-use Rattle.queue.proofs.Places.{find-within}
-use Rattle.worksteps.specs.FlatSteps.{noOp, unitStart, unitFrom, headUnit, withNext, neighbours, onQueue, atKey, withQueue, known}
-use Rattle.worksteps.proofs.Facts.{here-past}
-use Rattle.units.specs.declared.Spot.{Spot}
-use Rattle.units.specs.Numbered.{Span, locate, alone, locateTwo, spotted}
+use Rattle.flat.specs.Flat.{Tagged, Flat}
+use Rattle.flat.specs.Inner.Queues.{firstIndex, breaks, isAt, endOf}
+use Rattle.flat.specs.Inner.Nested.{atPlace}
+use Rattle.flat.proofs.Places.{find-within}
+use Rattle.flat.specs.Inner.FlatSteps.{noOp, unitStart, unitFrom, headUnit, withNext, neighbours, onQueue, atKey, withQueue, known}
+use Rattle.flat.proofs.Facts.{here-past}
+use Rattle.units.specs.Inner.Numbered.{Span, locate, alone, locateTwo}
 
 -- WHERE A UNIT STARTS: one turn of the loop
 module _ (k : ℕ) (q : List Tagged) where
@@ -58,9 +59,9 @@ module _ (k : ℕ) (q : List Tagged) where
 module _ (k i : ℕ) (f : Flat) where
   -- w hands a refusal on
   located : {X Y : Type 0} (w : Answer X → Answer Y) → ((r : ℕ) → w (refused r) ≡ refused r) → (g : ℕ → ℕ → List Tagged → Answer X)
-      → cond (known k f) (w (unitFrom k g i (find (atPlace k) (f .queue)) (f .queue))) (refused 20) ≡ andThen (locate k i f) (λ s. w (g (s .start) (s .end) (f .queue)))
+      → cond (known k f) (w (unitFrom k g i (firstIndex (atPlace k) (f .queue)) (f .queue))) (refused 20) ≡ andThen (locate k i f) (λ s. w (g (s .start) (s .end) (f .queue)))
   located {X} {Y} w r g =
-      go (known k f) (unitStart k i (find (atPlace k) (f .queue)) (f .queue)) (isAt k (unitStart k i (find (atPlace k) (f .queue)) (f .queue)) (f .queue))
+      go (known k f) (unitStart k i (firstIndex (atPlace k) (f .queue)) (f .queue)) (isAt k (unitStart k i (firstIndex (atPlace k) (f .queue)) (f .queue)) (f .queue))
     where
       go : (b : Bool) (n : ℕ) (d : Bool)
           → cond b (w (cond d (g n (endOf k n (f .queue)) (f .queue)) (refused 21))) (refused 20)
@@ -109,7 +110,7 @@ pub record Both (k : ℕ) (f : Flat) (s : Span) : Type 0 where
 module _ (k i : ℕ) (f : Flat) where
   pub located-stands : Holds (Stands k f) (locate k i f)
   located-stands =
-      let n = unitStart k i (find (atPlace k) (f .queue)) (f .queue) in
+      let n = unitStart k i (firstIndex (atPlace k) (f .queue)) (f .queue) in
       holds-cond (known k f) (λ e. holds-cond (isAt k n (f .queue)) (λ d. holds (record { node = e; first = d; size = refl })) (λ d. refuses)) (λ e. refuses)
 
   pub stands : (s : Span) → locate k i f ≡ done s → Stands k f s
@@ -132,37 +133,22 @@ module _ (k i : ℕ) (f : Flat) where
   pub both : (s : Span) → locateTwo k i f ≡ done s → Both k f s
   both s e = holds-at (rw e at two-stand)
 
--- AS THE STRUCT SAYS IT
-abbrev pub spanOf : Spot → Span
-spanOf u = record { start = u .start; end = u .end }
+-- SO THE STEPS are refused, or work on what was found
+module _ (k i : ℕ) (f : Flat) where
+  module _ (g : ℕ → ℕ → List Tagged → Answer (List Tagged)) where
+    pub one-no : {n : ℕ} → locate k i f ≡ refused n → atKey k (onQueue (unitFrom k g i) k) f ≡ refused n
+    one-no e = step-located k i f g ∙ ap (λ (y : Answer Span). andThen y (λ s. mapDone (withQueue f) (g (s .start) (s .end) (f .queue)))) e
 
-module _ {x : Answer Span} (u : Spot) (e : x ≡ spotted u) where
-  pub spot-no : (u .refusal ≡ 0 → ⊥) → x ≡ refused (u .refusal)
-  spot-no n = e ∙ rw (ne-eqb (u .refusal) 0 n) refl
+    pub one-yes : {s : Span} → locate k i f ≡ done s → atKey k (onQueue (unitFrom k g i) k) f ≡ mapDone (withQueue f) (g (s .start) (s .end) (f .queue))
+    one-yes e = step-located k i f g ∙ ap (λ (y : Answer Span). andThen y (λ s. mapDone (withQueue f) (g (s .start) (s .end) (f .queue)))) e
 
-  pub spot-yes : u .refusal ≡ 0 → x ≡ done (spanOf u)
-  spot-yes z = e ∙ rw (eq-eqb (u .refusal) 0 z) refl
+  module _ (g : ℕ → ℕ → Tagged → Tagged → List Tagged → Answer (List Tagged)) where
+    -- the step on the two operations
+    abbrev pub onTwo : Span → Answer Flat
+    onTwo s = mapDone (withQueue f) (g (s .start) (s .end) (getD (f .queue) (s .start) noOp) (getD (f .queue) (s .end) noOp) (f .queue))
 
-  -- so what follows is refused, or works on what was found
-  module _ {A : Type 0} (g : Span → Answer A) where
-    pub then-no : (u .refusal ≡ 0 → ⊥) → andThen x g ≡ refused (u .refusal)
-    then-no n = ap (λ (y : Answer Span). andThen y g) (spot-no n)
+    pub two-no : {n : ℕ} → locateTwo k i f ≡ refused n → atKey k (onQueue (unitFrom k (withNext k (neighbours g)) i) k) f ≡ refused n
+    two-no e = step-two k i f g ∙ ap (λ (y : Answer Span). andThen y onTwo) e
 
-    pub then-yes : u .refusal ≡ 0 → andThen x g ≡ g (spanOf u)
-    then-yes z = ap (λ (y : Answer Span). andThen y g) (spot-yes z)
-
-module _ (k i : ℕ) (f : Flat) (u : Spot) where
-  module _ (g : ℕ → ℕ → List Tagged → Answer (List Tagged)) (e : locate k i f ≡ spotted u) where
-    pub one-no : (u .refusal ≡ 0 → ⊥) → atKey k (onQueue (unitFrom k g i) k) f ≡ refused (u .refusal)
-    one-no n = step-located k i f g ∙ then-no u e _ n
-
-    pub one-yes : u .refusal ≡ 0 → atKey k (onQueue (unitFrom k g i) k) f ≡ mapDone (withQueue f) (g (u .start) (u .end) (f .queue))
-    one-yes z = step-located k i f g ∙ then-yes u e _ z
-
-  module _ (g : ℕ → ℕ → Tagged → Tagged → List Tagged → Answer (List Tagged)) (e : locateTwo k i f ≡ spotted u) where
-    pub two-no : (u .refusal ≡ 0 → ⊥) → atKey k (onQueue (unitFrom k (withNext k (neighbours g)) i) k) f ≡ refused (u .refusal)
-    two-no n = step-two k i f g ∙ then-no u e _ n
-
-    pub two-yes : u .refusal ≡ 0 → atKey k (onQueue (unitFrom k (withNext k (neighbours g)) i) k) f
-        ≡ mapDone (withQueue f) (g (u .start) (u .end) (getD (f .queue) (u .start) noOp) (getD (f .queue) (u .end) noOp) (f .queue))
-    two-yes z = step-two k i f g ∙ then-yes u e _ z
+    pub two-yes : {s : Span} → locateTwo k i f ≡ done s → atKey k (onQueue (unitFrom k (withNext k (neighbours g)) i) k) f ≡ onTwo s
+    two-yes e = step-two k i f g ∙ ap (λ (y : Answer Span). andThen y onTwo) e

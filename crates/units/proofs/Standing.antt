@@ -10,36 +10,39 @@ use lib.ListN.{length, getD, drop}
 use lib.Seq.{getD-drop}
 use borrow.Author.Tests.{eqb-true, ne-eqb, leb-true}
 use Rattle.graph.proofs.Answers.{and-right}
-use Rattle.queue.specs.Flat.{Tagged, Flat, flat, nest, isOp, find, atPlace, breaks, isAt, endOf}
-use Rattle.worksteps.specs.FlatSteps.{noOp, known}
-use Rattle.worksteps.proofs.Facts.{Sits, sits-at, here-at}
-use Rattle.state.specs.State.{held}
+use Rattle.flat.specs.Flat.{Tagged, Flat, flat}
+use Rattle.flat.specs.Inner.Nested.{nest, atPlace}
+use Rattle.graph.specs.OneAtATime.{isOp}
+use Rattle.flat.specs.Inner.Queues.{firstIndex, breaks, isAt, endOf}
+use Rattle.flat.specs.Inner.FlatSteps.{noOp, known}
+use Rattle.flat.proofs.Facts.{Sits, sits-at, here-at}
+use Rattle.state.specs.Inner.State.{flatIn}
 use Rattle.state.proofs.NodeLaws.{node-count}
-use Rattle.live.specs.Live.{Live}
+use Rattle.state.specs.Inner.ValidImage.{ValidImage}
 use Rattle.units.proofs.Located.{at-within, end-within}
 
 -- OPERATIONS: what stands at a station is no add
-module _ (image : List ℕ) (live : Live image) (k p : ℕ) (node : known k (held image) ≡ true) (at : isAt k p (held image .queue) ≡ true) where
-  sits : Sits (getD (held image .queue) p noOp)
+module _ (image : List ℕ) (holds-valid : ValidImage image) (k p : ℕ) (node : known k (flatIn image) ≡ true) (at : isAt k p (flatIn image .queue) ≡ true) where
+  sits : Sits (getD (flatIn image .queue) p noOp)
   sits =
-      let s = nest (held image) in
-      subst (λ (f : Flat). Sits (getD (f .queue) p noOp)) (live .flat)
-      (sits-at s (live .valid) p (subst (λ (f : Flat). p < length (f .queue)) (sym (live .flat)) (at-within k (held image .queue) p at)))
+      let s = nest (flatIn image) in
+      subst (λ (f : Flat). Sits (getD (f .queue) p noOp)) (holds-valid .flat)
+      (sits-at s (holds-valid .valid) p (subst (λ (f : Flat). p < length (f .queue)) (sym (holds-valid .flat)) (at-within k (flatIn image .queue) p at)))
 
-  pub op-at : isOp (getD (held image .queue) p noOp .call) ≡ true
+  pub op-at : isOp (getD (flatIn image .queue) p noOp .call) ≡ true
   op-at =
-      let x = getD (held image .queue) p noOp in
-      let place : x .place ≡ k = eqb-true (x .place) k (sym (here-at (atPlace k) (held image .queue) p noOp (at-within k (held image .queue) p at)) ∙ at) in
-      let few : k ≤ length (held image .nodes) = leb-true k (length (held image .nodes)) (and-right (leb 1 k) (leb k (length (held image .nodes))) node) in
-      sits .placed (ne-eqb (x .place) 65 (λ e. omega (arith, node-count image (live .proper), live .proper .sound .nodes)))
+      let x = getD (flatIn image .queue) p noOp in
+      let place : x .place ≡ k = eqb-true (x .place) k (sym (here-at (atPlace k) (flatIn image .queue) p noOp (at-within k (flatIn image .queue) p at)) ∙ at) in
+      let few : k ≤ length (flatIn image .nodes) = leb-true k (length (flatIn image .nodes)) (and-right (leb 1 k) (leb k (length (flatIn image .nodes))) node) in
+      sits .placed (ne-eqb (x .place) 65 (λ e. omega (arith, node-count image (holds-valid .proper), holds-valid .proper .sound .nodes)))
 
 -- A UNIT: from one operation of station k up to where it ends, each is of station k
 module _ {A : Type 0} (p : A → Bool) where
-  find-before : (xs : List A) (i : ℕ) (d : A) → i < find p xs → p (getD xs i d) ≡ false
+  find-before : (xs : List A) (i : ℕ) (d : A) → i < firstIndex p xs → p (getD xs i d) ≡ false
   find-before [] i d h = absurd (omega arith)
   find-before (x ∷ xs) i d h = go (p x) refl (λ j. find-before xs j d) i h
     where
-      go : (b : Bool) → p x ≡ b → ((j : ℕ) → j < find p xs → p (getD xs j d) ≡ false) → (j : ℕ) → j < cond b zero (suc (find p xs)) → p (getD (x ∷ xs) j d) ≡ false
+      go : (b : Bool) → p x ≡ b → ((j : ℕ) → j < firstIndex p xs → p (getD xs j d) ≡ false) → (j : ℕ) → j < cond b zero (suc (firstIndex p xs)) → p (getD (x ∷ xs) j d) ≡ false
       go true e ih j l = absurd (omega arith)
       go false e ih zero l = e
       go false e ih (suc j) l = ih j (omega arith)

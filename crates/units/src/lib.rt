@@ -3,23 +3,23 @@ use state::nodes::is_known;
 use state::ops;
 ghost use mathlib.Core.Path.{_≡_};
 ghost use lib.ListN.{length};
-ghost use Rattle.queue.specs.Flat.{find, atPlace, isAt};
-ghost use Rattle.worksteps.specs.FlatSteps.{unitStart};
-ghost use Rattle.state.specs.Operations.{Bounded};
-ghost use Rattle.state.specs.State.{held, Proper};
-ghost use Rattle.units.specs.Numbered.{locate, locateTwo, spotted};
+ghost use Rattle.flat.specs.Inner.Queues.{firstIndex, isAt};
+ghost use Rattle.flat.specs.Inner.Nested.{atPlace};
+ghost use Rattle.flat.specs.Inner.FlatSteps.{unitStart};
+ghost use Rattle.state.specs.Inner.Operations.{Bounded};
+ghost use Rattle.state.specs.Inner.State.{flatIn, Proper};
+ghost use Rattle.units.specs.Inner.Numbered.{locate, locateTwo, spotted};
 
-// Where a unit starts and ends, in the queue; or the number of a refusal, and then the places say nothing.
-pub struct Spot {
-    pub refusal: u32,
-    pub start: usize,
-    pub end: usize,
+// The number of a refusal; or where a unit starts and ends, in the queue.
+pub enum Spot {
+    Refused(u32),
+    At(usize, usize),
 }
 
 // An operation of station k stands at p.
 pub fn is_at(image: &[u8], k: u8, p: usize) -> bool
     requires { ⌜ Proper (now image) ⌝ }
-    ensures { λ r. ⌜ r ≡ isAt k p (held (now (image .entry)) .queue) ⌝ }
+    ensures { λ r. ⌜ r ≡ isAt k p (flatIn (now (image .entry)) .queue) ⌝ }
 {
     if ops::total(image) <= p {
         return false;
@@ -30,7 +30,7 @@ pub fn is_at(image: &[u8], k: u8, p: usize) -> bool
 // Where that unit starts, or the queue's end. It goes from unit to unit, and stops after the last.
 fn unit_start(image: &[u8], k: u8, unit: u32) -> usize
     requires { ⌜ Proper (now image) ⌝ }
-    ensures { λ r. ⌜ Bounded (unitStart k unit (find (atPlace k) (held (now (image .entry)) .queue)) (held (now (image .entry)) .queue)) (length (held (now (image .entry)) .queue)) r ⌝ }
+    ensures { λ r. ⌜ Bounded (unitStart k unit (firstIndex (atPlace k) (flatIn (now (image .entry)) .queue)) (flatIn (now (image .entry)) .queue)) (length (flatIn (now (image .entry)) .queue)) r ⌝ }
 {
     let n = ops::total(image);
     if unit == 0 {
@@ -48,54 +48,40 @@ fn unit_start(image: &[u8], k: u8, unit: u32) -> usize
     p
 }
 
-pub fn refuse(number: u32) -> Spot
-    ensures { λ r. ⌜ r ≡ record { refusal = number; start = 0; end = 0 } ⌝ }
-{
-    Spot {
-        refusal: number,
-        start: 0,
-        end: 0,
-    }
-}
-
 // The unit with that number.
 pub fn unit_at(image: &[u8], k: u8, unit: u32) -> Spot
     requires { ⌜ Proper (now image) ⌝ }
-    ensures { λ r. ⌜ locate k unit (held (now (image .entry))) ≡ spotted r ⌝ }
+    ensures { λ r. ⌜ locate k unit (flatIn (now (image .entry))) ≡ spotted r ⌝ }
 {
     if !is_known(image, k) {
-        return refuse(20);
+        return Spot::Refused(20);
     }
     let p = unit_start(image, k, unit);
     if !is_at(image, k, p) {
-        return refuse(21);
+        return Spot::Refused(21);
     }
-    Spot {
-        refusal: 0,
-        start: p,
-        end: ops::unit_end(image, k, p),
-    }
+    Spot::At(p, ops::unit_end(image, k, p))
 }
 
 // The same where that unit and the next have one operation each: the one at the start, the other at the end.
 pub fn two_at(image: &[u8], k: u8, unit: u32) -> Spot
     requires { ⌜ Proper (now image) ⌝ }
-    ensures { λ r. ⌜ locateTwo k unit (held (now (image .entry))) ≡ spotted r ⌝ }
+    ensures { λ r. ⌜ locateTwo k unit (flatIn (now (image .entry))) ≡ spotted r ⌝ }
 {
-    let u = unit_at(image, k, unit);
-    if u.refusal != 0 {
-        return u;
+    match unit_at(image, k, unit) {
+        Spot::Refused(n) => Spot::Refused(n),
+        Spot::At(p, e) => {
+            if !is_at(image, k, e) {
+                return Spot::Refused(21);
+            }
+            if p + 1 != e {
+                return Spot::Refused(22);
+            }
+            let end = ops::unit_end(image, k, e);
+            if e + 1 != end {
+                return Spot::Refused(22);
+            }
+            Spot::At(p, e)
+        }
     }
-    let e = u.end;
-    if !is_at(image, k, e) {
-        return refuse(21);
-    }
-    if u.start + 1 != e {
-        return refuse(22);
-    }
-    let end = ops::unit_end(image, k, e);
-    if e + 1 != end {
-        return refuse(22);
-    }
-    u
 }

@@ -11,7 +11,7 @@ use Rattle.graph.specs.KeyLists.{contains}
 use Rattle.graph.specs.Valid.{Each, count, Given}
 use Rattle.graph.proofs.Answers.{and-left, and-right, eqb-same}
 use Rattle.graph.proofs.Labels.{contains-count, count-out}
-use Rattle.valid.specs.Tests.{givenOnce}
+use Rattle.valid.specs.Inner.Tests.{givenOnce}
 
 -- labels that were given and stand once
 pub record Fresh (last : ℕ) (ls : List ℕ) : Type 0 where

@@ -7,23 +7,23 @@ use mathlib.Core.Bool.{Bool, true, false, cond, _&&_, true≢false}
 use mathlib.Core.List.{List, [], _∷_, _++_}
 use lib.Dec.{eqb, leb, ltb}
 use lib.ListN.{length, getD, take, replicate, length-append, length-replicate}
-use borrow.Author.Tests.{eqb-true, eqb-false, ltb-true, leb-true, lt-ltb, le-leb, eq-eqb}
+use borrow.Author.Tests.{eqb-true, eqb-false, ltb-true, leb-true, lt-ltb, eq-eqb}
 use Rattle.graph.specs.declared.act.Act.{Act}
 use Rattle.graph.specs.declared.act.Act.the-variants.{Map, Link, Unlink, Sum, Top, Pick, Near}
-use Rattle.graph.specs.KeyLists.{isKey}
 use Rattle.graph.specs.Packed.{listed, packed}
 use Rattle.graph.specs.Nodes.{Node, Result}
 use Rattle.graph.specs.OneAtATime.{Labelled, addOf, opOf}
-use Rattle.graph.specs.Valid.{Each, Key, ValidTargets, ValidNode, ValidAct, ValidHeld, mostLabels, ValidOp, ValidCall, ValidResult}
+use Rattle.graph.specs.Valid.{Each, ValidTargets, ValidNode, ValidAct, ValidHeld, mostLabels, ValidOp, ValidCall, ValidResult}
 use Rattle.graph.proofs.Answers.{and-left, and-right, by-bool}
 use Rattle.graph.proofs.KeyLaws.{listed-packed}
-use Rattle.queue.specs.Flat.{placed, follows, labelsIn}
+use Rattle.flat.specs.Inner.Queues.{placed, follows, labelsIn}
 use Rattle.records.specs.declared.node.NodeRecord.{NodeRecord}
 use Rattle.records.specs.declared.op.OpRecord.{OpRecord}
 use Rattle.records.specs.declared.result.ResultRecord.{ResultRecord}
 use Rattle.records.proofs.Codecs.{FitLabels, FitNode, FitOp, FitResult}
-use Rattle.valid.specs.Values.{nodeOf, nodeRecord, resultOf, resultRecord, labelsOf, packedLabels, actOf, heldOf, callOf, taggedOf, Fields, fields, fieldsOf, opRecord, callRecord, taggedRecord}
-use Rattle.valid.specs.Tests.{keysOk, labelsOk, nodeOk, operandOk, numbersOk, mostOf, targetsOk, opOk, resultOk}
+use Rattle.valid.specs.Inner.Decoded.{decodedNode, decodedResult, labelsOf, actOf, heldOf, decodedCall, taggedOf}
+use Rattle.valid.specs.Values.{nodeRecord, resultRecord, packedLabels, Fields, fields, fieldsOf, opRecord, callRecord, taggedRecord}
+use Rattle.valid.specs.Inner.Tests.{keysOk, labelsOk, nodeOk, operandOk, numbersOk, mostOf, targetsOk, opOk, resultOk}
 use Rattle.valid.proofs.Packing.{KeysGood, keys-good, keys-packed, packed-ok, packed-fit, LabelsGood, labels-length, labels-good, labels-packed, packed-labels-ok, labels-of-packed}
 
 -- NODES
@@ -32,16 +32,16 @@ module _ (i : ℕ) (r : NodeRecord) (f : FitNode r) (e : nodeOk i r ≡ true) wh
   unfolding nodeOk
   node-keys = and-right (eqb (r .spare) 0) _ (and-right (eqb (r .key) (i + 1)) _ e)
 
-  pub node-key : nodeOf r .key ≡ i + 1
+  pub node-key : decodedNode r .key ≡ i + 1
   unfolding nodeOk
   node-key = eqb-true (r .key) (i + 1) (and-left _ _ e)
 
-  pub node-valid : ValidNode (nodeOf r)
+  pub node-valid : ValidNode (decodedNode r)
   node-valid =
       let g = keys-good false (r .links) (f .links) node-keys in
       record { value = f .value; few = g .few; keys = g .keys }
 
-  pub node-there : nodeRecord (nodeOf r) ≡ r
+  pub node-there : nodeRecord (decodedNode r) ≡ r
   unfolding nodeOk
   node-there =
       let z : 0 ≡ r .spare = sym (eqb-true (r .spare) 0 (and-left _ _ (and-right (eqb (r .key) (i + 1)) _ e))) in
@@ -55,7 +55,7 @@ module _ (n : Node) (v : ValidNode n) where
   unfolding nodeOk
   node-ok i e = rw (eq-eqb (n .key) (i + 1) e) (packed-ok false (n .links) links-good)
 
-  pub node-back : nodeOf (nodeRecord n) ≡ n
+  pub node-back : decodedNode (nodeRecord n) ≡ n
   node-back = λ i. record { key = n .key; value = n .value; links = listed-packed (n .links) i }
 
   pub node-fit : FitNode (nodeRecord n)
@@ -71,12 +71,12 @@ module _ (prev : ℕ) (r : ResultRecord) (f : FitResult r) (e : resultOk prev r 
   unfolding resultOk
   result-over = ltb-true prev (r .label) (and-left _ _ e)
 
-  pub result-valid : ValidResult (resultOf r)
+  pub result-valid : ValidResult (decodedResult r)
   result-valid =
       let g = keys-good true (r .left) (f .left) left-keys in
       record { value = f .value; left = record { few = g .few; keys = g .keys; rise = g .rises refl } }
 
-  pub result-there : resultRecord (resultOf r) ≡ r
+  pub result-there : resultRecord (decodedResult r) ≡ r
   unfolding resultOk
   result-there =
       let z : 0 ≡ r .spare = sym (eqb-true (r .spare) 0 (and-left _ _ (and-right (ltb prev (r .label)) _ e))) in
@@ -90,7 +90,7 @@ module _ (r : Result) (v : ValidResult r) where
   unfolding resultOk
   result-ok prev h = rw (lt-ltb prev (r .label) h) (packed-ok true (r .left) (targets-good (r .left) (v .left)))
 
-  pub result-back : resultOf (resultRecord r) ≡ r
+  pub result-back : decodedResult (resultRecord r) ≡ r
   result-back = λ i. record { label = r .label; value = r .value; left = listed-packed (r .left) i }
 
   pub result-fit : r .label < 2 ^ 16 → FitResult (resultRecord r)
@@ -103,9 +103,6 @@ record ActGood (kind key a b : ℕ) : Type 0 where
   same : fieldsOf (actOf kind key a b) (heldOf kind b) ≡ fields kind key a b
   most : mostOf kind ≡ mostLabels (actOf kind key a b)
 
-key-of : (k : ℕ) → isKey k ≡ true → Key k
-key-of k e = (leb-true 1 k (and-left _ _ e), leb-true k 64 (and-right (leb 1 k) _ e))
-
 -- kinds with no operand key, and with one, that hold b
 plain : (kind key a b : ℕ) → eqb key 0 ≡ true → eqb a 0 && true ≡ true → fields kind 0 0 b ≡ fields kind key a b
 plain kind key a b k e = λ i. fields kind (sym (eqb-true key 0 k) i) (sym (eqb-true a 0 (and-left _ _ e)) i) b
@@ -116,12 +113,12 @@ keyed kind key a b e = λ i. fields kind key (sym (eqb-true a 0 e) i) b
 act-good : (kind key a b : ℕ) → a < 2 ^ 32 → b < 2 ^ 32 → (kind ≡ 0 → ⊥) → leb kind 7 ≡ true → operandOk kind key ≡ true → numbersOk kind a b ≡ true → ActGood kind key a b
 act-good zero key a b ha hb nz l o n = absurd (nz refl)
 act-good (suc zero) key a b ha hb nz l o n = record { act = (ha, hb); held = refl; same = λ i. fields 1 (sym (eqb-true key 0 o) i) a b; most = refl }
-act-good (suc (suc zero)) key a b ha hb nz l o n = record { act = key-of key o; held = hb; same = keyed 2 key a b (and-left _ _ n); most = refl }
-act-good (suc (suc (suc zero))) key a b ha hb nz l o n = record { act = key-of key o; held = eqb-true b 0 (and-right (eqb a 0) _ n); same = keyed 3 key a b (and-left _ _ n); most = refl }
+act-good (suc (suc zero)) key a b ha hb nz l o n = record { act = o; held = hb; same = keyed 2 key a b (and-left _ _ n); most = refl }
+act-good (suc (suc (suc zero))) key a b ha hb nz l o n = record { act = o; held = eqb-true b 0 (and-right (eqb a 0) _ n); same = keyed 3 key a b (and-left _ _ n); most = refl }
 act-good (suc (suc (suc (suc zero)))) key a b ha hb nz l o n = record { act = tt; held = hb; same = plain 4 key a b o n; most = refl }
 act-good (suc (suc (suc (suc (suc zero))))) key a b ha hb nz l o n = record { act = tt; held = hb; same = plain 5 key a b o n; most = refl }
 act-good (suc (suc (suc (suc (suc (suc zero)))))) key a b ha hb nz l o n = record { act = tt; held = hb; same = plain 6 key a b o n; most = refl }
-act-good (suc (suc (suc (suc (suc (suc (suc zero))))))) key a b ha hb nz l o n = record { act = key-of key o; held = hb; same = keyed 7 key a b (and-left _ _ n); most = refl }
+act-good (suc (suc (suc (suc (suc (suc (suc zero))))))) key a b ha hb nz l o n = record { act = o; held = hb; same = keyed 7 key a b (and-left _ _ n); most = refl }
 act-good (suc (suc (suc (suc (suc (suc (suc (suc k)))))))) key a b ha hb nz l o n = absurd (omega (arith, leb-true (suc (suc (suc (suc (suc (suc (suc (suc k)))))))) 7 l))
 
 most-four : (kind : ℕ) → mostOf kind ≤ 4
@@ -197,7 +194,7 @@ module _ (n prev : ℕ) (o : OpRecord) (fit : FitOp o) (e : opOk n prev o ≡ tr
   agood : (o .kind ≡ 0 → ⊥) → ActGood (o .kind) (o .key) (o .a) (o .b)
   agood nz = act-good (o .kind) (o .key) (o .a) (o .b) (fit .a) (fit .b) nz (facts .kind) (facts .operand) (facts .numbers)
 
-  pub call-valid : ValidCall (callOf o)
+  pub call-valid : ValidCall (decodedCall o)
   call-valid = by-bool (eqb (o .kind) 0) (λ q. rw q (fit .b)) (λ q. rw q (valid (agood (eqb-false (o .kind) 0 q))))
     where
       valid : ActGood (o .kind) (o .key) (o .a) (o .b) → ValidOp (record { act = actOf (o .kind) (o .key) (o .a) (o .b); held = heldOf (o .kind) (o .b); targets = listed (o .targets); labels = labelsOf (o .labels) })
@@ -249,7 +246,7 @@ module _ (n prev : ℕ) (o : OpRecord) (fit : FitOp o) (e : opOk n prev o ≡ tr
       (λ q. rw q (made _ (listed (o .targets)) (labelsOf (o .labels)) (agood (eqb-false (o .kind) 0 q) .same)
       (keys-packed true (o .targets) (fit .targets) (facts .targets)) (labels-packed (mostOf (o .kind)) (most-four (o .kind)) (o .labels) (fit .labels) (facts .labels))))
 
-  pub op-labels-same : labelsIn (callOf o) ≡ labelsOf (o .labels)
+  pub op-labels-same : labelsIn (decodedCall o) ≡ labelsOf (o .labels)
   op-labels-same = by-bool (eqb (o .kind) 0) (λ q. rw q (one-label (o .labels .label) (o .labels .count) (one-count q) (omega (arith, fit .labels .places)))) (λ q. rw q)
 
 -- and back: the fields of an act
@@ -264,17 +261,14 @@ record FieldsGood (a : Act) (h : ℕ) (f : Fields) : Type 0 where
   small-a : f .a < 2 ^ 32
   small-b : f .b < 2 ^ 32
 
-is-key : (k : ℕ) → Key k → isKey k ≡ true
-is-key k h = rw (le-leb 1 k (h .0)) (le-leb k 64 (h .1))
-
 fields-good : (a : Act) (h : ℕ) → ValidAct a → ValidHeld a h → FieldsGood a h (fieldsOf a h)
 fields-good (Map m) h v w = record { kind = refl; other = refl; operand = refl; numbers = refl; act = refl; held = sym w; most = refl; small-a = v .0; small-b = v .1 }
-fields-good (Link k) h v w = record { kind = refl; other = refl; operand = is-key k v; numbers = refl; act = refl; held = refl; most = refl; small-a = omega arith; small-b = w }
-fields-good (Unlink k) h v w = record { kind = refl; other = refl; operand = is-key k v; numbers = eq-eqb h 0 w; act = refl; held = refl; most = refl; small-a = omega arith; small-b = omega arith }
+fields-good (Link k) h v w = record { kind = refl; other = refl; operand = v; numbers = refl; act = refl; held = refl; most = refl; small-a = omega arith; small-b = w }
+fields-good (Unlink k) h v w = record { kind = refl; other = refl; operand = v; numbers = eq-eqb h 0 w; act = refl; held = refl; most = refl; small-a = omega arith; small-b = omega arith }
 fields-good Sum h v w = record { kind = refl; other = refl; operand = refl; numbers = refl; act = refl; held = refl; most = refl; small-a = omega arith; small-b = w }
 fields-good Top h v w = record { kind = refl; other = refl; operand = refl; numbers = refl; act = refl; held = refl; most = refl; small-a = omega arith; small-b = w }
 fields-good Pick h v w = record { kind = refl; other = refl; operand = refl; numbers = refl; act = refl; held = refl; most = refl; small-a = omega arith; small-b = w }
-fields-good (Near k) h v w = record { kind = refl; other = refl; operand = is-key k v; numbers = refl; act = refl; held = refl; most = refl; small-a = omega arith; small-b = w }
+fields-good (Near k) h v w = record { kind = refl; other = refl; operand = v; numbers = refl; act = refl; held = refl; most = refl; small-a = omega arith; small-b = w }
 
 -- the labels of a call fit two bytes
 abbrev pub Small : List ℕ → Type 0
@@ -310,7 +304,7 @@ flag-small true = refl
 flag-small false = refl
 
 no-targets : KeysGood true []
-no-targets = record { few = omega arith; keys = tt; rises = λ b. refl }
+no-targets = record { few = omega arith; keys = refl; rises = λ b. refl }
 
 one-good : (l : ℕ) → LabelsGood 1 (l ∷ [])
 one-good l = record { named = omega arith; few = omega arith }

@@ -12,9 +12,10 @@ use lib.ListN.{length, getD, drop, replicate}
 use borrow.Author.Tests.{eq-eqb, ne-eqb, eqb-true, eqb-false, le-leb, lt-leb, le-ltb, leb-true, leb-false, ltb-true, ltb-false}
 use Rattle.graph.specs.Valid.{Each}
 use Rattle.graph.proofs.Answers.{and-left, and-right}
-use Rattle.records.specs.Bytes.{allZero, le16, le64, bytes8}
-use Rattle.records.specs.Records.{labelsAt}
-use Rattle.valid.specs.Tests.{keyAbove, floorAfter, keyPlaces}
+use Rattle.records.specs.Inner.Numbers.{allZero, le16, le64}
+use Rattle.records.specs.Bytes.{bytes8}
+use Rattle.records.specs.Inner.Decoded.{labelsAt}
+use Rattle.valid.specs.Inner.Tests.{keyAbove, floorAfter, keyPlaces}
 
 abbrev pub number : List ℕ → ℕ
 number [] = 0

@@ -16,21 +16,25 @@ use Rattle.graph.specs.Valid.{Each, ValidNode, ValidResult, Given, Valid}
 use Rattle.graph.proofs.Answers.{and-left, and-right, by-bool}
 use Rattle.graph.proofs.Labels.{length-labels}
 use Rattle.graph.proofs.Limits.{each-left, each-right, rising-above, each-at}
-use Rattle.queue.specs.Flat.{Tagged, Flat, flat, nest, ordered, placed, follows, labelsIn, queued, addsQueued, liveIn}
-use Rattle.queue.proofs.Labels.{labels-many}
-use Rattle.queue.proofs.Nesting.{KeysUp, Formed, flat-nest, nest-flat, keyed-nest, order-line, keyed-stations}
-use Rattle.records.specs.Bytes.{chunk, tab}
+use Rattle.flat.specs.Flat.{Tagged, Flat, flat}
+use Rattle.flat.specs.Inner.Nested.{nest}
+use Rattle.flat.specs.Inner.Queues.{ordered, placed, follows, labelsIn, queued, addsQueued, liveIn}
+use Rattle.flat.proofs.Labels.{labels-many}
+use Rattle.flat.proofs.Nesting.{KeysUp, Formed, flat-nest, nest-flat, keyed-nest, order-line, keyed-stations}
+use Rattle.records.specs.Inner.Numbers.{chunk, tab}
 use Rattle.records.specs.declared.node.NodeRecord.{NodeRecord}
 use Rattle.records.specs.declared.op.OpRecord.{OpRecord}
 use Rattle.records.specs.declared.result.ResultRecord.{ResultRecord}
 use Rattle.records.proofs.Codecs.{Bytes, FitNode, FitOp, FitResult, fit-node, fit-op, fit-result}
-use Rattle.image.specs.Layout.{Region, place, recordAt, listedIn, blank, Sound, Canonical, View, view, nodeRegion, opRegion, resultRegion, imageOf}
+use Rattle.image.specs.Inner.Regions.{Region, place, recordAt, listedIn, blank, Sound, Canonical, view, nodeRegion, opRegion, resultRegion}
+use Rattle.image.specs.Layout.{View, imageOf}
 use Rattle.image.proofs.Parts.{next-place}
 use Rattle.image.proofs.Regions.{count-of}
 use Rattle.image.proofs.Whole.{chunk-bytes, image-is, Fit, view-is, image-sound, image-canonical}
-use Rattle.valid.specs.Values.{nodeOf, nodeRecord, resultOf, resultRecord, taggedOf, taggedRecord, flatOf, viewOf, encode, sessionOf}
-use Rattle.valid.specs.Exact.{Exact}
-use Rattle.valid.specs.Tests.{walk, nodeOk, opOk, resultOk, nodesOk, opsOk, resultsOk, addsAmong, opLabels, resultLabels, liveLabels, givenOnce}
+use Rattle.valid.specs.Inner.Decoded.{decodedNode, decodedResult, taggedOf, flatOf, sessionOf}
+use Rattle.valid.specs.Values.{nodeRecord, resultRecord, taggedRecord, viewOf, encode}
+use Rattle.valid.specs.Inner.Exact.{Exact}
+use Rattle.valid.specs.Inner.Tests.{walk, nodeOk, opOk, resultOk, nodesOk, opsOk, resultsOk, addsAmong, opLabels, resultLabels, liveLabels, givenOnce}
 use Rattle.valid.proofs.Decoding.{node-key, node-valid, node-there, node-ok, node-back, node-fit, result-over, result-valid, result-there, result-ok, result-back, result-fit, op-facts, op-passes, call-valid, op-there, op-labels-same, RecordGood, record-good, Small}
 use Rattle.valid.proofs.Counting.{Fresh, fresh-of, fresh-ok}
 use Rattle.valid.proofs.Facts.{ValidTagged, FlatValid, flat-valid, valid-flat}
@@ -78,12 +82,12 @@ module _ {A B : Type 0} (f : A → B) where
   map-back g P h (x ∷ xs) e = λ i. h x (e .0) i ∷ map-back g P h xs (e .1) i
 
 -- NODES
-keys-up : (i : ℕ) (rs : List NodeRecord) → Each FitNode rs → walk nodeOk (λ k r. k + 1) i rs ≡ true → KeysUp (suc i) (map nodeOf rs)
+keys-up : (i : ℕ) (rs : List NodeRecord) → Each FitNode rs → walk nodeOk (λ k r. k + 1) i rs ≡ true → KeysUp (suc i) (map decodedNode rs)
 unfolding walk
 keys-up i [] a e = tt
 keys-up i (r ∷ rs) a e = (
   node-key i r (a .0) (and-left _ _ e) ∙ add-one i,
-  subst (λ (k : ℕ). KeysUp (suc k) (map nodeOf rs)) (add-one i) (keys-up (i + 1) rs (a .1) (and-right (nodeOk i r) _ e)),
+  subst (λ (k : ℕ). KeysUp (suc k) (map decodedNode rs)) (add-one i) (keys-up (i + 1) rs (a .1) (and-right (nodeOk i r) _ e)),
 )
 
 nodes-pass : (i : ℕ) (ns : List Node) → KeysUp (suc i) ns → Each ValidNode ns → walk nodeOk (λ k r. k + 1) i (map nodeRecord ns) ≡ true
@@ -93,7 +97,7 @@ nodes-pass i (n ∷ ns) k v =
     rw (node-ok n (v .0) i (k .0 ∙ sym (add-one i))) (nodes-pass (i + 1) ns (subst (λ (m : ℕ). KeysUp (suc m) ns) (sym (add-one i)) (k .1)) (v .1))
 
 -- RESULTS
-results-rise : (prev : ℕ) (rs : List ResultRecord) → Each FitResult rs → walk resultOk (λ p r. r .label) prev rs ≡ true → above prev (labelsOfResults (map resultOf rs)) ≡ true
+results-rise : (prev : ℕ) (rs : List ResultRecord) → Each FitResult rs → walk resultOk (λ p r. r .label) prev rs ≡ true → above prev (labelsOfResults (map decodedResult rs)) ≡ true
 unfolding walk
 results-rise prev [] a e = refl
 results-rise prev (r ∷ rs) a e = rw (lt-ltb prev (r .label) (result-over prev r (a .0) (and-left _ _ e))) (results-rise (r .label) rs (a .1) (and-right (resultOk prev r) _ e))
@@ -139,7 +143,7 @@ labels-of n prev [] a e = refl
 labels-of n prev (o ∷ os) a e =
     ap₂ _++_ (sym (op-labels-same n prev o (a .0) (and-left _ _ e))) (labels-of n (o .station) os (a .1) (and-right (opOk n prev o) _ e))
 
-result-labels-of : (rs : List ResultRecord) → resultLabels rs ≡ labelsOfResults (map resultOf rs)
+result-labels-of : (rs : List ResultRecord) → resultLabels rs ≡ labelsOfResults (map decodedResult rs)
 unfolding resultLabels
 result-labels-of [] = refl
 result-labels-of (r ∷ rs) = ap (λ (l : List ℕ). r .label ∷ l) (result-labels-of rs)
@@ -166,8 +170,8 @@ module _ (s : List ℕ) (y : Bytes s) (p : Passes s) where
   results-fit : Each FitResult (view s .results)
   results-fit = region-fits resultRegion FitResult (λ bs b. fit-result bs b) (omega (arith, size)) (p .sound .results)
 
-  same-count : length (map nodeOf (view s .nodes)) ≡ length (view s .nodes)
-  same-count = length-map (view s .nodes) nodeOf
+  same-count : length (map decodedNode (view s .nodes)) ≡ length (view s .nodes)
+  same-count = length-map (view s .nodes) decodedNode
 
   live-of : liveLabels (view s) ≡ liveIn (flatOf (view s))
   live-of = ap₂ _++_ (labels-of (length (view s .nodes)) 0 (view s .ops) ops-fit (p .shown .ops)) (result-labels-of (view s .results))
@@ -177,12 +181,12 @@ module _ (s : List ℕ) (y : Bytes s) (p : Passes s) where
       let keep = leb (length (liveLabels (view s))) 64 in
       record {
         keys = keys-up 0 (view s .nodes) nodes-fit (p .shown .nodes);
-        nodes = walk-each nodeOk (λ k r. k + 1) nodeOf FitNode ValidNode (λ k r f e. node-valid k r f e) 0 (view s .nodes) nodes-fit (p .shown .nodes);
+        nodes = walk-each nodeOk (λ k r. k + 1) decodedNode FitNode ValidNode (λ k r f e. node-valid k r f e) 0 (view s .nodes) nodes-fit (p .shown .nodes);
         order = subst (λ (k : ℕ). ordered k 0 (map taggedOf (view s .ops)) ≡ true) (sym same-count) (in-order (length (view s .nodes)) 0 (view s .ops) (p .shown .ops));
         queue = walk-each (opOk (length (view s .nodes))) (λ q o. o .station) taggedOf FitOp ValidTagged (λ q o f e. call-valid (length (view s .nodes)) q o f e) 0 (view s .ops) ops-fit (p .shown .ops);
-        results = walk-each resultOk (λ q r. r .label) resultOf FitResult ValidResult (λ q r f e. result-valid q r f e) 0 (view s .results) results-fit (p .shown .results);
+        results = walk-each resultOk (λ q r. r .label) decodedResult FitResult ValidResult (λ q r f e. result-valid q r f e) 0 (view s .results) results-fit (p .shown .results);
         room = omega (arith, p .shown .room, same-count, adds-of (view s .ops));
-        rise = rising-above 0 (labelsOfResults (map resultOf (view s .results))) (results-rise 0 (view s .results) results-fit (p .shown .results));
+        rise = rising-above 0 (labelsOfResults (map decodedResult (view s .results))) (results-rise 0 (view s .results) results-fit (p .shown .results));
         fresh = subst (λ (ls : List ℕ). Fresh (view s .last) ls) live-of (fresh-of (view s .last) (liveLabels (view s)) (and-right keep _ (p .shown .live)));
         places = subst (λ (ls : List ℕ). length ls ≤ 64) live-of (leb-true (length (liveLabels (view s))) 64 (and-left _ _ (p .shown .live)));
         labels = omega (arith, y 4, y 5);
@@ -190,16 +194,16 @@ module _ (s : List ℕ) (y : Bytes s) (p : Passes s) where
 
   formed : Formed (flatOf (view s))
   formed =
-      let few : length (map nodeOf (view s .nodes)) ≤ 64 = omega (arith, same-count, p .sound .nodes) in
-      record { room = few; keys = shown-valid .keys; line = order-line (length (map nodeOf (view s .nodes))) (map taggedOf (view s .ops)) few (shown-valid .order) }
+      let few : length (map decodedNode (view s .nodes)) ≤ 64 = omega (arith, same-count, p .sound .nodes) in
+      record { room = few; keys = shown-valid .keys; line = order-line (length (map decodedNode (view s .nodes))) (map taggedOf (view s .ops)) few (shown-valid .order) }
 
   shown-back : viewOf (flatOf (view s)) ≡ view s
   shown-back =
       λ i.
       record {
-        nodes = walk-there nodeOk (λ k r. k + 1) nodeOf FitNode nodeRecord (λ k r f e. node-there k r f e) 0 (view s .nodes) nodes-fit (p .shown .nodes) i;
+        nodes = walk-there nodeOk (λ k r. k + 1) decodedNode FitNode nodeRecord (λ k r f e. node-there k r f e) 0 (view s .nodes) nodes-fit (p .shown .nodes) i;
         ops = walk-there (opOk (length (view s .nodes))) (λ q o. o .station) taggedOf FitOp taggedRecord (λ q o f e. op-there (length (view s .nodes)) q o f e) 0 (view s .ops) ops-fit (p .shown .ops) i;
-        results = walk-there resultOk (λ q r. r .label) resultOf FitResult resultRecord (λ q r f e. result-there q r f e) 0 (view s .results) results-fit (p .shown .results) i;
+        results = walk-there resultOk (λ q r. r .label) decodedResult FitResult resultRecord (λ q r f e. result-there q r f e) 0 (view s .results) results-fit (p .shown .results) i;
         last = view s .last;
       }
 
@@ -247,9 +251,9 @@ module _ (f : Flat) (v : FlatValid f) where
   back =
       λ i.
       record {
-        nodes = map-back nodeRecord nodeOf ValidNode (λ n h. node-back n h) (f .nodes) (v .nodes) i;
+        nodes = map-back nodeRecord decodedNode ValidNode (λ n h. node-back n h) (f .nodes) (v .nodes) i;
         queue = map-back taggedRecord taggedOf ValidTagged (λ x h. record-good (x .place) (x .opens) (x .call) h .back) (f .queue) (v .queue) i;
-        results = map-back resultRecord resultOf ValidResult (λ r h. result-back r h) (f .results) (v .results) i;
+        results = map-back resultRecord decodedResult ValidResult (λ r h. result-back r h) (f .results) (v .results) i;
         last = f .last;
       }
 

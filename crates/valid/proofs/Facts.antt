@@ -10,14 +10,16 @@ use Rattle.graph.specs.KeyLists.{isNil, rising}
 use Rattle.graph.specs.Nodes.{Op}
 use Rattle.graph.specs.OneAtATime.{Labelled}
 use Rattle.graph.specs.Sessions.{Station, Session, live, labelsOfResults}
-use Rattle.graph.specs.Valid.{Each, ValidNode, ValidOp, ValidUnit, ValidStation, ValidCall, ValidResult, KeysFall, Valid}
+use Rattle.graph.specs.Valid.{Each, ValidNode, ValidOp, ValidUnit, ValidStation, ValidCall, ValidResult, Valid}
 use Rattle.graph.proofs.Labels.{stray, given-stray, stray-given}
 use Rattle.graph.proofs.Limits.{each-append, each-left, each-right}
-use Rattle.queue.specs.Flat.{Tagged, Flat, tagUnit, tagUnits, queueOf, nodesOf, waiting, flat, ordered, Full, Keyed, addsQueued, liveIn}
-use Rattle.queue.proofs.Places.{length-nodes}
-use Rattle.queue.proofs.Elements.{each-queued}
-use Rattle.queue.proofs.Labels.{live-same, live-count, live-length, adds-same}
-use Rattle.queue.proofs.Nesting.{KeysUp, Formed, formed-flat, line-order, keyed-stations}
+use Rattle.flat.specs.Flat.{Tagged, Flat, tagUnit, tagUnits, queueOf, nodesOf, waiting, flat}
+use Rattle.flat.specs.Inner.Queues.{ordered, addsQueued, liveIn}
+use Rattle.flat.specs.Inner.Nested.{Full, Keyed}
+use Rattle.flat.proofs.Places.{length-nodes}
+use Rattle.flat.proofs.Elements.{each-queued}
+use Rattle.flat.proofs.Labels.{live-same, live-count, live-length, adds-same}
+use Rattle.flat.proofs.Nesting.{KeysUp, Formed, formed-flat, line-order, keyed-stations}
 use Rattle.valid.proofs.Counting.{Fresh}
 
 abbrev pub ValidTagged : Tagged → Type 0
@@ -86,12 +88,8 @@ valid-stations (s ∷ ss) K n q =
         node = each-right ValidNode (nodesOf ss) (s .node ∷ []) n .0;
         units = calls-units k (s .units) (K .1 .0) (each-right ValidTagged (queueOf ss) (tagUnits k (s .units)) q);
       },
-      valid-stations ss (K .1 .1) (each-left ValidNode (nodesOf ss) (s .node ∷ []) n) (each-left ValidTagged (queueOf ss) (tagUnits k (s .units)) q),
+      valid-stations ss (K .0 .1, K .1 .1) (each-left ValidNode (nodesOf ss) (s .node ∷ []) n) (each-left ValidTagged (queueOf ss) (tagUnits k (s .units)) q),
     )
-
-keys-fall : (ss : List Station) → Keyed ss → KeysFall ss
-keys-fall [] K = tt
-keys-fall (s ∷ ss) K = (K .0, keys-fall ss (K .1 .1))
 
 calls-waiting : (cs : List Labelled) → Each ValidTagged (waiting cs) → Each ValidCall cs
 calls-waiting [] h = tt
@@ -100,7 +98,7 @@ calls-waiting (c ∷ cs) h = (h .0, calls-waiting cs (h .1))
 pub valid-flat : (s : Session) → Keyed (s .stations) → FlatValid (flat s) → Valid s
 valid-flat s K f =
     record {
-      falling = keys-fall (s .stations) K;
+      falling = K .0;
       stations = valid-stations (s .stations) K (f .nodes) (each-left ValidTagged (queueOf (s .stations)) (waiting (s .topStream)) (f .queue));
       topStream = calls-waiting (s .topStream) (each-right ValidTagged (queueOf (s .stations)) (waiting (s .topStream)) (f .queue));
       results = f .results;

@@ -7,10 +7,10 @@ use mathlib.Core.Bool.{Bool, true, false, not}
 use mathlib.Core.List.{List}
 use lib.ListN.{length, getD, take, drop}
 use borrow.Author.Tests.{not-true, not-false}
-use Rattle.records.specs.Bytes.{chunk}
-use Rattle.image.specs.Layout.{Region, place, recordAt, listedIn, blank}
+use Rattle.records.specs.Inner.Numbers.{chunk}
+use Rattle.image.specs.Inner.Regions.{Region, place, recordAt, listedIn, blank}
 use Rattle.image.proofs.Regions.{record-of}
-use Rattle.valid.specs.Tests.{walk}
+use Rattle.valid.specs.Inner.Tests.{walk}
 use Rattle.valid.proofs.Turns.{walk-next, walk-not}
 
 -- as a slice from `at` on has it

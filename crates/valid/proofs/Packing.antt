@@ -1,7 +1,7 @@
 -- Key lists and label lists in their structs: what the tests say of them.
 -- Assumes nothing.
 use mathlib.Core.Path.{_≡_, refl, sym, ap, subst, _∙_}
-use Prim.Native.Nat.{ℕ, zero, suc, _+_, _-_, _≤_, _<_}
+use Prim.Native.Nat.{ℕ, zero, suc, _-_, _≤_, _<_}
 use native.Mathlib.Nat.{not-suc-le-zero, le-of-suc-le-suc}
 use native.Mathlib.Omega.{arith}
 use mathlib.Core.Bool.{Bool, true, false, _&&_, true≢false}
@@ -11,21 +11,22 @@ use lib.ListN.{length, take, drop, replicate, length-append, length-replicate, l
 use lib.Seq.{length-take-le, take-append-seam, drop-append-seam}
 use borrow.Author.Tests.{eqb-true, ltb-true, leb-true, lt-ltb, le-leb}
 use Rattle.graph.specs.declared.keys.Keys.{Keys}
-use Rattle.graph.specs.KeyLists.{above, rising}
+use Rattle.graph.specs.KeyLists.{isKey, areKeys, above, rising}
 use Rattle.graph.specs.Packed.{listed, packed}
-use Rattle.graph.specs.Valid.{Each, Key}
-use Rattle.graph.proofs.Answers.{and-left, and-right}
+use Rattle.graph.proofs.Answers.{and-left, and-right, and-both}
+use Rattle.graph.proofs.KeyLaws.{key-low}
 use Rattle.graph.proofs.Limits.{rising-above}
 use Rattle.records.specs.declared.labels.Labels.{Labels}
-use Rattle.records.specs.Bytes.{allZero}
+use Rattle.records.specs.Inner.Numbers.{allZero}
 use Rattle.records.proofs.Codecs.{FitKeys, FitLabels}
-use Rattle.valid.specs.Values.{labelsOf, packedLabels}
-use Rattle.valid.specs.Tests.{keyAbove, floorAfter, keyPlaces, keysOk, labelsOk}
+use Rattle.valid.specs.Inner.Decoded.{labelsOf}
+use Rattle.valid.specs.Values.{packedLabels}
+use Rattle.valid.specs.Inner.Tests.{keyAbove, floorAfter, keyPlaces, keysOk, labelsOk}
 
 -- KEYS
 pub record KeysGood (rise : Bool) (ts : List ℕ) : Type 0 where
   pub few : length ts ≤ 8
-  pub keys : Each Key ts
+  pub keys : areKeys ts ≡ true
   pub rises : rise ≡ true → rising ts ≡ true
 
 all-zero-places : (rise : Bool) (low : ℕ) (xs : List ℕ) → keyPlaces rise zero low xs ≡ true → xs ≡ replicate (length xs) 0
@@ -34,7 +35,7 @@ all-zero-places rise low [] e = refl
 all-zero-places rise low (x ∷ xs) e = λ i. eqb-true x 0 (and-left _ _ e) i ∷ all-zero-places rise low xs (and-right (eqb x 0) _ e) i
 
 record Places (rise : Bool) (n low : ℕ) (xs : List ℕ) : Type 0 where
-  keys : Each Key (take n xs)
+  keys : areKeys (take n xs) ≡ true
   over : rise ≡ true → above low (take n xs) ≡ true
   rest : xs ≡ take n xs ++ replicate (length xs - n) 0
 
@@ -42,15 +43,15 @@ places : (rise : Bool) (n low : ℕ) (xs : List ℕ) → n ≤ length xs → key
 unfolding keyPlaces
 places rise zero low xs h e =
     let q : length xs ≡ length xs - 0 = omega arith in
-    record { keys = tt; over = λ r. refl; rest = all-zero-places rise low xs e ∙ ap (λ (k : ℕ). replicate k 0) q }
+    record { keys = refl; over = λ r. refl; rest = all-zero-places rise low xs e ∙ ap (λ (k : ℕ). replicate k 0) q }
 places rise (suc n) low [] h e = absurd (not-suc-le-zero h)
 places rise (suc n) low (x ∷ xs) h e =
     let r : Places rise n (floorAfter rise x) xs = places rise n (floorAfter rise x) xs (le-of-suc-le-suc h) (and-right (keyAbove low x) _ e) in
     let lo : low < x = ltb-true low x (and-left _ _ (and-left _ _ e)) in
-    let hi : x ≤ 64 = leb-true x 64 (and-right (ltb low x) _ (and-left _ _ e)) in
+    let hi : leb x 64 ≡ true = and-right (ltb low x) _ (and-left _ _ e) in
     let q : length xs - n ≡ suc (length xs) - suc n = omega arith in
     record {
-      keys = ((omega arith, hi), r .keys);
+      keys = and-both (and-both (le-leb 1 x (omega arith)) hi) (r .keys);
       over = λ b. rw (lt-ltb low x lo) (subst (λ (c : Bool). above (floorAfter c x) (take n xs) ≡ true) b (r .over b));
       rest = ap (λ (l : List ℕ). x ∷ l) (r .rest ∙ ap (λ (k : ℕ). take n xs ++ replicate k 0) q);
     }
@@ -76,20 +77,26 @@ module _ (rise : Bool) (ks : Keys) (f : FitKeys ks) (e : keysOk rise ks ≡ true
       let q : length (ks .key) - ks .count ≡ 8 - length (listed ks) = omega (arith, f .places, listed-length) in
       λ i. record { count = listed-length i; key = sym (key-places .rest ∙ ap (λ (k : ℕ). listed ks ++ replicate k 0) q) i }
 
-places-back : (rise : Bool) (low m : ℕ) (ts : List ℕ) → Each Key ts → (rise ≡ true → above low ts ≡ true) → (rise ≡ false → low ≡ 0) → keyPlaces rise (length ts) low (ts ++ replicate m 0) ≡ true
+places-back : (rise : Bool) (low m : ℕ) (ts : List ℕ) → areKeys ts ≡ true → (rise ≡ true → above low ts ≡ true) → (rise ≡ false → low ≡ 0) → keyPlaces rise (length ts) low (ts ++ replicate m 0) ≡ true
 unfolding keyPlaces
 places-back rise low zero [] k a z = refl
 places-back rise low (suc m) [] k a z = places-back rise low m [] k a z
-places-back rise low m (t ∷ ts) k a z = go rise refl (places-back rise (floorAfter rise t) m ts (k .1))
+places-back rise low m (t ∷ ts) k a z = go rise refl (places-back rise (floorAfter rise t) m ts (and-right (isKey t) _ k))
   where
+    high : leb t 64 ≡ true
+    high = and-right (leb 1 t) (leb t 64) (and-left (isKey t) (areKeys ts) k)
+
+    low-key : 1 ≤ t
+    low-key = key-low t (and-left (isKey t) (areKeys ts) k)
+
     go : (b : Bool) → rise ≡ b → ((rise ≡ true → above (floorAfter rise t) ts ≡ true) → (rise ≡ false → floorAfter rise t ≡ 0) → keyPlaces rise (length ts) (floorAfter rise t) (ts ++ replicate m 0) ≡ true)
         → (keyAbove low t && keyPlaces rise (length ts) (floorAfter rise t) (ts ++ replicate m 0)) ≡ true
-    go true q ih = rw (and-left (ltb low t) _ (a q), le-leb t 64 (k .0 .1)) (ih (λ r. rw q (and-right (ltb low t) _ (a q))) (λ r. absurd (true≢false (sym q ∙ r))))
-    go false q ih = rw (lt-ltb low t (omega (arith, z q, k .0 .0)), le-leb t 64 (k .0 .1)) (ih (λ r. absurd (true≢false (sym r ∙ q))) (λ r. rw q))
+    go true q ih = rw (and-left (ltb low t) _ (a q), high) (ih (λ r. rw q (and-right (ltb low t) _ (a q))) (λ r. absurd (true≢false (sym q ∙ r))))
+    go false q ih = rw (lt-ltb low t (omega (arith, z q, low-key)), high) (ih (λ r. absurd (true≢false (sym r ∙ q))) (λ r. rw q))
 
-above-of : (ts : List ℕ) → Each Key ts → rising ts ≡ true → above 0 ts ≡ true
+above-of : (ts : List ℕ) → areKeys ts ≡ true → rising ts ≡ true → above 0 ts ≡ true
 above-of [] k e = refl
-above-of (t ∷ ts) k e = rw (lt-ltb 0 t (k .0 .0)) e
+above-of (t ∷ ts) k e = rw (lt-ltb 0 t (key-low t (and-left _ _ k))) e
 
 module _ (rise : Bool) (ts : List ℕ) (g : KeysGood rise ts) where
   pub packed-ok : keysOk rise (packed ts) ≡ true

@@ -14,8 +14,8 @@ use Rattle.graph.specs.KeyLists.{contains}
 use Rattle.graph.proofs.Answers.{and-right}
 use Rattle.records.specs.declared.op.OpRecord.{OpRecord}
 use Rattle.records.specs.declared.result.ResultRecord.{ResultRecord}
-use Rattle.valid.specs.Values.{labelsOf}
-use Rattle.valid.specs.Tests.{walk, isAdd, addsAmong, opLabels, resultLabels, givenOnce, Gathers, Padded}
+use Rattle.valid.specs.Inner.Decoded.{labelsOf}
+use Rattle.valid.specs.Inner.Tests.{walk, isAddRecord, addsAmong, opLabels, resultLabels, givenOnce, Gathers, Padded}
 
 -- TESTS one after the other
 abbrev pub allOf : List Bool → Bool
@@ -53,7 +53,7 @@ module _ {S A : Type 0} (ok : S → A → Bool) (next : S → A → S) (xs : Lis
 
 -- ADDS
 module _ (os : List OpRecord) (d : OpRecord) (i : ℕ) where
-  pub adds-next : (b : Bool) → i < length os → isAdd (getD os i d) ≡ b → addsAmong (drop i os) ≡ cond b 1 0 + addsAmong (drop (i + 1) os)
+  pub adds-next : (b : Bool) → i < length os → isAddRecord (getD os i d) ≡ b → addsAmong (drop i os) ≡ cond b 1 0 + addsAmong (drop (i + 1) os)
   unfolding addsAmong
   adds-next b h e = rw (drop-cons os i d h, e, add-one)
 

@@ -11,13 +11,15 @@ use lib.Seq.{getD-take, getD-drop, ext-getD}
 use Rattle.graph.specs.Sessions.{fresh}
 use Rattle.text.specs.Text.{pasted}
 use Rattle.records.specs.declared.head.Head.{Head}
-use Rattle.records.specs.Bytes.{allZero}
+use Rattle.records.specs.Inner.Numbers.{allZero}
 use Rattle.records.specs.Records.{encodeHead}
 use Rattle.records.proofs.Zeros.{zeros, all-zeros}
-use Rattle.image.specs.Layout.{Sound, Zeros, Cleared, nodeRegion, opRegion, resultRegion, imageOf}
+use Rattle.image.specs.Inner.Regions.{Sound, Zeros, nodeRegion, opRegion, resultRegion}
+use Rattle.image.specs.Inner.Moves.{Zeroed}
+use Rattle.image.specs.Layout.{imageOf}
 use Rattle.image.proofs.Regions.{count-of}
 use Rattle.valid.specs.Values.{encode}
-use Rattle.valid.specs.Exact.{Decides}
+use Rattle.valid.specs.Inner.Exact.{Decides}
 
 module _ (s : List ℕ) where
   pub sound-of : length s ≡ 4112 → getD s 1 0 ≤ 64 → getD s 2 0 ≤ 64 → getD s 3 0 ≤ 64 → Sound s
@@ -51,7 +53,7 @@ fresh-bytes =
     ap (λ (l : List ℕ). encodeHead freshHead ++ (replicate 1024 0 ++ l)) (replicate-append-replicate 2048 1024 0)
     ∙ ap (λ (l : List ℕ). encodeHead freshHead ++ l) (replicate-append-replicate 1024 3072 0)
 
-pub opened : (s t : List ℕ) → length s ≡ 4112 → Cleared 16 4112 s t → pasted t 0 (encodeHead freshHead) ≡ encode fresh
+pub opened : (s t : List ℕ) → length s ≡ 4112 → Zeroed 16 4112 s t → pasted t 0 (encodeHead freshHead) ≡ encode fresh
 unfolding pasted encodeHead
 opened s t h c =
     ap (λ (l : List ℕ). encodeHead freshHead ++ l) (ext-getD 0 (drop 16 t) (replicate 4096 0) (omega (arith, length-drop 16 t, c .size, length-replicate {A = ℕ} 4096 0)) go)

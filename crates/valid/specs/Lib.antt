@@ -1,3 +1,2 @@
 pub mod Values
-pub mod Tests
-pub mod Exact
+pub mod Inner

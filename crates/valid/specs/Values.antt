@@ -1,59 +1,31 @@
--- What the records of an image stand for (docs/IMAGE.md), the image of a session, and the session of an image.
+-- The image of a session: the record of each node, operation and result (docs/IMAGE.md), and their bytes.
 -- Assumes nothing.
 use Prim.Native.Nat.{ℕ, _-_}
 use mathlib.Core.Bool.{Bool, cond}
 use mathlib.Core.List.{List, [], _∷_, _++_, map}
-use lib.Dec.{eqb}
-use lib.ListN.{length, getD, take, replicate}
+use lib.ListN.{length, replicate}
 use Rattle.graph.specs.declared.act.Act.{Act}
 use Rattle.graph.specs.declared.act.Act.the-variants.{Map, Link, Unlink, Sum, Top, Pick, Near}
-use Rattle.graph.specs.Packed.{listed, packed}
+use Rattle.graph.specs.Packed.{packed}
 use Rattle.graph.specs.Nodes.{Node, Result}
 use Rattle.graph.specs.OneAtATime.{Labelled, addOf, opOf}
 use Rattle.graph.specs.Sessions.{Session}
-use Rattle.queue.specs.Flat.{Tagged, Flat, flat, nest}
+use Rattle.flat.specs.Flat.{Tagged, Flat, flat}
 use Rattle.records.specs.declared.labels.Labels.{Labels}
 use Rattle.records.specs.declared.node.NodeRecord.{NodeRecord}
 use Rattle.records.specs.declared.op.OpRecord.{OpRecord}
 use Rattle.records.specs.declared.result.ResultRecord.{ResultRecord}
-use Rattle.image.specs.Layout.{View, view, imageOf}
-
--- NODES AND RESULTS
-abbrev pub nodeOf : NodeRecord → Node
-nodeOf r = record { key = r .key; value = r .value; links = listed (r .links) }
+use Rattle.image.specs.Layout.{View, imageOf}
 
 abbrev pub nodeRecord : Node → NodeRecord
 nodeRecord n = record { value = n .value; key = n .key; links = packed (n .links); spare = 0 }
 
-abbrev pub resultOf : ResultRecord → Result
-resultOf r = record { label = r .label; value = r .value; left = listed (r .left) }
-
 abbrev pub resultRecord : Result → ResultRecord
 resultRecord r = record { label = r .label; value = r .value; left = packed (r .left); spare = 0 }
 
--- LABELS: those listed, and the struct of a list of at most four, zeros after them
-abbrev pub labelsOf : Labels → List ℕ
-labelsOf l = take (l .count) (l .label)
-
+-- the struct of a list of at most four labels, zeros after them
 unfoldable pub packedLabels : List ℕ → Labels
 packedLabels ls = record { count = length ls; label = ls ++ replicate (4 - length ls) 0 }
-
--- OPERATIONS. The act of each kind, 0, 1, 2, ..; an add, kind 0, has none
-abbrev pub actOf : ℕ → ℕ → ℕ → ℕ → Act
-actOf kind key a b = getD (Sum ∷ Map (record { a = a; b = b }) ∷ Link key ∷ Unlink key ∷ Sum ∷ Top ∷ Pick ∷ Near key ∷ []) kind Sum
-
--- a map's `b` is a number of its own; any other act holds it
-abbrev pub heldOf : ℕ → ℕ → ℕ
-heldOf kind b = cond (eqb kind 1) 0 b
-
-abbrev pub callOf : OpRecord → Labelled
-callOf o =
-    cond (eqb (o .kind) 0)
-    (addOf (getD (o .labels .label) 0 0) (o .b))
-    (opOf (record { act = actOf (o .kind) (o .key) (o .a) (o .b); held = heldOf (o .kind) (o .b); targets = listed (o .targets); labels = labelsOf (o .labels) }))
-
-abbrev pub taggedOf : OpRecord → Tagged
-taggedOf o = record { place = o .station; opens = eqb (o .opens) 1; call = callOf o }
 
 -- the fields of an act's record: its kind, its operand key, `a` and `b`
 pub record Fields : Type 0 where
@@ -95,17 +67,9 @@ callRecord p opens (opOf o) = opRecord p opens (fieldsOf (o .act) (o .held)) (o 
 abbrev pub taggedRecord : Tagged → OpRecord
 taggedRecord x = callRecord (x .place) (x .opens) (x .call)
 
--- WHOLE SESSIONS
-abbrev pub flatOf : View → Flat
-flatOf v = record { nodes = map nodeOf (v .nodes); queue = map taggedOf (v .ops); results = map resultOf (v .results); last = v .last }
-
 abbrev pub viewOf : Flat → View
 viewOf f = record { nodes = map nodeRecord (f .nodes); ops = map taggedRecord (f .queue); results = map resultRecord (f .results); last = f .last }
 
 -- the image of a session
 unfoldable pub encode : Session → List ℕ
 encode s = imageOf (viewOf (flat s))
-
--- the session of an image
-unfoldable pub sessionOf : List ℕ → Session
-sessionOf bytes = nest (flatOf (view bytes))

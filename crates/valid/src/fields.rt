@@ -4,9 +4,9 @@ ghost use mathlib.Core.Path.{_≡_};
 ghost use mathlib.Core.Bool.{cond};
 ghost use Prim.Native.Nat.{_+_, _*_, _%_, _^_, _≤_};
 ghost use lib.ListN.{length};
-ghost use Rattle.records.specs.Bytes.{keysAt};
-ghost use Rattle.records.specs.Records.{labelsAt};
-ghost use Rattle.valid.specs.Tests.{keysOk, labelsOk, takesKey, operandOk, numbersOk, mostOf, targetsOk};
+ghost use Rattle.records.specs.Inner.Numbers.{keysAt};
+ghost use Rattle.records.specs.Inner.Decoded.{labelsAt};
+ghost use Rattle.valid.specs.Inner.Tests.{keysOk, labelsOk, takesKey, operandOk, numbersOk, mostOf, targetsOk};
 
 // The greatest number of n bytes.
 fn most_in(n: u8) -> u64

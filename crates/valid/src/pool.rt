@@ -12,9 +12,9 @@ ghost use Prim.Native.Nat.{_+_, _≤_};
 ghost use lib.Dec.{eqb, leb};
 ghost use lib.ListN.{length, take, drop, replicate};
 ghost use Rattle.graph.specs.KeyLists.{contains};
-ghost use Rattle.image.specs.Layout.{Sound, view};
-ghost use Rattle.valid.specs.Values.{labelsOf};
-ghost use Rattle.valid.specs.Tests.{four, opLabels, resultLabels, liveLabels, givenOnce, Gathers, Padded};
+ghost use Rattle.image.specs.Inner.Regions.{Sound, view};
+ghost use Rattle.valid.specs.Inner.Decoded.{labelsOf};
+ghost use Rattle.valid.specs.Inner.Tests.{four, opLabels, resultLabels, liveLabels, givenOnce, Gathers, Padded};
 
 fn at_most_four(n: u8) -> usize
     ensures { λ r. ⌜ (r ≡ four n) × (r ≤ 4) ⌝ }

@@ -19,11 +19,11 @@ ghost use mathlib.Core.Bool.{_&&_};
 ghost use Prim.Native.Nat.{_+_, _<_};
 ghost use lib.Dec.{leb};
 ghost use lib.ListN.{length};
-ghost use Rattle.image.specs.Layout.{Sound, view};
-ghost use Rattle.queue.specs.Flat.{placed, follows};
-ghost use Rattle.records.specs.Records.{decodeNode, decodeOp, decodeResult};
-ghost use Rattle.valid.specs.Values.{taggedOf};
-ghost use Rattle.valid.specs.Tests.{nodeOk, opOk, resultOk, nodesOk, opsOk, resultsOk, addsAmong};
+ghost use Rattle.image.specs.Inner.Regions.{Sound, view};
+ghost use Rattle.flat.specs.Inner.Queues.{placed, follows};
+ghost use Rattle.records.specs.Inner.Decoded.{decodeNode, decodeOp, decodeResult};
+ghost use Rattle.valid.specs.Inner.Decoded.{taggedOf};
+ghost use Rattle.valid.specs.Inner.Tests.{nodeOk, opOk, resultOk, nodesOk, opsOk, resultsOk, addsAmong};
 
 // The keys are compared as bytes: as places, the key that was read would become the next place, and each read would wait for the one before.
 fn node_ok(i: usize, r: &[u8]) -> bool

@@ -9,7 +9,7 @@ use image::shift::clear;
 use records::head::Head;
 use records::head::head_bytes;
 use text::put::put_bytes;
-ghost use Rattle.valid.specs.Exact.{Exact, Opened};
+ghost use Rattle.valid.specs.Inner.Exact.{Exact, Opened};
 
 // Whether the bytes are the image of a valid session: where they are not, that is refusal 2 (a wrong length is refusal 1).
 pub fn image_valid(image: &[u8]) -> bool

@@ -3,8 +3,8 @@ use image::read::node_count;
 use image::read::op_count;
 use image::read::result_count;
 use records::bytes::all_zero;
-ghost use Rattle.image.specs.Layout.{Sound, Canonical};
-ghost use Rattle.valid.specs.Exact.{Decides};
+ghost use Rattle.image.specs.Inner.Regions.{Sound, Canonical};
+ghost use Rattle.valid.specs.Inner.Exact.{Decides};
 
 pub fn is_sound(image: &[u8]) -> bool
     ensures { λ r. ⌜ Decides (Sound (now (image .entry))) r ⌝ }

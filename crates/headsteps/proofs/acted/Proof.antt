@@ -5,7 +5,7 @@ use Rattle.graph.specs.KeyLists.{strike}
 use Rattle.graph.specs.OneAtATime.{opOf}
 use Rattle.graph.specs.Packed.{listed}
 use Rattle.graph.proofs.KeyLaws.{listed-packed, normal}
-use Rattle.valid.specs.Values.{labelsOf}
+use Rattle.valid.specs.Inner.Decoded.{labelsOf}
 use Rattle.headsteps.proofs.Parts.{map-holds}
 use borrow.Author.Needs.{needs}
 use Rattle.headsteps.proofs.acted.Statement.{statement}

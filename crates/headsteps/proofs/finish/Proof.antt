@@ -1,44 +1,70 @@
 -- The one found goes.
 -- Assumes nothing.
-use mathlib.Core.Path.{refl, sym, _∙_}
+use mathlib.Core.Path.{_≡_, refl, sym, ap, _∙_}
+use Rattle.graph.specs.Refusals.{done}
 use Rattle.graph.specs.declared.task.Task.the-variants.{Finishes}
-use Rattle.worksteps.specs.FlatSteps.{leaveFlat}
-use Rattle.state.specs.State.{held}
-use Rattle.live.proofs.Working.{works-refused, works-done}
+use Rattle.flat.specs.Inner.FlatSteps.{leaveFlat}
+use Rattle.state.specs.Inner.State.{flatIn}
+use Rattle.state.proofs.Working.{works-refused, works-done}
+use Rattle.units.specs.Inner.Numbered.{Span, spotted}
+use Rattle.headsteps.specs.Inner.Heads.{locateFirst}
 use Rattle.headsteps.proofs.Heads.{first-no, first-yes, found-op}
 use borrow.Author.Needs.{needs}
 use Rattle.headsteps.proofs.finish.Statement.{statement}
 use Rattle.headsteps.proofs.finish.Tie as tie
 
 first-in-head-requires : tie.Need-first-in-head-requires
-first-in-head-requires c κs = c .before .before .pre .proper
+first-in-head-requires c κs = c .before .before .pre
+
+enum-known-n : tie.Need-enum-known-n
+enum-known-n c = search needs
+
+enum-known-p : tie.Need-enum-known-p
+enum-known-p c = search needs
+
+-- what was found
+module _ (a : tie.After-known-told2) where
+  abbrev start : tie.Start
+  start = a .before .before .before .before .before .before
+
+  abbrev span : Span
+  span = record { start = a .before .p .given .0 .0; end = a .before .p .given .0 .1 .0 }
+
+  there : locateFirst Finishes (start .args .k) (flatIn (start .args .image .now)) ≡ done span
+  there = a .before .before .before .first-in-head .ensures ∙ ap spotted (a .before .p .given .1)
+
+finish-at-requires : tie.Need-finish-at-requires
+finish-at-requires c κs =
+    let s = start (c .before) in
+    let w = found-op (s .args .image .now) (s .pre) Finishes (s .args .k) (span (c .before)) (there (c .before)) in
+    (s .pre, w .inside, w .fits, w .op)
 
 same-length : tie.Need-same-length
 same-length c = search needs
 
 returns : tie.Need-returns
 returns c =
-    let s = c .before .before .before .before .before in
-    let u = c .before .before .first-in-head in
-    works-refused (first-no Finishes (s .args .k) (held (s .args .image .now)) (u .result) (u .ensures) leaveFlat (c .if1 .taken)) refl
-
-finish-at-requires : tie.Need-finish-at-requires
-finish-at-requires c κs =
     let s = c .before .before .before .before .before .before in
-    let u = c .before .before .before .first-in-head in
-    let w = found-op (s .args .image .now) (s .pre) Finishes (s .args .k) (u .result) (u .ensures) (c .before .if1 .left) in
-    (s .pre, w .inside, w .fits, w .op)
+    works-refused (first-no Finishes (s .args .k) (flatIn (s .args .image .now)) leaveFlat (c .before .before .before .first-in-head .ensures ∙ ap spotted (c .before .n .given .1))) refl
 
 same-length-2 : tie.Need-same-length-2
-same-length-2 c = c .before .before .finish-at .ensures .proper .sound .size ∙ sym (c .before .before .before .before .before .before .before .before .before .pre .proper .sound .size)
+same-length-2 c = c .before .before .finish-at .ensures .proper .sound .size ∙ sym (start (c .before .before .before .before) .pre .proper .sound .size)
 
 returns-2 : tie.Need-returns-2
 returns-2 c =
-    let s = c .before .before .before .before .before .before .before .before .before in
-    let u = c .before .before .before .before .before .before .first-in-head in
-    works-done (first-yes Finishes (s .args .k) (held (s .args .image .now)) (u .result) (u .ensures) leaveFlat (c .before .before .before .before .if1 .left)) (c .before .before .finish-at .ensures)
+    let a = c .before .before .before .before in
+    let s = start a in
+    works-done (first-yes Finishes (s .args .k) (flatIn (s .args .image .now)) leaveFlat (there a)) (c .before .before .finish-at .ensures)
 
 pub finish-spec : {M : Type 1} → statement M
 finish-spec =
     tie.close
-    (tie.spec first-in-head-requires same-length returns finish-at-requires same-length-2 returns-2)
+    (tie.spec
+    first-in-head-requires
+    enum-known-n
+    enum-known-p
+    finish-at-requires
+    same-length
+    returns
+    same-length-2
+    returns-2)

@@ -2,8 +2,8 @@
 -- Assumes nothing.
 use mathlib.Core.Path.{sym, ap, _∙_}
 use lib.ListN.{length}
-use Rattle.queue.specs.Flat.{Flat}
-use Rattle.state.specs.State.{held}
+use Rattle.flat.specs.Flat.{Flat}
+use Rattle.state.specs.Inner.State.{flatIn}
 use Rattle.headsteps.proofs.Parts.{room-for, finish-shown}
 use borrow.Author.Needs.{needs}
 use native.Mathlib.Omega.{arith}
@@ -34,7 +34,7 @@ returns : tie.Need-returns
 returns c =
     let a = c .before .before .before .before .before .before .before .before .before .before .before .before .before .before in
     let o = c .before .before .before .before .before .before .before .before .before .before .before .operation-at in
-    finish-shown (held (a .args .image .now)) (a .args .p) (a .args .e) (o .result) _ _ _ (o .ensures) (c .before .before .before .before .before .before .answer .ensures) (c .before .before .before .before .before .before .before .before .before .take-out .ensures) (c .before .before .store-all .ensures)
+    finish-shown (flatIn (a .args .image .now)) (a .args .p) (a .args .e) (o .result) _ _ _ (o .ensures) (c .before .before .before .before .before .before .answer .ensures) (c .before .before .before .before .before .before .before .before .before .take-out .ensures) (c .before .before .store-all .ensures)
 
 pub finish-at-spec : {M : Type 1} → statement M
 finish-at-spec =

@@ -2,9 +2,9 @@
 -- Assumes nothing.
 use mathlib.Core.Path.{sym, ap, _∙_}
 use lib.ListN.{getD}
-use Rattle.worksteps.specs.FlatSteps.{noOp, withQueue}
+use Rattle.flat.specs.Inner.FlatSteps.{noOp, withQueue}
 use Rattle.state.proofs.QueueHeld.{shown-as}
-use Rattle.state.specs.State.{held}
+use Rattle.state.specs.Inner.State.{flatIn}
 use Rattle.headsteps.proofs.Parts.{hand-none, hand-next}
 use borrow.Author.Needs.{needs}
 use native.Mathlib.Omega.{arith}
@@ -17,7 +17,7 @@ add-next c = search needs
 returns : tie.Need-returns
 returns c =
     let a = c .before .before in
-    record { proper = a .pre .0; shows = ap (withQueue (held (a .args .image .now))) (sym (hand-none (a .args .p) (a .args .e) (getD (held (a .args .image .now) .queue) (a .args .p) noOp) (held (a .args .image .now) .queue) (c .if1 .taken))) }
+    record { proper = a .pre .0; shows = ap (withQueue (flatIn (a .args .image .now))) (sym (hand-none (a .args .p) (a .args .e) (getD (flatIn (a .args .image .now) .queue) (a .args .p) noOp) (flatIn (a .args .image .now) .queue) (c .if1 .taken))) }
 
 opens-at-requires : tie.Need-opens-at-requires
 opens-at-requires c κs = (c .before .before .before .pre .0, omega (arith, c .before .before .before .pre .1, c .before .before .before .pre .2))
@@ -31,7 +31,7 @@ same-length c = c .before .before .set-opens .ensures .proper .sound .size ∙ s
 returns-2 : tie.Need-returns-2
 returns-2 c =
     let a = c .before .before .before .before .before .before .before .before in
-    shown-as (a .args .image .now) (a .pre .0) _ (hand-next (a .args .p) (a .args .e) (getD (held (a .args .image .now) .queue) (a .args .p) noOp) (held (a .args .image .now) .queue) (omega (arith, c .before .before .before .before .before .before .if1 .left)) _ (c .before .before .before .before .opens-at .ensures)) (c .before .before .set-opens .ensures)
+    shown-as (a .args .image .now) (a .pre .0) _ (hand-next (a .args .p) (a .args .e) (getD (flatIn (a .args .image .now) .queue) (a .args .p) noOp) (flatIn (a .args .image .now) .queue) (omega (arith, c .before .before .before .before .before .before .if1 .left)) _ (c .before .before .before .before .opens-at .ensures)) (c .before .before .set-opens .ensures)
 
 pub hand-on-spec : {M : Type 1} → statement M
 hand-on-spec =

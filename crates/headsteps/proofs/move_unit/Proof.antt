@@ -2,7 +2,7 @@
 -- Assumes nothing.
 use mathlib.Core.Path.{_≡_, sym, _∙_}
 use Prim.Native.Nat.{_-_, _≤_}
-use Rattle.worksteps.specs.FlatSteps.{moveTo}
+use Rattle.flat.specs.Inner.FlatSteps.{moveTo}
 use Rattle.headsteps.proofs.Parts.{Moved, moved-none, moved-in, moved-next}
 use borrow.Author.Needs.{needs}
 use native.Mathlib.Omega.{arith}

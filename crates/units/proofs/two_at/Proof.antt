@@ -1,13 +1,14 @@
 -- The two tests of the sizes, in turn.
 -- Assumes nothing.
-use mathlib.Core.Path.{_≡_, refl, sym, ap, _∙_}
-use mathlib.Core.Bool.{true, false}
+use mathlib.Core.Path.{_≡_, sym, ap, _∙_}
+use mathlib.Core.Bool.{true}
 use borrow.Author.Tests.{not-true, not-false}
 use Rattle.graph.specs.Refusals.{Answer, done, andThen}
-use Rattle.queue.specs.Flat.{isAt}
-use Rattle.state.specs.State.{held}
-use Rattle.units.specs.Numbered.{Span, alone, locate, spotted}
-use Rattle.units.proofs.Located.{at-within, stands, spanOf, spot-no, spot-yes, alone-past, alone-first, alone-second, alone-both}
+use Rattle.flat.specs.Flat.{Flat}
+use Rattle.flat.specs.Inner.Queues.{isAt}
+use Rattle.state.specs.Inner.State.{flatIn}
+use Rattle.units.specs.Inner.Numbered.{Span, alone, locate, locateTwo, spotted}
+use Rattle.units.proofs.Located.{at-within, stands, alone-past, alone-first, alone-second, alone-both}
 use native.Mathlib.Omega.{arith}
 use borrow.Author.Needs.{needs}
 use Rattle.units.proofs.two_at.Statement.{statement}
@@ -16,91 +17,87 @@ use Rattle.units.proofs.two_at.Tie as tie
 unit-at-requires : tie.Need-unit-at-requires
 unit-at-requires c κs = search needs
 
-returns : tie.Need-returns
-returns c =
-    let s = c .before .before .before .before in
-    let f = held (s .args .image .now) in
-    let u = c .before .before .unit-at in
-    ap (λ (y : Answer Span). andThen y (alone (s .args .k) (f .queue))) (spot-no (u .result) (u .ensures) (c .if1 .taken)) ∙ sym (spot-no (u .result) refl (c .if1 .taken))
+enum-known-n : tie.Need-enum-known-n
+enum-known-n c = search needs
+
+enum-known-p : tie.Need-enum-known-p
+enum-known-p c = search needs
 
 is-at-requires : tie.Need-is-at-requires
 is-at-requires c κs = search needs
 
-refuse-requires : tie.Need-refuse-requires
-refuse-requires c κs = search needs
+-- the unit that was found
+module _ (a : tie.After-known-told2) where
+  abbrev start : tie.Start
+  start = a .before .before .before .before .before
+
+  abbrev f : Flat
+  f = flatIn (start .args .image .now)
+
+  abbrev span : Span
+  span = record { start = a .before .p .given .0 .0; end = a .before .p .given .0 .1 .0 }
+
+  there : locate (start .args .k) (start .args .unit) f ≡ done span
+  there = a .before .before .before .unit-at .ensures ∙ ap spotted (a .before .p .given .1)
+
+  tested : {x : Answer Span} → alone (start .args .k) (f .queue) span ≡ x → locateTwo (start .args .k) (start .args .unit) f ≡ x
+  tested e = ap (λ (y : Answer Span). andThen y (alone (start .args .k) (f .queue))) there ∙ e
+
+-- and the next
+next : (c : tie.Else1) → isAt (start (c .before .before) .args .k) (span (c .before .before) .end) (f (c .before .before) .queue) ≡ true
+next c = sym (c .before .is-at .ensures) ∙ not-false _ (c .if1 .left)
+
+returns : tie.Need-returns
+returns c =
+    let a = c .before .before in
+    tested a (alone-past (start a .args .k) (f a .queue) (span a) (sym (c .before .is-at .ensures) ∙ not-true _ (c .if1 .taken)))
+
+add-if2 : tie.Need-add-if2
+add-if2 c =
+    let a = c .before .before in
+    omega (arith, stands (start a .args .k) (start a .args .unit) (f a) (span a) (there a) .size)
 
 returns-2 : tie.Need-returns-2
 returns-2 c =
-    let s = c .before .before .before .before .before .before .before in
-    let f = held (s .args .image .now) in
-    let u = c .before .before .before .before .before .unit-at .result in
-    let x : locate (s .args .k) (s .args .unit) f ≡ done (spanOf u) = spot-yes u (c .before .before .before .before .before .unit-at .ensures) (c .before .before .before .if1 .left) in
-    let t : isAt (s .args .k) (u .end) (f .queue) ≡ false = sym (c .before .before .is-at .ensures) ∙ not-true _ (c .before .if2 .taken) in
-    ap (λ (y : Answer Span). andThen y (alone (s .args .k) (f .queue))) x ∙ alone-past (s .args .k) (f .queue) (spanOf u) t ∙ sym (ap spotted (c .refuse .ensures))
-
-add-if3 : tie.Need-add-if3
-add-if3 c =
-    let s = c .before .before .before .before .before .before .before in
-    let f = held (s .args .image .now) in
-    let u = c .before .before .before .before .before .unit-at .result in
-    let x : locate (s .args .k) (s .args .unit) f ≡ done (spanOf u) = spot-yes u (c .before .before .before .before .before .unit-at .ensures) (c .before .before .before .if1 .left) in
-    omega (arith, stands (s .args .k) (s .args .unit) f (spanOf u) x .size)
-
-refuse-requires-2 : tie.Need-refuse-requires-2
-refuse-requires-2 c κs = search needs
-
-returns-3 : tie.Need-returns-3
-returns-3 c =
-    let s = c .before .before .before .before .before .before .before .before .before in
-    let f = held (s .args .image .now) in
-    let u = c .before .before .before .before .before .before .before .unit-at .result in
-    let x : locate (s .args .k) (s .args .unit) f ≡ done (spanOf u) = spot-yes u (c .before .before .before .before .before .before .before .unit-at .ensures) (c .before .before .before .before .before .if1 .left) in
-    let t : isAt (s .args .k) (u .end) (f .queue) ≡ true = sym (c .before .before .before .before .is-at .ensures) ∙ not-false _ (c .before .before .before .if2 .left) in
-    ap (λ (y : Answer Span). andThen y (alone (s .args .k) (f .queue))) x ∙ alone-first (s .args .k) (f .queue) (spanOf u) t (c .before .if3 .taken) ∙ sym (ap spotted (c .refuse2 .ensures))
+    let a = c .before .before .before in
+    tested a (alone-first (start a .args .k) (f a .queue) (span a) (next (c .before)) (c .if2 .taken))
 
 unit-end-requires : tie.Need-unit-end-requires
 unit-end-requires c κs =
-    let s = c .before .before .before .before .before .before .before .before in
-    (s .pre, at-within (s .args .k) (held (s .args .image .now) .queue) (c .before .before .before .before .before .before .unit-at .result .end) (sym (c .before .before .before .is-at .ensures) ∙ not-false _ (c .before .before .if2 .left)))
+    let a = c .before .before .before in
+    (start a .pre, at-within (start a .args .k) (f a .queue) (span a .end) (next (c .before)))
 
-add-if4 : tie.Need-add-if4
-add-if4 c = omega (arith, c .unit-end .ensures .is)
+add-if3 : tie.Need-add-if3
+add-if3 c = omega (arith, c .unit-end .ensures .is)
 
-refuse-requires-3 : tie.Need-refuse-requires-3
-refuse-requires-3 c κs = search needs
+returns-3 : tie.Need-returns-3
+returns-3 c =
+    let a = c .before .before .before .before .before in
+    tested a (alone-second (start a .args .k) (f a .queue) (span a) (next (c .before .before .before)) (c .before .before .if2 .left) (λ e. c .if3 .taken (e ∙ sym (c .before .unit-end .ensures .is))))
 
 returns-4 : tie.Need-returns-4
 returns-4 c =
-    let s = c .before .before .before .before .before .before .before .before .before .before .before in
-    let f = held (s .args .image .now) in
-    let u = c .before .before .before .before .before .before .before .before .before .unit-at .result in
-    let x : locate (s .args .k) (s .args .unit) f ≡ done (spanOf u) = spot-yes u (c .before .before .before .before .before .before .before .before .before .unit-at .ensures) (c .before .before .before .before .before .before .before .if1 .left) in
-    let t : isAt (s .args .k) (u .end) (f .queue) ≡ true = sym (c .before .before .before .before .before .before .is-at .ensures) ∙ not-false _ (c .before .before .before .before .before .if2 .left) in
-    ap (λ (y : Answer Span). andThen y (alone (s .args .k) (f .queue))) x ∙ alone-second (s .args .k) (f .queue) (spanOf u) t (c .before .before .before .if3 .left) (λ e. c .before .if4 .taken (e ∙ sym (c .before .before .unit-end .ensures .is))) ∙ sym (ap spotted (c .refuse3 .ensures))
+    let a = c .before .before .before .before .before .args in
+    ap (λ (y : Answer Span). andThen y (alone (a .k) (flatIn (a .image .now) .queue))) (c .before .before .before .unit-at .ensures ∙ ap spotted (c .before .n .given .1))
 
 returns-5 : tie.Need-returns-5
 returns-5 c =
-    let s = c .before .before .before .before .before .before .before .before .before .before in
-    let f = held (s .args .image .now) in
-    let u = c .before .before .before .before .before .before .before .before .unit-at .result in
-    let x : locate (s .args .k) (s .args .unit) f ≡ done (spanOf u) = spot-yes u (c .before .before .before .before .before .before .before .before .unit-at .ensures) (c .before .before .before .before .before .before .if1 .left) in
-    let t : isAt (s .args .k) (u .end) (f .queue) ≡ true = sym (c .before .before .before .before .before .is-at .ensures) ∙ not-false _ (c .before .before .before .before .if2 .left) in
-    ap (λ (y : Answer Span). andThen y (alone (s .args .k) (f .queue))) x ∙ alone-both (s .args .k) (f .queue) (spanOf u) t (c .before .before .if3 .left) (c .if4 .left ∙ c .before .unit-end .ensures .is) ∙ sym x ∙ c .before .before .before .before .before .before .before .before .unit-at .ensures
+    let a = c .before .before .before .before .before in
+    tested a (alone-both (start a .args .k) (f a .queue) (span a) (next (c .before .before .before)) (c .before .before .if2 .left) (c .if3 .left ∙ c .before .unit-end .ensures .is))
 
 pub two-at-spec : {M : Type 1} → statement M
 two-at-spec =
     tie.close
     (tie.spec
     unit-at-requires
-    returns
+    enum-known-n
+    enum-known-p
     is-at-requires
-    refuse-requires
+    returns
+    add-if2
     returns-2
-    add-if3
-    refuse-requires-2
-    returns-3
     unit-end-requires
-    add-if4
-    refuse-requires-3
+    add-if3
+    returns-3
     returns-4
     returns-5)

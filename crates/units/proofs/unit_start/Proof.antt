@@ -4,11 +4,12 @@ use mathlib.Core.Path.{_≡_, sym, ap, _∙_}
 use Prim.Native.Nat.{ℕ, _≤_, _<_, _-_, _+_}
 use mathlib.Core.Bool.{true, false}
 use lib.ListN.{length}
-use Rattle.queue.specs.Flat.{find, atPlace, isAt}
-use Rattle.queue.proofs.Places.{find-within}
+use Rattle.flat.specs.Inner.Queues.{firstIndex, isAt}
+use Rattle.flat.specs.Inner.Nested.{atPlace}
+use Rattle.flat.proofs.Places.{find-within}
 use borrow.Author.Tests.{not-true, not-false}
-use Rattle.state.specs.State.{held}
-use Rattle.worksteps.specs.FlatSteps.{unitStart}
+use Rattle.state.specs.Inner.State.{flatIn}
+use Rattle.flat.specs.Inner.FlatSteps.{unitStart}
 use Rattle.units.proofs.Located.{start-next, start-none, at-within}
 use borrow.Author.Needs.{needs}
 use native.Mathlib.Omega.{arith}
@@ -16,10 +17,10 @@ use Rattle.units.proofs.unit_start.Statement.{statement}
 use Rattle.units.proofs.unit_start.Tie as tie
 
 abbrev Inv-loop : tie.InvT-loop
-Inv-loop image k unit n p₀ i₀ p i = (1 ≤ i) × (p ≤ length (held image .queue)) × (unitStart k i p (held image .queue) ≡ unitStart k unit (find (atPlace k) (held image .queue)) (held image .queue))
+Inv-loop image k unit n p₀ i₀ p i = (1 ≤ i) × (p ≤ length (flatIn image .queue)) × (unitStart k i p (flatIn image .queue) ≡ unitStart k unit (firstIndex (atPlace k) (flatIn image .queue)) (flatIn image .queue))
 
 abbrev μ-loop : tie.MeasureT-loop
-μ-loop image k unit n p₀ i₀ p i = length (held image .queue) - p
+μ-loop image k unit n p₀ i₀ p i = length (flatIn image .queue) - p
 
 total-requires : tie.Need-total-requires Inv-loop μ-loop
 total-requires c κs = search needs
@@ -27,9 +28,9 @@ total-requires c κs = search needs
 returns : tie.Need-returns Inv-loop μ-loop
 returns c =
     let a = c .before .before .before .args in
-    let q = held (a .image .now) .queue in
+    let q = flatIn (a .image .now) .queue in
     let n = c .before .total .ensures in
-    record { is = n .is ∙ ap (λ (u : ℕ). unitStart (a .k) u (find (atPlace (a .k)) q) q) (sym (c .if1 .taken)); within = omega (arith, n .is) }
+    record { is = n .is ∙ ap (λ (u : ℕ). unitStart (a .k) u (firstIndex (atPlace (a .k)) q) q) (sym (c .if1 .taken)); within = omega (arith, n .is) }
 
 first-at-requires : tie.Need-first-at-requires Inv-loop μ-loop
 first-at-requires c κs = search needs
@@ -37,7 +38,7 @@ first-at-requires c κs = search needs
 loop-holds : tie.Need-loop-holds Inv-loop μ-loop
 loop-holds c =
     let a = c .before .before .before .before .args in
-    let q = held (a .image .now) .queue in
+    let q = flatIn (a .image .now) .queue in
     (omega arith, omega (arith, c .first-at .ensures, find-within (atPlace (a .k)) q), ap (λ (p : ℕ). unitStart (a .k) (a .unit) p q) (c .first-at .ensures))
 
 is-at-requires : tie.Need-is-at-requires Inv-loop μ-loop
@@ -47,7 +48,7 @@ returns-2 : tie.Need-returns-2 Inv-loop μ-loop
 returns-2 c =
     let l = c .before .before .before in
     let a = l .before .before .before .before .before .args in
-    let q = held (a .image .now) .queue in
+    let q = flatIn (a .image .now) .queue in
     let n = l .before .before .before .total .ensures in
     let t : isAt (a .k) (l .loop .p) q ≡ false = sym (c .before .is-at .ensures) ∙ not-true _ (c .if2 .taken) in
     let h : 1 < l .loop .i = omega arith in
@@ -57,7 +58,7 @@ unit-end-requires : tie.Need-unit-end-requires Inv-loop μ-loop
 unit-end-requires c κs =
     let l = c .before .before .before in
     let s = l .before .before .before .before .before in
-    (s .pre, at-within (s .args .k) (held (s .args .image .now) .queue) (l .loop .p) (sym (c .before .is-at .ensures) ∙ not-false _ (c .if2 .left)))
+    (s .pre, at-within (s .args .k) (flatIn (s .args .image .now) .queue) (l .loop .p) (sym (c .before .is-at .ensures) ∙ not-false _ (c .if2 .left)))
 
 sub-i : tie.Need-sub-i Inv-loop μ-loop
 sub-i c = search needs
@@ -66,14 +67,14 @@ loop-less : tie.Need-loop-less Inv-loop μ-loop
 loop-less c =
     let l = c .before .before .before .before in
     let a = l .before .before .before .before .before .args in
-    let t : isAt (a .k) (l .loop .p) (held (a .image .now) .queue) ≡ true = sym (c .before .before .is-at .ensures) ∙ not-false _ (c .before .if2 .left) in
-    omega (arith, c .unit-end .ensures .is, at-within (a .k) (held (a .image .now) .queue) (l .loop .p) t)
+    let t : isAt (a .k) (l .loop .p) (flatIn (a .image .now) .queue) ≡ true = sym (c .before .before .is-at .ensures) ∙ not-false _ (c .before .if2 .left) in
+    omega (arith, c .unit-end .ensures .is, at-within (a .k) (flatIn (a .image .now) .queue) (l .loop .p) t)
 
 loop-again : tie.Need-loop-again Inv-loop μ-loop
 loop-again c =
     let l = c .before .before .before .before in
     let a = l .before .before .before .before .before .args in
-    let q = held (a .image .now) .queue in
+    let q = flatIn (a .image .now) .queue in
     let t : isAt (a .k) (l .loop .p) q ≡ true = sym (c .before .before .is-at .ensures) ∙ not-false _ (c .before .if2 .left) in
     let h : 1 < l .loop .i = c .before .before .before .loop-test .taken in
     let one : l .loop .i ≡ l .loop .i - 1 + 1 = omega arith in
@@ -84,7 +85,7 @@ returns-3 : tie.Need-returns-3 Inv-loop μ-loop
 returns-3 c =
     let l = c .before in
     let a = l .before .before .before .before .before .args in
-    let q = held (a .image .now) .queue in
+    let q = flatIn (a .image .now) .queue in
     let e : 1 ≡ l .loop .i = omega (arith, l .loop .inv .0) in
     record { is = ap (λ (n : ℕ). unitStart (a .k) n (l .loop .p) q) e ∙ l .loop .inv .2; within = l .loop .inv .1 }
 

@@ -6,9 +6,9 @@ use native.Mathlib.Numerals.{add-one}
 use native.Mathlib.Omega.{arith}
 use Rattle.graph.specs.OneAtATime.{addOf}
 use Rattle.graph.specs.Refusals.{refused}
-use Rattle.state.specs.State.{held}
+use Rattle.state.specs.Inner.State.{flatIn}
 use Rattle.calls.proofs.Accepted.{rest-spent, rest-refused, rest-done, spare, accepted-shown}
-use Rattle.live.proofs.Working.{works-refused, works-done}
+use Rattle.state.proofs.Working.{works-refused, works-done}
 use borrow.Author.Needs.{needs}
 use Rattle.calls.proofs.accept.accept_add.Statement.{statement}
 use Rattle.calls.proofs.accept.accept_add.Tie as tie
@@ -20,7 +20,7 @@ same-length : tie.Need-same-length
 same-length c = search needs
 
 returns : tie.Need-returns
-returns c = works-refused (rest-spent (addOf (suc (held (c .before .before .before .before .args .image .now) .last)) (c .before .before .before .before .args .value)) (held (c .before .before .before .before .args .image .now)) (sym (c .before .adds-spent .ensures) ∙ c .if1 .taken)) refl
+returns c = works-refused (rest-spent (addOf (suc (flatIn (c .before .before .before .before .args .image .now) .last)) (c .before .before .before .before .args .value)) (flatIn (c .before .before .before .before .args .image .now)) (sym (c .before .adds-spent .ensures) ∙ c .if1 .taken)) refl
 
 refusal-requires : tie.Need-refusal-requires
 refusal-requires c κs = c .before .before .before .before .before .pre .proper
@@ -31,7 +31,7 @@ same-length-2 c = search needs
 returns-2 : tie.Need-returns-2
 returns-2 c =
     let n = c .before .refusal .ensures in
-    works-refused (rest-refused (addOf (suc (held (c .before .before .before .before .before .before .before .args .image .now) .last)) (c .before .before .before .before .before .before .before .args .value)) (held (c .before .before .before .before .before .before .before .args .image .now)) (sym (c .before .before .before .before .adds-spent .ensures) ∙ c .before .before .before .if1 .left) (λ z. c .if2 .taken (n ∙ z)) ∙ ap refused (sym n)) refl
+    works-refused (rest-refused (addOf (suc (flatIn (c .before .before .before .before .before .before .before .args .image .now) .last)) (c .before .before .before .before .before .before .before .args .value)) (flatIn (c .before .before .before .before .before .before .before .args .image .now)) (sym (c .before .before .before .before .adds-spent .ensures) ∙ c .before .before .before .if1 .left) (λ z. c .if2 .taken (n ∙ z)) ∙ ap refused (sym n)) refl
 
 last-requires : tie.Need-last-requires
 last-requires c κs = c .before .before .before .before .before .before .before .before .pre .proper
@@ -53,8 +53,8 @@ same-length-3 c = search needs
 returns-3 : tie.Need-returns-3
 returns-3 c =
     let s = c .before .before .before .before .before .before .before .before .before .before .before .before .before .before .before .before .before in
-    let f = held (s .args .image .now) in
-    let x = (addOf (suc (held (c .before .before .before .before .before .before .before .before .before .before .before .before .before .before .before .before .before .args .image .now) .last)) (c .before .before .before .before .before .before .before .before .before .before .before .before .before .before .before .before .before .args .value)) in
+    let f = flatIn (s .args .image .now) in
+    let x = (addOf (suc (flatIn (c .before .before .before .before .before .before .before .before .before .before .before .before .before .before .before .before .before .args .image .now) .last)) (c .before .before .before .before .before .before .before .before .before .before .before .before .before .before .before .before .before .args .value)) in
     let next : c .before .before .before .before .before .before .before .before .last .result + 1 ≡ suc (f .last) = add-one (c .before .before .before .before .before .before .before .before .last .result) ∙ ap suc (c .before .before .before .before .before .before .before .before .last .ensures) in
     works-done
     (rest-done x f (sym (c .before .before .before .before .before .before .before .before .before .before .before .before .before .before .adds-spent .ensures) ∙ c .before .before .before .before .before .before .before .before .before .before .before .before .before .if1 .left) (sym (c .before .before .before .before .before .before .before .before .before .before .before .refusal .ensures) ∙ c .before .before .before .before .before .before .before .before .before .before .if2 .left))

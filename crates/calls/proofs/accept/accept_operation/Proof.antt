@@ -7,10 +7,10 @@ use native.Mathlib.Omega.{arith}
 use Rattle.graph.specs.OneAtATime.{operation}
 use Rattle.graph.specs.Packed.{listed}
 use Rattle.graph.specs.Refusals.{refused}
-use Rattle.state.specs.State.{held}
+use Rattle.state.specs.Inner.State.{flatIn}
 use Rattle.calls.proofs.Accepted.{rest-refused, rest-done, spare, accepted-shown}
-use Rattle.calls.proofs.Naming.{only-normal}
-use Rattle.live.proofs.Working.{works-refused, works-done}
+use Rattle.waiting.proofs.Naming.{only-normal}
+use Rattle.state.proofs.Working.{works-refused, works-done}
 use borrow.Author.Needs.{needs}
 use Rattle.calls.proofs.accept.accept_operation.Statement.{statement}
 use Rattle.calls.proofs.accept.accept_operation.Tie as tie
@@ -24,7 +24,7 @@ same-length c = search needs
 returns : tie.Need-returns
 returns c =
     let n = c .before .refusal .ensures in
-    works-refused (rest-refused (operation (c .before .before .before .before .args .act) (c .before .before .before .before .args .start) (listed (c .before .before .before .before .args .targets)) (suc (held (c .before .before .before .before .args .image .now) .last))) (held (c .before .before .before .before .args .image .now)) refl (λ z. c .if1 .taken (n ∙ z)) ∙ ap refused (sym n)) refl
+    works-refused (rest-refused (operation (c .before .before .before .before .args .act) (c .before .before .before .before .args .start) (listed (c .before .before .before .before .args .targets)) (suc (flatIn (c .before .before .before .before .args .image .now) .last))) (flatIn (c .before .before .before .before .args .image .now)) refl (λ z. c .if1 .taken (n ∙ z)) ∙ ap refused (sym n)) refl
 
 last-requires : tie.Need-last-requires
 last-requires c κs = c .before .before .before .before .before .pre .0 .proper
@@ -49,8 +49,8 @@ same-length-2 c = search needs
 returns-2 : tie.Need-returns-2
 returns-2 c =
     let s = c .before .before .before .before .before .before .before .before .before .before .before .before .before .before in
-    let f = held (s .args .image .now) in
-    let x = (operation (c .before .before .before .before .before .before .before .before .before .before .before .before .before .before .args .act) (c .before .before .before .before .before .before .before .before .before .before .before .before .before .before .args .start) (listed (c .before .before .before .before .before .before .before .before .before .before .before .before .before .before .args .targets)) (suc (held (c .before .before .before .before .before .before .before .before .before .before .before .before .before .before .args .image .now) .last))) in
+    let f = flatIn (s .args .image .now) in
+    let x = (operation (c .before .before .before .before .before .before .before .before .before .before .before .before .before .before .args .act) (c .before .before .before .before .before .before .before .before .before .before .before .before .before .before .args .start) (listed (c .before .before .before .before .before .before .before .before .before .before .before .before .before .before .args .targets)) (suc (flatIn (c .before .before .before .before .before .before .before .before .before .before .before .before .before .before .args .image .now) .last))) in
     let next : c .before .before .before .before .before .before .before .before .last .result + 1 ≡ suc (f .last) = add-one (c .before .before .before .before .before .before .before .before .last .result) ∙ ap suc (c .before .before .before .before .before .before .before .before .last .ensures) in
     works-done
     (rest-done x f refl (sym (c .before .before .before .before .before .before .before .before .before .before .before .refusal .ensures) ∙ c .before .before .before .before .before .before .before .before .before .before .if1 .left))

@@ -6,13 +6,13 @@ use lib.ListN.{length}
 use borrow.Author.Tests.{not-true, not-false}
 use Rattle.graph.specs.Refusals.{done}
 use Rattle.graph.specs.Steps.{admit}
-use Rattle.queue.specs.Flat.{Flat}
-use Rattle.worksteps.specs.FlatSteps.{flatStep}
-use Rattle.state.specs.State.{held}
-use Rattle.calls.specs.Admission.{admittedAt}
+use Rattle.flat.specs.Flat.{Flat}
+use Rattle.flat.specs.Inner.FlatSteps.{flatStep}
+use Rattle.state.specs.Inner.State.{flatIn}
+use Rattle.calls.specs.Inner.Admission.{admittedAt}
 use Rattle.calls.proofs.Admitting.{admit-refused, admit-done, first-in}
 use Rattle.calls.proofs.Room.{node-room, result-room}
-use Rattle.live.proofs.Working.{works-refused, works-done}
+use Rattle.state.proofs.Working.{works-refused, works-done}
 use borrow.Author.Needs.{needs}
 use Rattle.calls.proofs.admit.admit.Statement.{statement}
 use Rattle.calls.proofs.admit.admit.Tie as tie
@@ -27,7 +27,7 @@ same-length : tie.Need-same-length
 same-length c = search needs
 
 returns : tie.Need-returns
-returns c = works-refused (admit-refused (held (c .before .before .before .before .before .before .args .image .now)) (sym (c .before .before .before .first-at .ensures) ∙ c .if1 .taken ∙ c .before .total .ensures .is)) refl
+returns c = works-refused (admit-refused (flatIn (c .before .before .before .before .before .before .args .image .now)) (sym (c .before .before .before .first-at .ensures) ∙ c .if1 .taken ∙ c .before .total .ensures .is)) refl
 
 -- a call waits: the first one, at w
 module _ (e : tie.Else1) where
@@ -35,7 +35,7 @@ module _ (e : tie.Else1) where
   start = e .before .before .before .before .before .before
 
   abbrev f : Flat
-  f = held (start .args .image .now)
+  f = flatIn (start .args .image .now)
 
   abbrev w : ℕ
   w = e .before .before .before .first-at .result

@@ -5,9 +5,9 @@ use Prim.Native.Nat.{suc}
 use native.Mathlib.Numerals.{add-one}
 use lib.ListN.{length}
 use Rattle.graph.specs.Packed.{listed}
-use Rattle.queue.specs.Flat.{Flat}
+use Rattle.flat.specs.Flat.{Flat}
 use Rattle.calls.proofs.Admitting.{add-shown}
-use Rattle.calls.proofs.Naming.{none-listed}
+use Rattle.waiting.proofs.Naming.{none-listed}
 use borrow.Author.Needs.{needs}
 use Rattle.calls.proofs.admit.admit_add.Statement.{statement}
 use Rattle.calls.proofs.admit.admit_add.Tie as tie

@@ -1,7 +1,7 @@
 -- With no nodes it finishes, with some it enters the first streamlet.
 -- Assumes nothing.
 use mathlib.Core.Path.{sym, _∙_}
-use Rattle.state.specs.State.{held}
+use Rattle.state.specs.Inner.State.{flatIn}
 use Rattle.state.proofs.Holding.{few-ops}
 use Rattle.calls.proofs.Admitting.{admit-none, admit-some}
 use Rattle.calls.proofs.Worked.{shown-by}
@@ -27,7 +27,7 @@ same-length c = search needs
 returns : tie.Need-returns
 returns c =
     let s = c .before .before .before .before .before .before .before .before in
-    shown-by (admit-none (held (s .args .image .now)) (s .args .w) (s .pre .2) (sym (c .before .before .before .before .before .total .ensures .is) ∙ c .before .before .before .before .if1 .taken)) (c .before .before .finish-at .ensures)
+    shown-by (admit-none (flatIn (s .args .image .now)) (s .args .w) (s .pre .2) (sym (c .before .before .before .before .before .total .ensures .is) ∙ c .before .before .before .before .if1 .taken)) (c .before .before .finish-at .ensures)
 
 cast-set-place : tie.Need-cast-set-place
 cast-set-place c = search needs
@@ -42,7 +42,7 @@ returns-2 : tie.Need-returns-2
 returns-2 c =
     let s = c .before .before .before .before .before .before .before .before in
     let n = c .before .before .before .before .before .total in
-    shown-by (admit-some (held (s .args .image .now)) (s .args .w) (s .pre .2) (n .result) (n .ensures .is) (c .before .before .before .before .if1 .left)) (c .before .before .set-place .ensures)
+    shown-by (admit-some (flatIn (s .args .image .now)) (s .args .w) (s .pre .2) (n .result) (n .ensures .is) (c .before .before .before .before .if1 .left)) (c .before .before .set-place .ensures)
 
 pub admit-operation-spec : {M : Type 1} → statement M
 admit-operation-spec = tie.close (tie.spec total-requires add-finish-at finish-at-requires same-length returns cast-set-place set-place-requires same-length-2 returns-2)

@@ -7,16 +7,16 @@ use mathlib.Core.Bool.{true}
 use lib.ListN.{getD}
 use Rattle.graph.specs.KeyLists.{rising}
 use Rattle.graph.specs.Sessions.{labelsOfResults}
-use Rattle.queue.specs.Flat.{Flat}
-use Rattle.state.specs.Results.{noResult}
-use Rattle.state.specs.State.{held}
+use Rattle.flat.specs.Flat.{Flat}
+use Rattle.state.specs.Inner.Results.{noResult}
+use Rattle.state.specs.Inner.State.{flatIn}
 use Rattle.calls.proofs.Claims.{finds-zero, finds-above, finds-pending, finds-claimed, finds-at}
 use borrow.Author.Needs.{needs}
 use Rattle.calls.proofs.claim.claim_place.Statement.{statement}
 use Rattle.calls.proofs.claim.claim_place.Tie as tie
 
 returns : tie.Need-returns
-returns c = finds-zero (c .before .before .args .label) (held (c .before .before .args .image .now)) (c .if1 .taken)
+returns c = finds-zero (c .before .before .args .label) (flatIn (c .before .before .args .image .now)) (c .if1 .taken)
 
 last-requires : tie.Need-last-requires
 last-requires c κs = search needs
@@ -25,7 +25,7 @@ cast-if2 : tie.Need-cast-if2
 cast-if2 c = search needs
 
 returns-2 : tie.Need-returns-2
-returns-2 c = finds-above (c .before .before .before .before .args .label) (held (c .before .before .before .before .args .image .now)) (omega (arith, c .before .last .ensures, c .if2 .taken))
+returns-2 c = finds-above (c .before .before .before .before .args .label) (flatIn (c .before .before .before .before .args .image .now)) (omega (arith, c .before .last .ensures, c .if2 .taken))
 
 cast-l : tie.Need-cast-l
 cast-l c = search needs
@@ -39,7 +39,7 @@ module _ (q : tie.After-is-queued) where
   start = q .before .before .before .before .before
 
   abbrev f : Flat
-  f = held (start .args .image .now)
+  f = flatIn (start .args .image .now)
 
   low : 1 ≤ start .args .label
   low = omega (arith, q .before .before .before .if1 .left)

@@ -10,11 +10,8 @@ use borrow.Author.Needs.{needs}
 use Rattle.host.proofs.call.cg_call.Statement.{statement}
 use Rattle.host.proofs.call.cg_call.Tie as tie
 
-part-to-requires : tie.Need-part-to-requires
-part-to-requires c κs = search needs
-
-accept-line-requires : tie.Need-accept-line-requires
-accept-line-requires c κs = search needs
+call-at-requires : tie.Need-call-at-requires
+call-at-requires c κs = search needs
 
 number-requires : tie.Need-number-requires
 number-requires c κs = search needs
@@ -26,7 +23,7 @@ returns : tie.Need-returns
 returns c =
     let same : toZ w64 (ofZ w64 (c .number .result)) ≡ c .number .result = search needs in
     let after : List ℕ = _ in
-    entered-as (λ i. record { answer = (same ∙ c .number .ensures) i; image = after }) (rw (c .before .before .before .before .part-to .ensures) at (c .before .before .before .accept-line .ensures))
+    entered-as (λ i. record { answer = (same ∙ c .number .ensures) i; image = after }) (c .before .before .before .call-at .ensures)
 
 pub cg-call-spec : {M : Type 1} → statement M
-cg-call-spec = tie.close (tie.spec part-to-requires accept-line-requires number-requires same-length returns)
+cg-call-spec = tie.close (tie.spec call-at-requires number-requires same-length returns)

@@ -10,11 +10,8 @@ use borrow.Author.Needs.{needs}
 use Rattle.host.proofs.claim.cg_claim.Statement.{statement}
 use Rattle.host.proofs.claim.cg_claim.Tie as tie
 
-part-to-requires : tie.Need-part-to-requires
-part-to-requires c κs = search needs
-
-claim-line-requires : tie.Need-claim-line-requires
-claim-line-requires c κs = search needs
+claim-at-requires : tie.Need-claim-at-requires
+claim-at-requires c κs = search needs
 
 number-requires : tie.Need-number-requires
 number-requires c κs = search needs
@@ -30,8 +27,8 @@ returns c =
     let same : toZ w64 (ofZ w64 (c .number .result)) ≡ c .number .result = search needs in
     let after : List ℕ = _ in
     let output : List ℕ = _ in
-    entered-as (λ i. record { answer = (same ∙ c .number .ensures) i; image = after; output = output }) (rw (c .before .before .before .before .before .before .before .part-to .ensures) at (c .before .before .before .before .before .claim-line .ensures))
+    entered-as (λ i. record { answer = (same ∙ c .number .ensures) i; image = after; output = output }) (c .before .before .before .before .before .claim-at .ensures)
 
 pub cg-claim-spec : {M : Type 1} → statement M
 cg-claim-spec =
-    tie.close (tie.spec part-to-requires claim-line-requires number-requires same-length same-length-2 returns)
+    tie.close (tie.spec claim-at-requires number-requires same-length same-length-2 returns)

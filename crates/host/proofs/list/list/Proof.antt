@@ -2,7 +2,7 @@
 -- Assumes nothing.
 
 use native.Mathlib.Omega.{arith}
-use Rattle.host.proofs.Entering.{tested-refused, tested-session, session-live}
+use Rattle.host.proofs.Entering.{tested-refused, tested-session, session-valid}
 use Rattle.host.proofs.Listing.{no-room, is-listed}
 use borrow.Author.Needs.{needs}
 use Rattle.host.proofs.list.list.Statement.{statement}
@@ -15,13 +15,13 @@ returns : tie.Need-returns
 returns c = tested-refused (c .before .image-refusal .ensures) (c .if1 .taken)
 
 listing-len-requires : tie.Need-listing-len-requires
-listing-len-requires c κs = session-live (tested-session (c .before .image-refusal .ensures) (c .if1 .left))
+listing-len-requires c κs = session-valid (tested-session (c .before .image-refusal .ensures) (c .if1 .left))
 
 returns-2 : tie.Need-returns-2
 returns-2 c = no-room _ _ _ (tested-session (c .before .before .before .image-refusal .ensures) (c .before .before .if1 .left)) (c .before .listing-len .ensures) (c .if2 .taken)
 
 put-listing-requires : tie.Need-put-listing-requires
-put-listing-requires c κs = (session-live (tested-session (c .before .before .before .before .image-refusal .ensures) (c .before .before .before .if1 .left)), omega (arith, c .before .before .listing-len .ensures .text, c .before .if2 .left))
+put-listing-requires c κs = (session-valid (tested-session (c .before .before .before .before .image-refusal .ensures) (c .before .before .before .if1 .left)), omega (arith, c .before .before .listing-len .ensures .text, c .before .if2 .left))
 
 cast-t9 : tie.Need-cast-t9
 cast-t9 c = search needs

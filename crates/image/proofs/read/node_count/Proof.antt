@@ -1,7 +1,7 @@
 -- `read::node_count` meets its contract.
 -- Assumes nothing.
 use mathlib.Core.Path.{sym, _∙_}
-use Rattle.image.specs.Layout.{nodeRegion}
+use Rattle.image.specs.Inner.Regions.{nodeRegion}
 use Rattle.image.proofs.Regions.{count-of}
 use borrow.Author.Needs.{needs}
 use Rattle.image.proofs.read.node_count.Statement.{statement}

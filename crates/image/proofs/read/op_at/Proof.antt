@@ -4,9 +4,9 @@ use mathlib.Core.Path.{ap, _∙_}
 use Prim.Native.Nat.{ℕ}
 use native.Mathlib.Nat.{add-sub-cancel-left}
 use lib.ListN.{take, drop}
-use Rattle.records.specs.Bytes.{chunk}
-use Rattle.records.specs.Records.{decodeOp}
-use Rattle.image.specs.Layout.{place, recordAt, opRegion}
+use Rattle.records.specs.Inner.Numbers.{chunk}
+use Rattle.records.specs.Inner.Decoded.{decodeOp}
+use Rattle.image.specs.Inner.Regions.{place, recordAt, opRegion}
 use Rattle.image.proofs.Regions.{record-of}
 use borrow.Author.Needs.{needs}
 use Rattle.image.proofs.read.op_at.Statement.{statement}

@@ -1,7 +1,7 @@
 -- `read::op_count` meets its contract.
 -- Assumes nothing.
 use mathlib.Core.Path.{sym, _∙_}
-use Rattle.image.specs.Layout.{opRegion}
+use Rattle.image.specs.Inner.Regions.{opRegion}
 use Rattle.image.proofs.Regions.{count-of}
 use borrow.Author.Needs.{needs}
 use Rattle.image.proofs.read.op_count.Statement.{statement}

@@ -1,7 +1,7 @@
 -- `read::result_count` meets its contract.
 -- Assumes nothing.
 use mathlib.Core.Path.{sym, _∙_}
-use Rattle.image.specs.Layout.{resultRegion}
+use Rattle.image.specs.Inner.Regions.{resultRegion}
 use Rattle.image.proofs.Regions.{count-of}
 use borrow.Author.Needs.{needs}
 use Rattle.image.proofs.read.result_count.Statement.{statement}

@@ -2,7 +2,7 @@
 -- Assumes nothing.
 use mathlib.Core.Path.{_≡_, subst}
 use Prim.Native.Nat.{ℕ, _≤_, _-_}
-use Rattle.image.specs.Layout.{Cleared}
+use Rattle.image.specs.Inner.Moves.{Zeroed}
 use Rattle.image.proofs.Moves.{clear-none, clear-turn}
 use borrow.Author.Needs.{needs}
 use native.Mathlib.Omega.{arith}
@@ -10,7 +10,7 @@ use Rattle.image.proofs.shift.clear.Statement.{statement}
 use Rattle.image.proofs.shift.clear.Tie as tie
 
 abbrev Inv-loop : tie.InvT-loop
-Inv-loop s₀ from to i₀ s i = (from ≤ i) × (i ≤ to) × (Cleared from i s₀ s)
+Inv-loop s₀ from to i₀ s i = (from ≤ i) × (i ≤ to) × (Zeroed from i s₀ s)
 
 abbrev μ-loop : tie.MeasureT-loop
 μ-loop s₀ from to i₀ s i = to - i
@@ -39,7 +39,7 @@ returns : tie.Need-returns Inv-loop μ-loop
 returns c =
     let a = c .before .before .args in
     let e : c .before .loop .i ≡ a .to = omega arith in
-    subst (λ (n : ℕ). Cleared (a .from) n (a .s .now) (c .before .loop .s)) e (c .before .loop .inv .2)
+    subst (λ (n : ℕ). Zeroed (a .from) n (a .s .now) (c .before .loop .s)) e (c .before .loop .inv .2)
 
 pub clear-spec : {M : Type 1} → statement M
 clear-spec =

@@ -2,7 +2,7 @@
 -- Assumes nothing.
 use mathlib.Core.Path.{_≡_, subst}
 use Prim.Native.Nat.{ℕ, _+_, _≤_, _-_}
-use Rattle.image.specs.Layout.{MovedUp}
+use Rattle.image.specs.Inner.Moves.{MovedUp}
 use Rattle.image.proofs.Moves.{up-none, up-turn}
 use borrow.Author.Needs.{needs}
 use native.Mathlib.Omega.{arith}

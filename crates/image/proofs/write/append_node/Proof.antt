@@ -3,7 +3,7 @@
 use mathlib.Core.Path.{refl, ap, _∙_}
 use lib.ListN.{length}
 use Rattle.records.proofs.Codecs.{node-size}
-use Rattle.image.specs.Layout.{nodeRegion}
+use Rattle.image.specs.Inner.Regions.{nodeRegion}
 use Rattle.image.proofs.Writers.{append-change, nodes-fit, nodes-written}
 use borrow.Author.Needs.{needs}
 use Rattle.image.proofs.write.append_node.Statement.{statement}

@@ -3,7 +3,7 @@
 use mathlib.Core.Path.{refl, ap, _∙_}
 use lib.ListN.{length}
 use Rattle.records.proofs.Codecs.{op-size}
-use Rattle.image.specs.Layout.{opRegion}
+use Rattle.image.specs.Inner.Regions.{opRegion}
 use Rattle.image.proofs.Writers.{append-change, ops-fit, ops-written}
 use borrow.Author.Needs.{needs}
 use Rattle.image.proofs.write.append_op.Statement.{statement}

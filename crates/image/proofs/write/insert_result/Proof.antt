@@ -3,7 +3,7 @@
 use mathlib.Core.Path.{refl, ap, _∙_}
 use lib.ListN.{length, length-set}
 use Rattle.records.proofs.Codecs.{result-size}
-use Rattle.image.specs.Layout.{resultRegion}
+use Rattle.image.specs.Inner.Regions.{resultRegion}
 use Rattle.image.proofs.Writers.{insert-change, results-fit, results-written}
 use borrow.Author.Needs.{needs}
 use Rattle.image.proofs.write.insert_result.Statement.{statement}

@@ -1,6 +1,6 @@
 -- `write::put_node` meets its contract.
 -- Assumes nothing.
-use Rattle.image.specs.Layout.{nodeRegion}
+use Rattle.image.specs.Inner.Regions.{nodeRegion}
 use Rattle.image.proofs.Writers.{put-change, nodes-fit, nodes-written}
 use mathlib.Core.Path.{ap, _∙_}
 use lib.ListN.{length}

@@ -1,6 +1,6 @@
 -- `write::put_op` meets its contract.
 -- Assumes nothing.
-use Rattle.image.specs.Layout.{opRegion}
+use Rattle.image.specs.Inner.Regions.{opRegion}
 use Rattle.image.proofs.Writers.{put-change, ops-fit, ops-written}
 use mathlib.Core.Path.{ap, _∙_}
 use lib.ListN.{length}

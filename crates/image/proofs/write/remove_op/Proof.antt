@@ -2,7 +2,7 @@
 -- Assumes nothing.
 use mathlib.Core.Path.{refl, _∙_}
 use lib.ListN.{length-set}
-use Rattle.image.specs.Layout.{opRegion}
+use Rattle.image.specs.Inner.Regions.{opRegion}
 use Rattle.image.proofs.Writers.{remove-change, ops-fit, ops-written}
 use borrow.Author.Needs.{needs}
 use Rattle.image.proofs.write.remove_op.Statement.{statement}

@@ -2,7 +2,7 @@
 -- Assumes nothing.
 use mathlib.Core.Path.{refl, _∙_}
 use lib.ListN.{length-set}
-use Rattle.image.specs.Layout.{resultRegion}
+use Rattle.image.specs.Inner.Regions.{resultRegion}
 use Rattle.image.proofs.Writers.{remove-change, results-fit, results-written}
 use borrow.Author.Needs.{needs}
 use Rattle.image.proofs.write.remove_result.Statement.{statement}

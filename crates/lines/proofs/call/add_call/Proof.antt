@@ -4,6 +4,7 @@ use mathlib.Core.Path.{ap, _∙_}
 use mathlib.Core.List.{[]}
 use Rattle.graph.specs.declared.keys.Keys.{Keys}
 use Rattle.text.specs.Text.{ascii}
+use Rattle.lines.specs.declared.call.CallAnswer.the-variants.{Is}
 use Rattle.lines.specs.declared.call.CallKind.the-variants.{Add}
 use Rattle.lines.proofs.Chains.{NumberAt, field-not, last-not, last-is}
 use Rattle.lines.proofs.Calls.{add-answer}
@@ -50,7 +51,7 @@ none-requires c κs = search needs
 returns-3 : tie.Need-returns-3
 returns-3 c =
     let n = c .before .before in
-    last-is (value-at n) (c .before .if1 .left) (ap (λ (ks : Keys). record { refusal = 0; kind = Add; x = n .before .value .given .0 .0; y = 0; to = ks }) (c .none .ensures) ∙ add-answer (n .before .value .given .0 .0) (value-at n .small))
+    last-is (value-at n) (c .before .if1 .left) (ap (λ (ks : Keys). record { answer = Is Add (n .before .value .given .0 .0) 0; to = ks }) (c .none .ensures) ∙ add-answer (n .before .value .given .0 .0) (value-at n .small))
 
 pub add-call-spec : {M : Type 1} → statement M
 add-call-spec =

@@ -5,11 +5,11 @@ use mathlib.Core.Path.{_≡_, sym, _∙_}
 use native.Mathlib.Omega.{arith}
 use borrow.Author.Tests.{ltb-true, ltb-false}
 use lib.ListN.{length}
-use Rattle.text.specs.Reads.{PlaceOf}
+use Rattle.text.specs.Inner.PartsRead.{LiteralAt}
 use Rattle.text.specs.Text.{ascii}
 use Rattle.text.specs.declared.cut.Place.the-variants.{At}
 use Rattle.text.proofs.Splits.{part}
-use Rattle.lines.specs.Answers.{callAnswer, refusedCall}
+use Rattle.lines.specs.Inner.Answers.{callAnswer, refusedCall}
 use Rattle.lines.proofs.Calls.{calls, call-forms}
 use Rattle.lines.proofs.Words.{reads-long, reads-no-head, reads-no-word, reads-after}
 use borrow.Author.Needs.{needs}
@@ -19,7 +19,7 @@ use Rattle.lines.proofs.call.parse_call.Tie as tie
 short : (c : tie.Else1) → length (c .before .before .before .args .line .now) < 256
 short c = omega (arith, ltb-false 255 (length (c .before .before .before .args .line .now)) (sym (c .before .too-long .ensures) ∙ c .if1 .left))
 
-head-at : (c : tie.After-from) → PlaceOf (c .before .before .before .before .before .before .before .args .line .now) 0 (calls .head) (At (c .from .given .0 .0))
+head-at : (c : tie.After-from) → LiteralAt (c .before .before .before .before .before .before .before .args .line .now) 0 (calls .head) (At (c .from .given .0 .0))
 unfolding calls ascii
 head-at c = rw (c .from .given .1) at (c .before .before .past .ensures)
 

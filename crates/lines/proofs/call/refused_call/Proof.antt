@@ -3,7 +3,7 @@
 use mathlib.Core.Path.{ap}
 use borrow.Author.Needs.{needs}
 use Rattle.graph.specs.declared.keys.Keys.{Keys}
-use Rattle.lines.specs.declared.call.CallKind.the-variants.{Add}
+use Rattle.lines.specs.declared.call.CallAnswer.the-variants.{Refused}
 use Rattle.lines.proofs.call.refused_call.Statement.{statement}
 use Rattle.lines.proofs.call.refused_call.Tie as tie
 
@@ -11,7 +11,7 @@ none-requires : tie.Need-none-requires
 none-requires c κs = search needs
 
 returns : tie.Need-returns
-returns c = ap (λ (ks : Keys). record { refusal = c .before .args .refusal; kind = Add; x = 0; y = 0; to = ks }) (c .none .ensures)
+returns c = ap (λ (ks : Keys). record { answer = Refused (c .before .args .refusal); to = ks }) (c .none .ensures)
 
 pub refused-call-spec : {M : Type 1} → statement M
 refused-call-spec = tie.close (tie.spec none-requires returns)

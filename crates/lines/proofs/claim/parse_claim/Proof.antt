@@ -23,11 +23,8 @@ label-at c = record { field = rw (c .before .label .given .1) at (c .before .bef
 too-long-requires : tie.Need-too-long-requires
 too-long-requires c κs = search needs
 
-refused-claim-requires : tie.Need-refused-claim-requires
-refused-claim-requires c κs = search needs
-
 returns : tie.Need-returns
-returns c = claim-long (c .before .before .before .before .args .line .now) _ (ltb-true 255 _ (sym (c .before .before .too-long .ensures) ∙ c .before .if1 .taken)) (c .refused-claim .ensures)
+returns c = claim-long (c .before .before .before .args .line .now) _ (ltb-true 255 _ (sym (c .before .too-long .ensures) ∙ c .if1 .taken)) refl
 
 slice-aggregate-number-field : tie.Need-slice-aggregate-number-field
 slice-aggregate-number-field c = search needs
@@ -41,24 +38,18 @@ enum-known-label c = search needs
 enum-told : tie.Need-enum-told
 enum-told c = search needs
 
-refused-claim-requires-2 : tie.Need-refused-claim-requires-2
-refused-claim-requires-2 c κs = search needs
-
 returns-2 : tie.Need-returns-2
 unfolding ascii
 returns-2 c =
-    let e = c .before .before .before .before .before in
+    let e = c .before .before .before .before in
     let line = e .before .before .before .args .line .now in
-    claim-field line _ (short e) (field-not line 0 (ascii "claim=") [] tt (rw (c .before .enum-told .given .1) at (c .before .before .before .number-field .ensures)) (c .refused-claim2 .ensures))
-
-refused-claim-requires-3 : tie.Need-refused-claim-requires-3
-refused-claim-requires-3 c κs = search needs
+    claim-field line _ (short e) (field-not line 0 (ascii "claim=") [] tt (rw (c .enum-told .given .1) at (c .before .before .number-field .ensures)) refl)
 
 returns-3 : tie.Need-returns-3
 returns-3 c =
-    let n = c .before .before in
+    let n = c .before in
     let e = n .before .before .before .before .before in
-    claim-field (e .before .before .before .args .line .now) _ (short e) (last-not (label-at n) (c .before .if2 .taken) (c .refused-claim3 .ensures))
+    claim-field (e .before .before .before .args .line .now) _ (short e) (last-not (label-at n) (c .if2 .taken) refl)
 
 returns-4 : tie.Need-returns-4
 returns-4 c =
@@ -71,14 +62,11 @@ parse-claim-spec =
     tie.close
     (tie.spec
     too-long-requires
-    refused-claim-requires
     returns
     slice-aggregate-number-field
     number-field-requires
     enum-known-label
     enum-told
-    refused-claim-requires-2
     returns-2
-    refused-claim-requires-3
     returns-3
     returns-4)

@@ -4,14 +4,14 @@ use Prim.Native.Nat.{_+_, _≤_}
 use native.Mathlib.Omega.{arith}
 use borrow.Author.Needs.{needs}
 use lib.ListN.{length}
-use Rattle.text.specs.Reads.{PlaceOf}
+use Rattle.text.specs.Inner.PartsRead.{LiteralAt}
 use Rattle.text.specs.declared.cut.Place.the-variants.{At}
 use Rattle.lines.proofs.Chains.{no-literal, no-number, is-field, value-within}
 use Rattle.lines.proofs.fields.number_field.Statement.{statement}
 use Rattle.lines.proofs.fields.number_field.Tie as tie
 
 -- what `past` found
-place-at : (c : tie.After-from) → PlaceOf (c .before .before .before .before .before .args .line .now) (c .before .before .before .before .before .args .at) (c .before .before .before .before .before .args .literal .now) (At (c .from .given .0 .0))
+place-at : (c : tie.After-from) → LiteralAt (c .before .before .before .before .before .args .line .now) (c .before .before .before .before .before .args .at) (c .before .before .before .before .before .args .literal .now) (At (c .from .given .0 .0))
 place-at c = rw (c .from .given .1) at (c .before .before .past .ensures)
 
 within : (c : tie.After-value-at) → c .before .before .from .given .0 .0 + length (c .value-at .result .now) ≤ length (c .before .before .before .before .before .before .before .args .line .now)

@@ -3,7 +3,7 @@
 use Prim.Native.Nat.{_+_, _≤_}
 use native.Mathlib.Omega.{arith}
 use lib.ListN.{length}
-use Rattle.text.specs.Reads.{PlaceOf}
+use Rattle.text.specs.Inner.PartsRead.{LiteralAt}
 use Rattle.text.specs.Text.{ascii}
 use Rattle.text.specs.declared.cut.Place.the-variants.{At}
 use Rattle.lines.proofs.Chains.{value-within, targets-missing, targets-parted, targets-list}
@@ -12,7 +12,7 @@ use Rattle.lines.proofs.fields.targets_field.Statement.{statement}
 use Rattle.lines.proofs.fields.targets_field.Tie as tie
 
 -- what `past` found
-place-at : (c : tie.After-from) → PlaceOf (c .before .before .before .before .before .args .line .now) (c .before .before .before .before .before .args .at) (ascii " to=") (At (c .from .given .0 .0))
+place-at : (c : tie.After-from) → LiteralAt (c .before .before .before .before .before .args .line .now) (c .before .before .before .before .before .args .at) (ascii " to=") (At (c .from .given .0 .0))
 unfolding ascii
 place-at c = rw (c .from .given .1) at (c .before .before .past .ensures)
 

@@ -8,7 +8,7 @@ use borrow.Author.Needs.{needs}
 use lib.ListN.{length, drop}
 use Rattle.graph.specs.Packed.{packed}
 use Rattle.text.specs.Text.{upTo, decimal}
-use Rattle.lines.specs.Reads.{KeysOf, Held}
+use Rattle.lines.specs.Inner.LineParts.{KeysOf, KeysStored}
 use Rattle.lines.proofs.KeyLists.{held-more, Listing, listing-none, list-refused, list-within, list-ends, list-again, empty-list}
 use Rattle.lines.proofs.keylist.read_keys.Statement.{statement}
 use Rattle.lines.proofs.keylist.read_keys.Tie as tie
@@ -37,7 +37,7 @@ module _ (c : tie.After-with Inv-loop μ-loop) where
   kept : KeysOf (read .before .loop .inv .read ++ c .before .before .before .v .given .0 .0 ∷ []) (c .with .result)
   kept = c .with .ensures (read .before .loop .inv .read) (read .before .loop .inv .kept)
 
-  held : Held (read .before .loop .inv .read ++ c .before .before .before .v .given .0 .0 ∷ []) (c .before .store .result)
+  held : KeysStored (read .before .loop .inv .read ++ c .before .before .before .v .given .0 .0 ∷ []) (c .before .store .result)
   held = held-more _ _ (read .before .loop .k) _ _ (read .before .loop .inv .kept) (read .before .loop .inv .held) (c .before .store .ensures)
 
 none-requires : tie.Need-none-requires Inv-loop μ-loop

@@ -1,15 +1,16 @@
 -- `lines::step::parse_step` meets its contract. Where the line does not come apart, no form has its text.
 -- Assumes nothing.
 use Prim.Native.Nat.{_+_, _<_, _≤_}
-use mathlib.Core.Path.{_≡_, sym, _∙_}
+use mathlib.Core.Path.{_≡_, refl, sym, _∙_}
 use native.Mathlib.Omega.{arith}
 use borrow.Author.Tests.{ltb-true, ltb-false}
 use lib.ListN.{length}
-use Rattle.text.specs.Reads.{PlaceOf}
+use Rattle.text.specs.Inner.PartsRead.{LiteralAt}
 use Rattle.text.specs.Text.{ascii}
 use Rattle.text.specs.declared.cut.Place.the-variants.{At}
 use Rattle.text.proofs.Splits.{part}
-use Rattle.lines.specs.Answers.{stepAnswer, refusedStep}
+use Rattle.graph.specs.Refusals.{refused}
+use Rattle.lines.specs.Inner.Answers.{stepAnswer}
 use Rattle.lines.proofs.Steps.{steps, step-forms}
 use Rattle.lines.proofs.Words.{reads-long, reads-no-head, reads-no-word, reads-after}
 use borrow.Author.Needs.{needs}
@@ -19,7 +20,7 @@ use Rattle.lines.proofs.step.parse_step.Tie as tie
 short : (c : tie.Else1) → length (c .before .before .before .args .line .now) < 256
 short c = omega (arith, ltb-false 255 (length (c .before .before .before .args .line .now)) (sym (c .before .too-long .ensures) ∙ c .if1 .left))
 
-head-at : (c : tie.After-from) → PlaceOf (c .before .before .before .before .before .before .before .args .line .now) 0 (steps .head) (At (c .from .given .0 .0))
+head-at : (c : tie.After-from) → LiteralAt (c .before .before .before .before .before .before .before .args .line .now) 0 (steps .head) (At (c .from .given .0 .0))
 unfolding steps ascii
 head-at c = rw (c .from .given .1) at (c .before .before .past .ensures)
 
@@ -36,11 +37,8 @@ within c =
 too-long-requires : tie.Need-too-long-requires
 too-long-requires c κs = search needs
 
-refused-step-requires : tie.Need-refused-step-requires
-refused-step-requires c κs = search needs
-
 returns : tie.Need-returns
-returns c = reads-long step-forms stepAnswer (refusedStep 10) _ (c .before .before .before .before .args .line .now) (ltb-true 255 _ (sym (c .before .before .too-long .ensures) ∙ c .before .if1 .taken)) (c .refused-step .ensures)
+returns c = reads-long step-forms stepAnswer (refused 10) _ (c .before .before .before .args .line .now) (ltb-true 255 _ (sym (c .before .too-long .ensures) ∙ c .if1 .taken)) refl
 
 slice-aggregate-past : tie.Need-slice-aggregate-past
 slice-aggregate-past c = search needs
@@ -54,12 +52,9 @@ enum-known-from c = search needs
 enum-told : tie.Need-enum-told
 enum-told c = search needs
 
-refused-step-requires-2 : tie.Need-refused-step-requires-2
-refused-step-requires-2 c κs = search needs
-
 returns-2 : tie.Need-returns-2
 unfolding steps ascii
-returns-2 c = reads-no-head step-forms stepAnswer (refusedStep 10) _ (c .before .before .before .before .before .before .before .before .args .line .now) (rw (c .before .enum-told .given .1) at (c .before .before .before .past .ensures)) (c .refused-step2 .ensures)
+returns-2 c = reads-no-head step-forms stepAnswer (refused 10) _ (c .before .before .before .before .before .before .before .args .line .now) (rw (c .enum-told .given .1) at (c .before .before .past .ensures)) refl
 
 value-at-requires : tie.Need-value-at-requires
 value-at-requires c κs = search needs
@@ -73,14 +68,11 @@ enum-known-kind c = search needs
 enum-told-2 : tie.Need-enum-told-2
 enum-told-2 c = search needs
 
-refused-step-requires-3 : tie.Need-refused-step-requires-3
-refused-step-requires-3 c κs = search needs
-
 returns-3 : tie.Need-returns-3
 unfolding steps
 returns-3 c =
-    let v = c .before .before .before .before in
-    reads-no-word step-forms stepAnswer (refusedStep 10) _ _ (short (v .before .before .before .before .before .before)) _ (head-at (v .before .before)) _ (v .value-at .ensures) (rw (c .before .enum-told2 .given .1) at (c .before .before .before .step-word .ensures)) (c .refused-step3 .ensures)
+    let v = c .before .before .before in
+    reads-no-word step-forms stepAnswer (refused 10) _ _ (short (v .before .before .before .before .before .before)) _ (head-at (v .before .before)) _ (v .value-at .ensures) (rw (c .enum-told2 .given .1) at (c .before .before .step-word .ensures)) refl
 
 add-step-after : tie.Need-add-step-after
 add-step-after c = omega (arith, within (c .before .before .before .before))
@@ -93,26 +85,23 @@ unfolding steps
 returns-4 c =
     let k = c .before .before in
     let v = k .before .before .before in
-    reads-after step-forms stepAnswer (refusedStep 10) _ _ (short (v .before .before .before .before .before .before)) _ (head-at (v .before .before)) _ (v .value-at .ensures) (k .kind .given .0 .0) (word-at k) (c .step-after .ensures)
+    reads-after step-forms stepAnswer (refused 10) _ _ (short (v .before .before .before .before .before .before)) _ (head-at (v .before .before)) _ (v .value-at .ensures) (k .kind .given .0 .0) (word-at k) (c .step-after .ensures)
 
 pub parse-step-spec : {M : Type 1} → statement M
 parse-step-spec =
     tie.close
     (tie.spec
     too-long-requires
-    refused-step-requires
     returns
     slice-aggregate-past
     past-requires
     enum-known-from
     enum-told
-    refused-step-requires-2
     returns-2
     value-at-requires
     step-word-requires
     enum-known-kind
     enum-told-2
-    refused-step-requires-3
     returns-3
     add-step-after
     step-after-requires

@@ -26,22 +26,16 @@ enum-known-place c = search needs
 enum-told : tie.Need-enum-told
 enum-told c = search needs
 
-refused-step-requires : tie.Need-refused-step-requires
-refused-step-requires c κs = search needs
-
 returns : tie.Need-returns
 unfolding ascii
 returns c =
-    let st = c .before .before .before .before .before .before in
-    by-literals (st .args .kind) (ascii " at=" ∷ []) _ _ (st .pre .1) (field-not (st .args .line .now) (st .args .at) (ascii " at=") [] tt (rw (c .before .enum-told .given .1) at (c .before .before .before .number-field .ensures)) (c .refused-step .ensures))
-
-refused-step-requires-2 : tie.Need-refused-step-requires-2
-refused-step-requires-2 c κs = search needs
+    let st = c .before .before .before .before .before in
+    by-literals (st .args .kind) (ascii " at=" ∷ []) _ _ (st .pre .1) (field-not (st .args .line .now) (st .args .at) (ascii " at=") [] tt (rw (c .enum-told .given .1) at (c .before .before .number-field .ensures)) refl)
 
 returns-2 : tie.Need-returns-2
 returns-2 c =
-    let n = c .before .before in
-    by-literals (n .before .before .before .before .before .before .args .kind) (ascii " at=" ∷ []) _ _ (n .before .before .before .before .before .before .pre .1) (last-not (place-at n) (c .before .if1 .taken) (c .refused-step2 .ensures))
+    let n = c .before in
+    by-literals (n .before .before .before .before .before .before .args .kind) (ascii " at=" ∷ []) _ _ (n .before .before .before .before .before .before .pre .1) (last-not (place-at n) (c .if1 .taken) refl)
 
 step-made-requires : tie.Need-step-made-requires
 step-made-requires c κs = search needs
@@ -49,7 +43,7 @@ step-made-requires c κs = search needs
 returns-3 : tie.Need-returns-3
 returns-3 c =
     let n = c .before .before in
-    by-literals (n .before .before .before .before .before .before .args .kind) (ascii " at=" ∷ []) _ _ (n .before .before .before .before .before .before .pre .1) (last-is (place-at n) (c .before .if1 .left) (c .step-made .ensures ∙ place-answer (n .before .before .before .before .before .before .args .kind) (ascii " at=" ∷ []) _ _ _ (n .before .before .before .before .before .before .pre .1) (omega arith) (refl, refl, refl)))
+    by-literals (n .before .before .before .before .before .before .args .kind) (ascii " at=" ∷ []) _ _ (n .before .before .before .before .before .before .pre .1) (last-is (place-at n) (c .before .if1 .left) (c .step-made .ensures ∙ place-answer (n .before .before .before .before .before .before .args .kind) (ascii " at=" ∷ []) _ _ _ (n .before .before .before .before .before .before .pre .1) (omega arith)))
 
 pub place-step-spec : {M : Type 1} → statement M
 place-step-spec =
@@ -59,9 +53,7 @@ place-step-spec =
     number-field-requires
     enum-known-place
     enum-told
-    refused-step-requires
     returns
-    refused-step-requires-2
     returns-2
     step-made-requires
     returns-3)

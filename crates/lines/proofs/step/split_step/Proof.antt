@@ -35,14 +35,11 @@ enum-known-place c = search needs
 enum-told : tie.Need-enum-told
 enum-told c = search needs
 
-refused-step-requires : tie.Need-refused-step-requires
-refused-step-requires c κs = search needs
-
 returns : tie.Need-returns
 unfolding ascii
 returns c =
-    let st = c .before .before .before .before .before .before in
-    field-not (st .args .line .now) (st .args .at) (ascii " at=") (ascii " unit=" ∷ ascii " after=" ∷ []) (refl, (refl, tt)) (rw (c .before .enum-told .given .1) at (c .before .before .before .number-field .ensures)) (c .refused-step .ensures)
+    let st = c .before .before .before .before .before in
+    field-not (st .args .line .now) (st .args .at) (ascii " at=") (ascii " unit=" ∷ ascii " after=" ∷ []) (refl, (refl, tt)) (rw (c .enum-told .given .1) at (c .before .before .number-field .ensures)) refl
 
 slice-aggregate-number-field-2 : tie.Need-slice-aggregate-number-field-2
 slice-aggregate-number-field-2 c = search needs
@@ -56,14 +53,11 @@ enum-known-unit c = search needs
 enum-told-2 : tie.Need-enum-told-2
 enum-told-2 c = search needs
 
-refused-step-requires-2 : tie.Need-refused-step-requires-2
-refused-step-requires-2 c κs = search needs
-
 returns-2 : tie.Need-returns-2
 unfolding ascii
 returns-2 c =
-    let n = c .before .before .before .before .before in
-    next-not (place-at n) (ascii " unit=") (ascii " after=" ∷ []) (refl, (refl, tt)) (omega arith) (rw (c .before .enum-told2 .given .1) at (c .before .before .before .number-field2 .ensures)) (c .refused-step2 .ensures)
+    let n = c .before .before .before .before in
+    next-not (place-at n) (ascii " unit=") (ascii " after=" ∷ []) (refl, (refl, tt)) (omega arith) (rw (c .enum-told2 .given .1) at (c .before .before .number-field2 .ensures)) refl
 
 slice-aggregate-number-field-3 : tie.Need-slice-aggregate-number-field-3
 slice-aggregate-number-field-3 c = search needs
@@ -77,23 +71,17 @@ enum-known-after c = search needs
 enum-told-3 : tie.Need-enum-told-3
 enum-told-3 c = search needs
 
-refused-step-requires-3 : tie.Need-refused-step-requires-3
-refused-step-requires-3 c κs = search needs
-
 returns-3 : tie.Need-returns-3
 unfolding ascii
 returns-3 c =
-    let n = c .before .before .before .before .before in
-    number-then (place-at (n .before .before .before .before .before)) (ascii " unit=" ∷ ascii " after=" ∷ []) (refl, (refl, tt)) (omega arith) (next-not (unit-at n) (ascii " after=") [] (refl, tt) (omega arith) (rw (c .before .enum-told3 .given .1) at (c .before .before .before .number-field3 .ensures)) (c .refused-step3 .ensures))
-
-refused-step-requires-4 : tie.Need-refused-step-requires-4
-refused-step-requires-4 c κs = search needs
+    let n = c .before .before .before .before in
+    number-then (place-at (n .before .before .before .before .before)) (ascii " unit=" ∷ ascii " after=" ∷ []) (refl, (refl, tt)) (omega arith) (next-not (unit-at n) (ascii " after=") [] (refl, tt) (omega arith) (rw (c .enum-told3 .given .1) at (c .before .before .number-field3 .ensures)) refl)
 
 returns-4 : tie.Need-returns-4
 unfolding ascii
 returns-4 c =
-    let n = c .before .before in
-    number-then (place-at (n .before .before .before .before .before .before .before .before .before .before)) (ascii " unit=" ∷ ascii " after=" ∷ []) (refl, (refl, tt)) (omega arith) (number-then (unit-at (n .before .before .before .before .before)) (ascii " after=" ∷ []) (refl, tt) (omega arith) (last-not (after-at n) (c .before .if1 .taken) (c .refused-step4 .ensures)))
+    let n = c .before in
+    number-then (place-at (n .before .before .before .before .before .before .before .before .before .before)) (ascii " unit=" ∷ ascii " after=" ∷ []) (refl, (refl, tt)) (omega arith) (number-then (unit-at (n .before .before .before .before .before)) (ascii " after=" ∷ []) (refl, tt) (omega arith) (last-not (after-at n) (c .if1 .taken) refl))
 
 step-made-requires : tie.Need-step-made-requires
 step-made-requires c κs = search needs
@@ -102,7 +90,7 @@ returns-5 : tie.Need-returns-5
 unfolding ascii
 returns-5 c =
     let n = c .before .before in
-    number-then (place-at (n .before .before .before .before .before .before .before .before .before .before)) (ascii " unit=" ∷ ascii " after=" ∷ []) (refl, (refl, tt)) (omega arith) (number-then (unit-at (n .before .before .before .before .before)) (ascii " after=" ∷ []) (refl, tt) (omega arith) (last-is (after-at n) (c .before .if1 .left) (c .step-made .ensures ∙ place-answer Split (ascii " at=" ∷ ascii " unit=" ∷ ascii " after=" ∷ []) (n .before .before .before .before .before .before .before .before .before .before .before .place .given .0 .0) (n .before .before .before .before .before .before .unit .given .0 .0) (n .before .after .given .0 .0) refl (omega arith) (refl, refl, refl))))
+    number-then (place-at (n .before .before .before .before .before .before .before .before .before .before)) (ascii " unit=" ∷ ascii " after=" ∷ []) (refl, (refl, tt)) (omega arith) (number-then (unit-at (n .before .before .before .before .before)) (ascii " after=" ∷ []) (refl, tt) (omega arith) (last-is (after-at n) (c .before .if1 .left) (c .step-made .ensures ∙ place-answer Split (ascii " at=" ∷ ascii " unit=" ∷ ascii " after=" ∷ []) (n .before .before .before .before .before .before .before .before .before .before .before .place .given .0 .0) (n .before .before .before .before .before .before .unit .given .0 .0) (n .before .after .given .0 .0) refl (omega arith))))
 
 pub split-step-spec : {M : Type 1} → statement M
 split-step-spec =
@@ -112,21 +100,17 @@ split-step-spec =
     number-field-requires
     enum-known-place
     enum-told
-    refused-step-requires
     returns
     slice-aggregate-number-field-2
     number-field-requires-2
     enum-known-unit
     enum-told-2
-    refused-step-requires-2
     returns-2
     slice-aggregate-number-field-3
     number-field-requires-3
     enum-known-after
     enum-told-3
-    refused-step-requires-3
     returns-3
-    refused-step-requires-4
     returns-4
     step-made-requires
     returns-5)

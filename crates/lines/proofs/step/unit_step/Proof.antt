@@ -30,14 +30,11 @@ enum-known-place c = search needs
 enum-told : tie.Need-enum-told
 enum-told c = search needs
 
-refused-step-requires : tie.Need-refused-step-requires
-refused-step-requires c κs = search needs
-
 returns : tie.Need-returns
 unfolding ascii
 returns c =
-    let st = c .before .before .before .before .before .before in
-    by-literals (st .args .kind) (ascii " at=" ∷ ascii " unit=" ∷ []) _ _ (st .pre .1) (field-not (st .args .line .now) (st .args .at) (ascii " at=") (ascii " unit=" ∷ []) (refl, tt) (rw (c .before .enum-told .given .1) at (c .before .before .before .number-field .ensures)) (c .refused-step .ensures))
+    let st = c .before .before .before .before .before in
+    by-literals (st .args .kind) (ascii " at=" ∷ ascii " unit=" ∷ []) _ _ (st .pre .1) (field-not (st .args .line .now) (st .args .at) (ascii " at=") (ascii " unit=" ∷ []) (refl, tt) (rw (c .enum-told .given .1) at (c .before .before .number-field .ensures)) refl)
 
 slice-aggregate-number-field-2 : tie.Need-slice-aggregate-number-field-2
 slice-aggregate-number-field-2 c = search needs
@@ -51,23 +48,17 @@ enum-known-unit c = search needs
 enum-told-2 : tie.Need-enum-told-2
 enum-told-2 c = search needs
 
-refused-step-requires-2 : tie.Need-refused-step-requires-2
-refused-step-requires-2 c κs = search needs
-
 returns-2 : tie.Need-returns-2
 unfolding ascii
 returns-2 c =
-    let n = c .before .before .before .before .before in
-    by-literals (n .before .before .before .before .before .before .args .kind) (ascii " at=" ∷ ascii " unit=" ∷ []) _ _ (n .before .before .before .before .before .before .pre .1) (next-not (place-at n) (ascii " unit=") [] (refl, tt) (omega arith) (rw (c .before .enum-told2 .given .1) at (c .before .before .before .number-field2 .ensures)) (c .refused-step2 .ensures))
-
-refused-step-requires-3 : tie.Need-refused-step-requires-3
-refused-step-requires-3 c κs = search needs
+    let n = c .before .before .before .before in
+    by-literals (n .before .before .before .before .before .before .args .kind) (ascii " at=" ∷ ascii " unit=" ∷ []) _ _ (n .before .before .before .before .before .before .pre .1) (next-not (place-at n) (ascii " unit=") [] (refl, tt) (omega arith) (rw (c .enum-told2 .given .1) at (c .before .before .number-field2 .ensures)) refl)
 
 returns-3 : tie.Need-returns-3
 unfolding ascii
 returns-3 c =
-    let n = c .before .before in
-    by-literals (n .before .before .before .before .before .before .before .before .before .before .before .args .kind) (ascii " at=" ∷ ascii " unit=" ∷ []) _ _ (n .before .before .before .before .before .before .before .before .before .before .before .pre .1) (number-then (place-at (n .before .before .before .before .before)) (ascii " unit=" ∷ []) (refl, tt) (omega arith) (last-not (unit-at n) (c .before .if1 .taken) (c .refused-step3 .ensures)))
+    let n = c .before in
+    by-literals (n .before .before .before .before .before .before .before .before .before .before .before .args .kind) (ascii " at=" ∷ ascii " unit=" ∷ []) _ _ (n .before .before .before .before .before .before .before .before .before .before .before .pre .1) (number-then (place-at (n .before .before .before .before .before)) (ascii " unit=" ∷ []) (refl, tt) (omega arith) (last-not (unit-at n) (c .if1 .taken) refl))
 
 step-made-requires : tie.Need-step-made-requires
 step-made-requires c κs = search needs
@@ -76,7 +67,7 @@ returns-4 : tie.Need-returns-4
 unfolding ascii
 returns-4 c =
     let n = c .before .before in
-    by-literals (n .before .before .before .before .before .before .before .before .before .before .before .args .kind) (ascii " at=" ∷ ascii " unit=" ∷ []) _ _ (n .before .before .before .before .before .before .before .before .before .before .before .pre .1) (number-then (place-at (n .before .before .before .before .before)) (ascii " unit=" ∷ []) (refl, tt) (omega arith) (last-is (unit-at n) (c .before .if1 .left) (c .step-made .ensures ∙ place-answer (n .before .before .before .before .before .before .before .before .before .before .before .args .kind) (ascii " at=" ∷ ascii " unit=" ∷ []) _ _ _ (n .before .before .before .before .before .before .before .before .before .before .before .pre .1) (omega arith) (refl, refl, refl))))
+    by-literals (n .before .before .before .before .before .before .before .before .before .before .before .args .kind) (ascii " at=" ∷ ascii " unit=" ∷ []) _ _ (n .before .before .before .before .before .before .before .before .before .before .before .pre .1) (number-then (place-at (n .before .before .before .before .before)) (ascii " unit=" ∷ []) (refl, tt) (omega arith) (last-is (unit-at n) (c .before .if1 .left) (c .step-made .ensures ∙ place-answer (n .before .before .before .before .before .before .before .before .before .before .before .args .kind) (ascii " at=" ∷ ascii " unit=" ∷ []) _ _ _ (n .before .before .before .before .before .before .before .before .before .before .before .pre .1) (omega arith))))
 
 pub unit-step-spec : {M : Type 1} → statement M
 unit-step-spec =
@@ -86,15 +77,12 @@ unit-step-spec =
     number-field-requires
     enum-known-place
     enum-told
-    refused-step-requires
     returns
     slice-aggregate-number-field-2
     number-field-requires-2
     enum-known-unit
     enum-told-2
-    refused-step-requires-2
     returns-2
-    refused-step-requires-3
     returns-3
     step-made-requires
     returns-4)

@@ -3,8 +3,8 @@
 use mathlib.Core.Path.{subst}
 use mathlib.Core.List.{List}
 use Prim.Native.Nat.{ℕ}
-use Rattle.print.specs.Lengths.{LineLength}
-use Rattle.state.specs.State.{held}
+use Rattle.print.specs.Inner.Lengths.{LineLength}
+use Rattle.state.specs.Inner.State.{flatIn}
 use Rattle.listing.proofs.Counted.{head-counted}
 use borrow.Author.Needs.{needs}
 use Rattle.listing.proofs.measure.counts_len.Statement.{statement}
@@ -33,7 +33,7 @@ head-len-requires c κs = search needs
 
 returns : tie.Need-returns
 returns c =
-    let f = held (c .before .before .before .before .before .args .image .now) in
+    let f = flatIn (c .before .before .before .before .before .args .image .now) in
     subst (λ (l : List ℕ). LineLength l (c .head-len .result)) (head-counted f (c .before .before .before .total .ensures .is) (c .before .before .total2 .ensures .is) (c .before .labels-waiting .ensures .is)) (c .head-len .ensures)
 
 pub counts-len-spec : {M : Type 1} → statement M

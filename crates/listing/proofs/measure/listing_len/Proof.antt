@@ -3,8 +3,8 @@
 use native.Mathlib.Omega.{arith}
 use mathlib.Core.Path.{ap}
 use lib.ListN.{length, length-append}
-use Rattle.state.specs.State.{held}
-use Rattle.listing.specs.Listed.{headOf, rowsOf, joined}
+use Rattle.state.specs.Inner.State.{flatIn}
+use Rattle.listing.specs.Inner.Rows.{headLine, rowsOf, joined}
 use Rattle.listing.proofs.Counted.{listing-held}
 use Rattle.listing.proofs.measure.listing_len.Statement.{statement}
 use Rattle.listing.proofs.measure.listing_len.Tie as tie
@@ -21,11 +21,11 @@ add-result c = omega (arith, c .before .counts-len .ensures .few, c .rows-len .e
 returns : tie.Need-returns
 returns c =
     let s = c .before .before .before in
-    let f = held (s .args .image .now) in
+    let f = flatIn (s .args .image .now) in
     let n = c .before .counts-len .ensures in
     let m = c .rows-len .ensures in
     record {
-      text = omega (arith, ap length (listing-held (s .args .image .now) (s .pre)), length-append (headOf f) (joined (rowsOf f)), n .text, m .text);
+      text = omega (arith, ap length (listing-held (s .args .image .now) (s .pre)), length-append (headLine f) (joined (rowsOf f)), n .text, m .text);
       few = omega (arith, n .few, m .few);
     }
 

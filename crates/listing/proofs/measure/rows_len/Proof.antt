@@ -6,15 +6,15 @@ use mathlib.Core.List.{List}
 use native.Mathlib.Omega.{arith}
 use lib.ListN.{length, take}
 use lib.Seq.{take-all}
-use Rattle.state.specs.State.{held}
-use Rattle.listing.specs.Listed.{rowsOf, joined}
+use Rattle.state.specs.Inner.State.{flatIn}
+use Rattle.listing.specs.Inner.Rows.{rowsOf, joined}
 use Rattle.listing.proofs.Joined.{length-next}
 use borrow.Author.Needs.{needs}
 use Rattle.listing.proofs.measure.rows_len.Statement.{statement}
 use Rattle.listing.proofs.measure.rows_len.Tie as tie
 
 abbrev Inv-loop : tie.InvT-loop
-Inv-loop image n sum₀ i₀ sum i = (i ≤ n) × (sum ≤ 128 * i) × (sum ≡ length (joined (take i (rowsOf (held image)))))
+Inv-loop image n sum₀ i₀ sum i = (i ≤ n) × (sum ≤ 128 * i) × (sum ≡ length (joined (take i (rowsOf (flatIn image)))))
 
 abbrev μ-loop : tie.MeasureT-loop
 μ-loop image n sum₀ i₀ sum i = n - i
@@ -44,7 +44,7 @@ loop-again : tie.Need-loop-again Inv-loop μ-loop
 loop-again c =
     let l = c .before .before .before in
     let x = c .row-len .ensures in
-    let xs = rowsOf (held (l .before .before .before .args .image .now)) in
+    let xs = rowsOf (flatIn (l .before .before .before .args .image .now)) in
     let h : l .loop .i < length xs = omega (arith, l .before .rows-total .ensures .is) in
     (omega arith, omega (arith, l .loop .inv .1, x .few), omega (arith, length-next xs (l .loop .i) h, x .text, ap length (c .before .row-at .ensures), l .loop .inv .2))
 
@@ -52,7 +52,7 @@ returns : tie.Need-returns Inv-loop μ-loop
 returns c =
     let l = c .before in
     let n = l .before .rows-total .ensures in
-    let xs = rowsOf (held (l .before .before .before .args .image .now)) in
+    let xs = rowsOf (flatIn (l .before .before .before .args .image .now)) in
     let h : length xs ≤ l .loop .i = omega (arith, n .is) in
     record {
       text = l .loop .inv .2 ∙ ap (λ (ys : List (List ℕ)). length (joined ys)) (take-all (l .loop .i) xs h);

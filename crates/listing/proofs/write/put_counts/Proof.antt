@@ -3,7 +3,7 @@
 use mathlib.Core.Path.{ap}
 use native.Mathlib.Omega.{arith}
 use lib.ListN.{length}
-use Rattle.state.specs.State.{held}
+use Rattle.state.specs.Inner.State.{flatIn}
 use Rattle.listing.proofs.Counted.{head-counted}
 use Rattle.listing.proofs.Joined.{written-as}
 use borrow.Author.Needs.{needs}
@@ -31,7 +31,7 @@ cast-put-head-3 c = search needs
 put-head-requires : tie.Need-put-head-requires
 put-head-requires c κs =
     let s = c .before .before .before .before .before .before in
-    let e = head-counted (held (s .args .image .now)) (c .before .before .before .total .ensures .is) (c .before .before .total2 .ensures .is) (c .before .labels-waiting .ensures .is) in
+    let e = head-counted (flatIn (s .args .image .now)) (c .before .before .before .total .ensures .is) (c .before .before .total2 .ensures .is) (c .before .labels-waiting .ensures .is) in
     omega (arith, ap length e, s .pre .1)
 
 same-length : tie.Need-same-length
@@ -42,7 +42,7 @@ returns c =
     let l = c .before .before .before .before in
     let a = l .before .before .before .before .before .args in
     let w = c .before .before .put-head in
-    written-as (head-counted (held (a .image .now)) (l .before .before .total .ensures .is) (l .before .total2 .ensures .is) (l .labels-waiting .ensures .is)) (w .ensures)
+    written-as (head-counted (flatIn (a .image .now)) (l .before .before .total .ensures .is) (l .before .total2 .ensures .is) (l .labels-waiting .ensures .is)) (w .ensures)
 
 pub put-counts-spec : {M : Type 1} → statement M
 put-counts-spec =

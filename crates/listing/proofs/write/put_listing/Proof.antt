@@ -2,8 +2,8 @@
 -- Assumes nothing.
 use native.Mathlib.Omega.{arith}
 use Rattle.text.proofs.Pasting.{written-room, written-then, front-fits}
-use Rattle.state.specs.State.{held}
-use Rattle.listing.specs.Listed.{headOf, rowsOf, joined}
+use Rattle.state.specs.Inner.State.{flatIn}
+use Rattle.listing.specs.Inner.Rows.{headLine, rowsOf, joined}
 use Rattle.listing.proofs.Counted.{listing-held, fitting}
 use Rattle.listing.proofs.Joined.{written-as}
 use borrow.Author.Needs.{needs}
@@ -13,14 +13,14 @@ use Rattle.listing.proofs.write.put_listing.Tie as tie
 put-counts-requires : tie.Need-put-counts-requires
 put-counts-requires c κs =
     let s = c .before .before .before in
-    let f = held (s .args .image .now) in
-    (s .pre .0 .proper, omega (arith, front-fits 0 (headOf f) (joined (rowsOf f)) (fitting (s .args .image .now) (s .pre .0) (s .pre .1))))
+    let f = flatIn (s .args .image .now) in
+    (s .pre .0 .proper, omega (arith, front-fits 0 (headLine f) (joined (rowsOf f)) (fitting (s .args .image .now) (s .pre .0) (s .pre .1))))
 
 put-rows-requires : tie.Need-put-rows-requires
 put-rows-requires c κs =
     let w = c .before .before .before in
     let s = w .before .before .before .before in
-    (s .pre .0 .proper, written-room (w .put-counts .ensures) (joined (rowsOf (held (s .args .image .now)))) (fitting (s .args .image .now) (s .pre .0) (s .pre .1)))
+    (s .pre .0 .proper, written-room (w .put-counts .ensures) (joined (rowsOf (flatIn (s .args .image .now)))) (fitting (s .args .image .now) (s .pre .0) (s .pre .1)))
 
 same-length : tie.Need-same-length
 same-length c = search needs

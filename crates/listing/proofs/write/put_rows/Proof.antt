@@ -5,22 +5,22 @@ use mathlib.Core.Path.{_≡_, refl, ap, _∙_}
 use native.Mathlib.Omega.{arith}
 use lib.ListN.{length, take}
 use lib.Seq.{take-all}
-use Rattle.text.specs.Text.{Written}
+use Rattle.text.specs.Inner.Put.{TextPut}
 use Rattle.text.proofs.Pasting.{written-none}
-use Rattle.state.specs.State.{held}
-use Rattle.listing.specs.Listed.{rowsOf, joined}
+use Rattle.state.specs.Inner.State.{flatIn}
+use Rattle.listing.specs.Inner.Rows.{rowsOf, joined}
 use Rattle.listing.proofs.Joined.{written-as, row-room, row-more}
 use borrow.Author.Needs.{needs}
 use Rattle.listing.proofs.write.put_rows.Statement.{statement}
 use Rattle.listing.proofs.write.put_rows.Tie as tie
 
 abbrev Inv-loop : tie.InvT-loop
-Inv-loop out₀ at image n p₀ i₀ out p i = (length out ≡ length out₀) × Written out₀ at (joined (take i (rowsOf (held image)))) out p
+Inv-loop out₀ at image n p₀ i₀ out p i = (length out ≡ length out₀) × TextPut out₀ at (joined (take i (rowsOf (flatIn image)))) out p
 
 abbrev μ-loop : tie.MeasureT-loop
 μ-loop out₀ at image n p₀ i₀ out p i = n - i
 
-inside : (c : tie.At-loop Inv-loop μ-loop) → c .loop .i < c .before .rows-total .result → c .loop .i < length (rowsOf (held (c .before .before .before .before .args .image .now)))
+inside : (c : tie.At-loop Inv-loop μ-loop) → c .loop .i < c .before .rows-total .result → c .loop .i < length (rowsOf (flatIn (c .before .before .before .before .args .image .now)))
 inside c h = omega (arith, c .before .rows-total .ensures .is)
 
 rows-total-requires : tie.Need-rows-total-requires Inv-loop μ-loop
@@ -37,7 +37,7 @@ put-row-requires c κs =
     let l = c .before .before .before in
     let st = l .before .before .before .before in
     let h = inside l (c .before .before .loop-test .taken) in
-    omega (arith, ap length (c .row-at .ensures), row-room (rowsOf (held (st .args .image .now))) (l .loop .i) h (st .pre .1) (l .loop .inv .1))
+    omega (arith, ap length (c .row-at .ensures), row-room (rowsOf (flatIn (st .args .image .now))) (l .loop .i) h (st .pre .1) (l .loop .inv .1))
 
 add-i : tie.Need-add-i Inv-loop μ-loop
 add-i c = search needs
@@ -53,7 +53,7 @@ loop-again c =
     let st = l .before .before .before .before in
     let h = inside l (x .before .before .loop-test .taken) in (
       w .put-row .kept .0 ∙ l .loop .inv .0,
-      row-more (rowsOf (held (st .args .image .now))) (l .loop .i) h (st .pre .1) (l .loop .inv .1) (written-as (x .row-at .ensures) (w .put-row .ensures)),
+      row-more (rowsOf (flatIn (st .args .image .now))) (l .loop .i) h (st .pre .1) (l .loop .inv .1) (written-as (x .row-at .ensures) (w .put-row .ensures)),
     )
 
 same-length : tie.Need-same-length Inv-loop μ-loop
@@ -63,7 +63,7 @@ returns : tie.Need-returns Inv-loop μ-loop
 returns c =
     let l = c .before in
     let a = l .before .before .before .before .args in
-    let xs = rowsOf (held (a .image .now)) in
+    let xs = rowsOf (flatIn (a .image .now)) in
     let h : length xs ≤ l .loop .i = omega (arith, l .before .rows-total .ensures .is) in
     written-as (ap joined (take-all (l .loop .i) xs h)) (l .loop .inv .1)
 

@@ -8,7 +8,7 @@ use borrow.Author.Needs.{needs}
 use lib.ListN.{length, take, getD}
 use lib.Seq.{take-all}
 use Rattle.graph.specs.Packed.{listed}
-use Rattle.print.specs.Printed.{entry}
+use Rattle.print.specs.Inner.Values.{entry}
 use Rattle.text.specs.Text.{commas}
 use Rattle.graph.proofs.KeyLaws.{length-listed}
 use Rattle.print.proofs.Entries.{length-none, length-next}

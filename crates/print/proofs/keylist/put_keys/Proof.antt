@@ -6,13 +6,14 @@ use native.Mathlib.Omega.{arith}
 use borrow.Author.Needs.{needs}
 use lib.ListN.{length, take}
 use Rattle.graph.specs.Packed.{listed}
-use Rattle.text.specs.Text.{commas, Written}
+use Rattle.text.specs.Text.{commas}
+use Rattle.text.specs.Inner.Put.{TextPut}
 use Rattle.print.proofs.Entries.{entries-none, entry-room, entry-more, entries-all}
 use Rattle.print.proofs.keylist.put_keys.Statement.{statement}
 use Rattle.print.proofs.keylist.put_keys.Tie as tie
 
 abbrev Inv-loop : tie.InvT-loop
-Inv-loop out₀ at keys n p₀ i₀ out p i = (length out ≡ length out₀) × Written out₀ at (commas (take i (listed keys))) out p
+Inv-loop out₀ at keys n p₀ i₀ out p i = (length out ≡ length out₀) × TextPut out₀ at (commas (take i (listed keys))) out p
 
 abbrev μ-loop : tie.MeasureT-loop
 μ-loop out₀ at keys n p₀ i₀ out p i = n - i

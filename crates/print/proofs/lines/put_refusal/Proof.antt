@@ -21,12 +21,12 @@ put-wide-field-requires c κs =
     let f1 = front-fits (a .at) (numbered (ascii "line=") (a .line)) (numbered (ascii " refused=") (a .refusal)) f2 in
     f1
 
-slice-aggregate-put-wide-field-2 : tie.Need-slice-aggregate-put-wide-field-2
-slice-aggregate-put-wide-field-2 c = search needs
+slice-aggregate-put-field : tie.Need-slice-aggregate-put-field
+slice-aggregate-put-field c = search needs
 
-put-wide-field-requires-2 : tie.Need-put-wide-field-requires-2
+put-field-requires : tie.Need-put-field-requires
 unfolding ascii
-put-wide-field-requires-2 c κs =
+put-field-requires c κs =
     let st = c .before .before .before .before .before .before .before .before in
     let a = st .args in
     let f3 = st .pre in
@@ -45,7 +45,7 @@ put-bytes-requires c κs =
     let f3 = st .pre in
     let f2 = front-fits (a .at) (numbered (ascii "line=") (a .line) ++ numbered (ascii " refused=") (a .refusal)) (newline) f3 in
     let w1 = c .before .before .before .before .before .before .before .before .before .put-wide-field .ensures in
-    let w2 = written-then w1 (c .before .before .before .before .put-wide-field2 .ensures) f2 in
+    let w2 = written-then w1 (c .before .before .before .before .put-field .ensures) f2 in
     written-room w2 (newline) f3
 
 same-length : tie.Need-same-length
@@ -59,7 +59,7 @@ returns c =
     let f3 = st .pre in
     let f2 = front-fits (a .at) (numbered (ascii "line=") (a .line) ++ numbered (ascii " refused=") (a .refusal)) (newline) f3 in
     let w1 = c .before .before .before .before .before .before .before .before .before .before .before .before .put-wide-field .ensures in
-    let w2 = written-then w1 (c .before .before .before .before .before .before .before .put-wide-field2 .ensures) f2 in
+    let w2 = written-then w1 (c .before .before .before .before .before .before .before .put-field .ensures) f2 in
     let w3 = written-then w2 (c .before .before .put-bytes .ensures) f3 in
     w3
 
@@ -69,8 +69,8 @@ put-refusal-spec =
     (tie.spec
     slice-aggregate-put-wide-field
     put-wide-field-requires
-    slice-aggregate-put-wide-field-2
-    put-wide-field-requires-2
+    slice-aggregate-put-field
+    put-field-requires
     slice-aggregate-put-bytes
     put-bytes-requires
     same-length

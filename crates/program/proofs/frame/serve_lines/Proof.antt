@@ -3,7 +3,7 @@
 use mathlib.Core.Path.{_≡_, refl}
 use Prim.Native.Nat.{_-_}
 use lib.ListN.{length}
-use Rattle.program.specs.Frames.{LinesServed}
+use Rattle.program.specs.Inner.Frames.{LinesServed}
 use Rattle.program.proofs.Framing.{served-none, served-next}
 use borrow.Author.Needs.{needs}
 use native.Mathlib.Omega.{arith}

@@ -1,17 +1,25 @@
--- The answer, as the machine reads it, is a length or none.
+-- A length is read back.
 -- Assumes nothing.
-use Rattle.program.proofs.Signs.{reads-short, reads-cast, reads-length}
+use mathlib.Core.Path.{refl}
+use Rattle.program.proofs.Signs.{no-length}
+use borrow.Author.Needs.{needs}
 use Rattle.program.proofs.serve.length_in.Statement.{statement}
 use Rattle.program.proofs.serve.length_in.Tie as tie
 
-returns : tie.Need-returns
-returns c = reads-short (c .before .args .answer) (c .before .fits .answer) (c .if1 .taken)
+enum-known-answer : tie.Need-enum-known-answer
+enum-known-answer c = search needs
 
 cast-result : tie.Need-cast-result
-cast-result c = reads-cast (c .before .args .answer) (c .before .fits .answer) (c .if1 .left)
+cast-result c = search needs
+
+enum-told : tie.Need-enum-told
+enum-told c = search needs
+
+returns : tie.Need-returns
+returns c = rw (c .before .answer .given .1) refl
 
 returns-2 : tie.Need-returns-2
-returns-2 c = reads-length (c .before .args .answer) (c .before .fits .answer) (c .if1 .left)
+returns-2 c = rw (c .enum-told .given .1) (no-length (c .enum-told .given .0 .0))
 
 pub length-in-spec : {M : Type 1} → statement M
-length-in-spec = tie.close (tie.spec returns cast-result returns-2)
+length-in-spec = tie.close (tie.spec enum-known-answer cast-result enum-told returns returns-2)

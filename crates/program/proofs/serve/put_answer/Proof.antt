@@ -1,8 +1,5 @@
 -- What was written stays, or the refusal is written, which has room.
 -- Assumes nothing.
-use mathlib.Core.Path.{ap, _∙_}
-use mir.Facts.{toZ-ofZ}
-use Rattle.panel.specs.Answer.{refusalIn}
 use Rattle.program.proofs.Serving.{printed-served, refusal-room, printed-refusal}
 use borrow.Author.Needs.{needs}
 use Rattle.program.proofs.serve.put_answer.Statement.{statement}
@@ -12,7 +9,7 @@ refusal-in-requires : tie.Need-refusal-in-requires
 refusal-in-requires c κs = search needs
 
 returns : tie.Need-returns
-returns c = printed-served _ _ _ _ _ (c .before .before .before .pre .1) (c .before .refusal-in .ensures ∙ ap refusalIn (toZ-ofZ (c .before .before .before .fits .answer))) (c .if1 .taken)
+returns c = printed-served _ _ _ _ _ (c .before .before .before .pre .1) (c .before .refusal-in .ensures) (c .if1 .taken)
 
 put-refusal-requires : tie.Need-put-refusal-requires
 put-refusal-requires c κs = refusal-room _ _ (search needs) (search needs) (c .before .before .before .before .args .out .now) (c .before .before .before .before .pre .0)
@@ -21,7 +18,7 @@ same-length : tie.Need-same-length
 same-length c = search needs
 
 returns-2 : tie.Need-returns-2
-returns-2 c = printed-refusal _ _ (search needs) (search needs) _ (c .before .before .before .before .before .before .before .pre .0) _ _ _ _ (c .before .before .put-refusal .ensures) (c .before .before .before .before .before .refusal-in .ensures ∙ ap refusalIn (toZ-ofZ (c .before .before .before .before .before .before .before .fits .answer))) (c .before .before .before .before .if1 .left)
+returns-2 c = printed-refusal _ _ (search needs) (search needs) _ (c .before .before .before .before .before .before .before .pre .0) _ _ _ _ (c .before .before .put-refusal .ensures) (c .before .before .before .before .before .refusal-in .ensures) (c .before .before .before .before .if1 .left)
 
 pub put-answer-spec : {M : Type 1} → statement M
 put-answer-spec =

@@ -1,23 +1,22 @@
--- The answer, as the machine reads it, is a refusal or none.
+-- A refusal is read back.
 -- Assumes nothing.
-use Rattle.program.proofs.Signs.{reads-none, less-read, less-cast, less-room, reads-refusal}
+use mathlib.Core.Path.{refl}
+use Rattle.program.proofs.Signs.{refusal-back}
+use borrow.Author.Needs.{needs}
 use Rattle.program.proofs.serve.refusal_in.Statement.{statement}
 use Rattle.program.proofs.serve.refusal_in.Tie as tie
 
+enum-told : tie.Need-enum-told
+enum-told c = search needs
+
+enum-known-answer : tie.Need-enum-known-answer
+enum-known-answer c = search needs
+
 returns : tie.Need-returns
-returns c = reads-none (c .before .args .answer) (c .before .fits .answer) (c .if1 .taken)
-
-sub-result : tie.Need-sub-result
-sub-result c = less-read (c .before .args .answer) (c .before .fits .answer) (c .if1 .left)
-
-cast-result : tie.Need-cast-result
-cast-result c = less-cast (c .before .args .answer) (c .before .fits .answer) (c .if1 .left)
-
-add-result : tie.Need-add-result
-add-result c = less-room (c .before .args .answer) (c .before .fits .answer) (c .if1 .left)
+returns c = rw (c .enum-told .given .1) refl
 
 returns-2 : tie.Need-returns-2
-returns-2 c = reads-refusal (c .before .args .answer) (c .before .fits .answer) (c .if1 .left)
+returns-2 c = rw (c .before .answer .given .1) (refusal-back _)
 
 pub refusal-in-spec : {M : Type 1} → statement M
-refusal-in-spec = tie.close (tie.spec returns sub-result cast-result add-result returns-2)
+refusal-in-spec = tie.close (tie.spec enum-told enum-known-answer returns returns-2)

@@ -1,8 +1,5 @@
 -- What the host answered is printed.
 -- Assumes nothing.
-use mathlib.Core.Path.{_≡_}
-use mir.Syntax.{w64}
-use mir.Val.{toZ, ofZ}
 use Rattle.panel.specs.Tally.{zeros}
 use Rattle.host.proofs.Stepping.{takes-steps}
 use Rattle.program.proofs.Serving.{step-served}
@@ -12,6 +9,9 @@ use Rattle.program.proofs.serve.serve_step.Tie as tie
 
 step-at-requires : tie.Need-step-at-requires
 step-at-requires c κs = search needs
+
+step-answer-requires : tie.Need-step-answer-requires
+step-answer-requires c κs = search needs
 
 put-answer-requires : tie.Need-put-answer-requires
 put-answer-requires c κs = search needs
@@ -23,10 +23,15 @@ same-length-2 : tie.Need-same-length-2
 same-length-2 c = search needs
 
 returns : tie.Need-returns
-returns c =
-    let same : toZ w64 (ofZ w64 (c .before .before .before .before .before .before .before .step-at .result .answer)) ≡ c .before .before .before .before .before .before .before .step-at .result .answer = search needs in
-    step-served same (c .before .before .before .before .before .before .before .before .before .before .before .before .pre .1) (takes-steps (c .before .before .before .before .before .before .before .step-at .ensures) zeros .1) (c .before .before .put-answer .ensures)
+returns c = step-served (c .before .before .before .before .before .before .before .before .before .before .before .before .pre .1) (takes-steps (c .before .before .before .before .before .before .before .step-at .result) (c .before .before .before .before .before .before .before .step-at .ensures) zeros .1) (rw (c .before .before .before .before .step-answer .ensures) at (c .before .before .put-answer .ensures))
 
 pub serve-step-spec : {M : Type 1} → statement M
 serve-step-spec =
-    tie.close (tie.spec step-at-requires put-answer-requires same-length same-length-2 returns)
+    tie.close
+    (tie.spec
+    step-at-requires
+    step-answer-requires
+    put-answer-requires
+    same-length
+    same-length-2
+    returns)

@@ -7,7 +7,7 @@ use mathlib.Core.List.{List}
 use native.Mathlib.Omega.{arith}
 use lib.ListN.{length, take, drop, length-drop}
 use lib.Seq.{take-all}
-use Rattle.records.specs.Bytes.{allZero}
+use Rattle.records.specs.Inner.Numbers.{allZero}
 use Rattle.records.proofs.Zeros.{zero-parts}
 use borrow.Author.Needs.{needs}
 use Rattle.records.proofs.bytes.all_zero.Statement.{statement}

@@ -6,7 +6,7 @@ use mathlib.Core.Bool.{Bool, _&&_}
 use lib.Dec.{eqb}
 use lib.ListN.{length, getD, take}
 use lib.Seq.{take-all}
-use Rattle.records.specs.Bytes.{allZero}
+use Rattle.records.specs.Inner.Numbers.{allZero}
 use Rattle.records.proofs.Zeros.{zero-more}
 use borrow.Author.Needs.{needs}
 use native.Mathlib.Omega.{arith}

@@ -1,6 +1,6 @@
 -- `node::read_node` meets its contract.
 -- Assumes nothing.
-use Rattle.records.specs.Records.{decodeNode}
+use Rattle.records.specs.Inner.Decoded.{decodeNode}
 use borrow.Author.Needs.{needs}
 use Rattle.records.proofs.node.read_node.Statement.{statement}
 use Rattle.records.proofs.node.read_node.Tie as tie

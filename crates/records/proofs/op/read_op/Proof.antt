@@ -1,6 +1,6 @@
 -- `op::read_op` meets its contract.
 -- Assumes nothing.
-use Rattle.records.specs.Records.{decodeOp}
+use Rattle.records.specs.Inner.Decoded.{decodeOp}
 use borrow.Author.Needs.{needs}
 use Rattle.records.proofs.op.read_op.Statement.{statement}
 use Rattle.records.proofs.op.read_op.Tie as tie

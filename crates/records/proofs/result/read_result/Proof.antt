@@ -1,6 +1,6 @@
 -- `result::read_result` meets its contract.
 -- Assumes nothing.
-use Rattle.records.specs.Records.{decodeResult}
+use Rattle.records.specs.Inner.Decoded.{decodeResult}
 use borrow.Author.Needs.{needs}
 use Rattle.records.proofs.result.read_result.Statement.{statement}
 use Rattle.records.proofs.result.read_result.Tie as tie

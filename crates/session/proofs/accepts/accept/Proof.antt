@@ -2,6 +2,8 @@
 -- Assumes nothing.
 use mathlib.Core.Path.{refl, sym}
 use mathlib.Core.Bool.{true≢false}
+use Rattle.graph.specs.Packed.{listed}
+use Rattle.lines.specs.Inner.Answers.{callForm}
 use Rattle.lines.specs.declared.call.CallKind.the-variants.{Add, Map, Link, Unlink, Sum, Top, Pick, Near}
 use Rattle.session.proofs.Accepting.{accepts, labelled-as, key-small}
 use borrow.Author.Needs.{needs}
@@ -25,8 +27,8 @@ enum-told-3 c = search needs
 
 cast-t15 : tie.Need-cast-t15
 cast-t15 c =
-    let a = c .before .before .before .before .before in
-    record { fits = key-small (a .args .c) Link _ _ (c .before .enum-told3 .given .1) (a .pre .1) refl }
+    let a = c .before .before .before .before in
+    record { fits = key-small (a .args .kind) Link (a .args .x) (a .args .y) (listed (a .args .to)) _ _ (c .before .enum-told3 .given .1) (a .pre .1 .form) refl }
 
 accept-operation-requires-2 : tie.Need-accept-operation-requires-2
 accept-operation-requires-2 c κs = search needs
@@ -36,8 +38,8 @@ enum-told-4 c = search needs
 
 cast-t19 : tie.Need-cast-t19
 cast-t19 c =
-    let a = c .before .before .before .before .before in
-    record { fits = key-small (a .args .c) Unlink _ _ (c .before .enum-told4 .given .1) (a .pre .1) refl }
+    let a = c .before .before .before .before in
+    record { fits = key-small (a .args .kind) Unlink (a .args .x) (a .args .y) (listed (a .args .to)) _ _ (c .before .enum-told4 .given .1) (a .pre .1 .form) refl }
 
 accept-operation-requires-3 : tie.Need-accept-operation-requires-3
 accept-operation-requires-3 c κs = search needs
@@ -46,94 +48,94 @@ enum-told-5 : tie.Need-enum-told-5
 enum-told-5 c = search needs
 
 accept-operation-requires-4 : tie.Need-accept-operation-requires-4
-accept-operation-requires-4 c κs = (c .before .before .before .before .before .pre .0, c .before .before .before .before .before .pre .1 .targets, λ e. absurd (true≢false (sym e)))
+accept-operation-requires-4 c κs = (c .before .before .before .before .pre .0, c .before .before .before .before .pre .1 .targets, λ e. absurd (true≢false (sym e)))
 
 enum-told-6 : tie.Need-enum-told-6
 enum-told-6 c = search needs
 
 accept-operation-requires-5 : tie.Need-accept-operation-requires-5
-accept-operation-requires-5 c κs = (c .before .before .before .before .before .pre .0, c .before .before .before .before .before .pre .1 .targets, λ e. absurd (true≢false (sym e)))
+accept-operation-requires-5 c κs = (c .before .before .before .before .pre .0, c .before .before .before .before .pre .1 .targets, λ e. absurd (true≢false (sym e)))
 
 enum-told-7 : tie.Need-enum-told-7
 enum-told-7 c = search needs
 
 accept-operation-requires-6 : tie.Need-accept-operation-requires-6
-accept-operation-requires-6 c κs = (c .before .before .before .before .before .pre .0, c .before .before .before .before .before .pre .1 .targets, λ e. absurd (true≢false (sym e)))
+accept-operation-requires-6 c κs = (c .before .before .before .before .pre .0, c .before .before .before .before .pre .1 .targets, λ e. absurd (true≢false (sym e)))
 
 enum-told-8 : tie.Need-enum-told-8
 enum-told-8 c = search needs
 
 cast-t32 : tie.Need-cast-t32
 cast-t32 c =
-    let a = c .before .before .before .before .before in
-    record { fits = key-small (a .args .c) Near _ _ (c .before .enum-told8 .given .1) (a .pre .1) refl }
+    let a = c .before .before .before .before in
+    record { fits = key-small (a .args .kind) Near (a .args .x) (a .args .y) (listed (a .args .to)) _ _ (c .before .enum-told8 .given .1) (a .pre .1 .form) refl }
 
 accept-operation-requires-7 : tie.Need-accept-operation-requires-7
-accept-operation-requires-7 c κs = (c .before .before .before .before .before .pre .0, c .before .before .before .before .before .pre .1 .targets, λ e. absurd (true≢false (sym e)))
+accept-operation-requires-7 c κs = (c .before .before .before .before .pre .0, c .before .before .before .before .pre .1 .targets, λ e. absurd (true≢false (sym e)))
 
 same-length : tie.Need-same-length
 same-length c = search needs
 
 returns : tie.Need-returns
 returns c =
-    let a = c .before .before .before .before .before .before .before .before in
-    accepts (a .args .c) _ (a .args .image .now) _ _ (a .pre .1) (a .pre .0) (λ i. c .slice-known2 .given i .fits) (labelled-as (a .args .c) Add (c .before .before .before .before .enum-told .given .1) _) (c .before .before .accept-add .ensures)
+    let a = c .before .before .before .before .before .before .before in
+    accepts (callForm (a .args .kind) (a .args .x) (a .args .y) (listed (a .args .to))) _ (a .args .image .now) _ _ (a .pre .1 .form) (a .pre .0) (λ i. c .slice-known2 .given i .fits) (labelled-as (a .args .kind) Add (a .args .x) (a .args .y) (listed (a .args .to)) (c .before .before .before .before .enum-told .given .1) _) (c .before .before .accept-add .ensures)
 
 same-length-2 : tie.Need-same-length-2
 same-length-2 c = search needs
 
 returns-2 : tie.Need-returns-2
 returns-2 c =
-    let a = c .before .before .before .before .before .before .before .before in
-    accepts (a .args .c) _ (a .args .image .now) _ _ (a .pre .1) (a .pre .0) (λ i. c .slice-known3 .given i .fits) (labelled-as (a .args .c) Map (c .before .before .before .before .enum-told2 .given .1) _) (c .before .before .accept-operation .ensures)
+    let a = c .before .before .before .before .before .before .before in
+    accepts (callForm (a .args .kind) (a .args .x) (a .args .y) (listed (a .args .to))) _ (a .args .image .now) _ _ (a .pre .1 .form) (a .pre .0) (λ i. c .slice-known3 .given i .fits) (labelled-as (a .args .kind) Map (a .args .x) (a .args .y) (listed (a .args .to)) (c .before .before .before .before .enum-told2 .given .1) _) (c .before .before .accept-operation .ensures)
 
 same-length-3 : tie.Need-same-length-3
 same-length-3 c = search needs
 
 returns-3 : tie.Need-returns-3
 returns-3 c =
-    let a = c .before .before .before .before .before .before .before .before in
-    accepts (a .args .c) _ (a .args .image .now) _ _ (a .pre .1) (a .pre .0) (λ i. c .slice-known4 .given i .fits) (labelled-as (a .args .c) Link (c .before .before .before .before .enum-told3 .given .1) _) (c .before .before .accept-operation2 .ensures)
+    let a = c .before .before .before .before .before .before .before in
+    accepts (callForm (a .args .kind) (a .args .x) (a .args .y) (listed (a .args .to))) _ (a .args .image .now) _ _ (a .pre .1 .form) (a .pre .0) (λ i. c .slice-known4 .given i .fits) (labelled-as (a .args .kind) Link (a .args .x) (a .args .y) (listed (a .args .to)) (c .before .before .before .before .enum-told3 .given .1) _) (c .before .before .accept-operation2 .ensures)
 
 same-length-4 : tie.Need-same-length-4
 same-length-4 c = search needs
 
 returns-4 : tie.Need-returns-4
 returns-4 c =
-    let a = c .before .before .before .before .before .before .before .before in
-    accepts (a .args .c) _ (a .args .image .now) _ _ (a .pre .1) (a .pre .0) (λ i. c .slice-known5 .given i .fits) (labelled-as (a .args .c) Unlink (c .before .before .before .before .enum-told4 .given .1) _) (c .before .before .accept-operation3 .ensures)
+    let a = c .before .before .before .before .before .before .before in
+    accepts (callForm (a .args .kind) (a .args .x) (a .args .y) (listed (a .args .to))) _ (a .args .image .now) _ _ (a .pre .1 .form) (a .pre .0) (λ i. c .slice-known5 .given i .fits) (labelled-as (a .args .kind) Unlink (a .args .x) (a .args .y) (listed (a .args .to)) (c .before .before .before .before .enum-told4 .given .1) _) (c .before .before .accept-operation3 .ensures)
 
 same-length-5 : tie.Need-same-length-5
 same-length-5 c = search needs
 
 returns-5 : tie.Need-returns-5
 returns-5 c =
-    let a = c .before .before .before .before .before .before .before .before in
-    accepts (a .args .c) _ (a .args .image .now) _ _ (a .pre .1) (a .pre .0) (λ i. c .slice-known6 .given i .fits) (labelled-as (a .args .c) Sum (c .before .before .before .before .enum-told5 .given .1) _) (c .before .before .accept-operation4 .ensures)
+    let a = c .before .before .before .before .before .before .before in
+    accepts (callForm (a .args .kind) (a .args .x) (a .args .y) (listed (a .args .to))) _ (a .args .image .now) _ _ (a .pre .1 .form) (a .pre .0) (λ i. c .slice-known6 .given i .fits) (labelled-as (a .args .kind) Sum (a .args .x) (a .args .y) (listed (a .args .to)) (c .before .before .before .before .enum-told5 .given .1) _) (c .before .before .accept-operation4 .ensures)
 
 same-length-6 : tie.Need-same-length-6
 same-length-6 c = search needs
 
 returns-6 : tie.Need-returns-6
 returns-6 c =
-    let a = c .before .before .before .before .before .before .before .before in
-    accepts (a .args .c) _ (a .args .image .now) _ _ (a .pre .1) (a .pre .0) (λ i. c .slice-known7 .given i .fits) (labelled-as (a .args .c) Top (c .before .before .before .before .enum-told6 .given .1) _) (c .before .before .accept-operation5 .ensures)
+    let a = c .before .before .before .before .before .before .before in
+    accepts (callForm (a .args .kind) (a .args .x) (a .args .y) (listed (a .args .to))) _ (a .args .image .now) _ _ (a .pre .1 .form) (a .pre .0) (λ i. c .slice-known7 .given i .fits) (labelled-as (a .args .kind) Top (a .args .x) (a .args .y) (listed (a .args .to)) (c .before .before .before .before .enum-told6 .given .1) _) (c .before .before .accept-operation5 .ensures)
 
 same-length-7 : tie.Need-same-length-7
 same-length-7 c = search needs
 
 returns-7 : tie.Need-returns-7
 returns-7 c =
-    let a = c .before .before .before .before .before .before .before .before in
-    accepts (a .args .c) _ (a .args .image .now) _ _ (a .pre .1) (a .pre .0) (λ i. c .slice-known8 .given i .fits) (labelled-as (a .args .c) Pick (c .before .before .before .before .enum-told7 .given .1) _) (c .before .before .accept-operation6 .ensures)
+    let a = c .before .before .before .before .before .before .before in
+    accepts (callForm (a .args .kind) (a .args .x) (a .args .y) (listed (a .args .to))) _ (a .args .image .now) _ _ (a .pre .1 .form) (a .pre .0) (λ i. c .slice-known8 .given i .fits) (labelled-as (a .args .kind) Pick (a .args .x) (a .args .y) (listed (a .args .to)) (c .before .before .before .before .enum-told7 .given .1) _) (c .before .before .accept-operation6 .ensures)
 
 same-length-8 : tie.Need-same-length-8
 same-length-8 c = search needs
 
 returns-8 : tie.Need-returns-8
 returns-8 c =
-    let a = c .before .before .before .before .before .before .before .before in
-    accepts (a .args .c) _ (a .args .image .now) _ _ (a .pre .1) (a .pre .0) (λ i. c .slice-known9 .given i .fits) (labelled-as (a .args .c) Near (c .before .before .before .before .enum-told8 .given .1) _) (c .before .before .accept-operation7 .ensures)
+    let a = c .before .before .before .before .before .before .before in
+    accepts (callForm (a .args .kind) (a .args .x) (a .args .y) (listed (a .args .to))) _ (a .args .image .now) _ _ (a .pre .1 .form) (a .pre .0) (λ i. c .slice-known9 .given i .fits) (labelled-as (a .args .kind) Near (a .args .x) (a .args .y) (listed (a .args .to)) (c .before .before .before .before .enum-told8 .given .1) _) (c .before .before .accept-operation7 .ensures)
 
 pub accept-spec : {M : Type 1} → statement M
 accept-spec =

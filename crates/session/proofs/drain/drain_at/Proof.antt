@@ -5,9 +5,9 @@ use mathlib.Core.List.{List}
 use mathlib.Core.Path.{_≡_, refl}
 use Prim.Native.Nat.{ℕ, _<_}
 use lib.ListN.{length, getD}
-use Rattle.queue.specs.Flat.{isOp}
-use Rattle.worksteps.specs.FlatSteps.{noOp}
-use Rattle.state.specs.State.{held}
+use Rattle.graph.specs.OneAtATime.{isOp}
+use Rattle.flat.specs.Inner.FlatSteps.{noOp}
+use Rattle.state.specs.Inner.State.{flatIn}
 use Rattle.headsteps.proofs.Heads.{in-nodes}
 use Rattle.session.proofs.DrainSteps.{drains-done, HeadUnit, begins-head, begins-op, takes-realise, takes-finish, takes-move}
 use native.Mathlib.Omega.{arith}
@@ -30,14 +30,16 @@ module _ (u : tie.After-unit-end) where
   head = begins-head image (start .pre .0) (start .args .k) (start .pre .1) (u .unit-end .result) (u .unit-end .ensures .is) (u .unit-end .ensures .within)
 
   -- what a search found in it is an operation of the queue
-  found : {p : ℕ} → p < u .unit-end .result → p < length (held image .queue)
+  found : {p : ℕ} → p < u .unit-end .result → p < length (flatIn image .queue)
   found h = omega (arith, u .unit-end .ensures .within)
 
-  found-op : {p : ℕ} → p < u .unit-end .result → isOp ((getD (held image .queue) p noOp) .call) ≡ true
+  found-op : {p : ℕ} → p < u .unit-end .result → isOp ((getD (flatIn image .queue) p noOp) .call) ≡ true
   found-op h = begins-op image (start .pre .0) (start .args .k) (start .pre .1) head h
 
 first-for-requires : tie.Need-first-for-requires
-first-for-requires c κs = search needs
+first-for-requires c κs =
+    let u = c .before in
+    (start u .pre .0 .proper, omega arith, u .unit-end .ensures .within, λ i lo hi. found-op u hi)
 
 act-at-requires : tie.Need-act-at-requires
 act-at-requires c κs =
@@ -54,7 +56,9 @@ returns c =
     drains-done (takes-realise (image u) (start u .pre .0) (start u .args .k) (start u .pre .1) (head u) (p .first-for .ensures .is) (c .before .before .before .before .if1 .taken)) refl (c .before .before .act-at .ensures)
 
 first-for-requires-2 : tie.Need-first-for-requires-2
-first-for-requires-2 c κs = search needs
+first-for-requires-2 c κs =
+    let u = c .before .before .before .before in
+    (start u .pre .0 .proper, omega arith, u .unit-end .ensures .within, λ i lo hi. found-op u hi)
 
 finish-at-requires : tie.Need-finish-at-requires
 finish-at-requires c κs =
@@ -74,7 +78,7 @@ returns-2 c =
 move-unit-requires : tie.Need-move-unit-requires
 move-unit-requires c κs =
     let u = c .before .before .before .before .before .before .before in
-    (start u .pre .0 .proper, in-nodes (start u .args .k) (held (image u)) (head u .node) .low, omega arith, u .unit-end .ensures .within)
+    (start u .pre .0 .proper, in-nodes (start u .args .k) (flatIn (image u)) (head u .node) .low, omega arith, u .unit-end .ensures .within)
 
 same-length-3 : tie.Need-same-length-3
 same-length-3 c = search needs

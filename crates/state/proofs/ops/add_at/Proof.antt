@@ -2,7 +2,7 @@
 -- Assumes nothing.
 use mathlib.Core.Path.{ap, _∙_}
 use mathlib.Core.Bool.{not}
-use Rattle.queue.specs.Flat.{Tagged}
+use Rattle.flat.specs.Flat.{Tagged}
 use Rattle.state.proofs.QueueRecords.{is-add, add-of}
 use borrow.Author.Needs.{needs}
 use Rattle.state.proofs.ops.add_at.Statement.{statement}

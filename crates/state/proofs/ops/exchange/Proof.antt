@@ -2,8 +2,8 @@
 -- Assumes nothing.
 use mathlib.Core.Path.{sym, _∙_}
 use lib.ListN.{set}
-use Rattle.valid.specs.Values.{taggedOf}
-use Rattle.state.specs.State.{held}
+use Rattle.valid.specs.Inner.Decoded.{taggedOf}
+use Rattle.state.specs.Inner.State.{flatIn}
 use Rattle.state.proofs.QueueHeld.{shown-as, still-in, twice-shown}
 use borrow.Author.Needs.{needs}
 use Rattle.state.proofs.ops.exchange.Statement.{statement}
@@ -37,7 +37,7 @@ returns c =
     let put = c .before .before .before .before .before .before .put-record .ensures in
     let y = c .before .before .before .before .before .before .before .before .record-at2 in
     let x = c .before .before .before .before .before .before .before .before .before .before .record-at in
-    shown-as (a .image .now) (start .pre .0) _ (λ k. set (set (held (a .image .now) .queue) (a .i) (sym (y .ensures .is) k)) (a .j) (sym (x .ensures .is) k))
+    shown-as (a .image .now) (start .pre .0) _ (λ k. set (set (flatIn (a .image .now) .queue) (a .i) (sym (y .ensures .is) k)) (a .j) (sym (x .ensures .is) k))
     (twice-shown (a .image .now) (start .pre .0) _ (a .i) (taggedOf (y .result)) put _ (a .j) (taggedOf (x .result)) (c .before .before .put-record2 .ensures))
 
 pub exchange-spec : {M : Type 1} → statement M

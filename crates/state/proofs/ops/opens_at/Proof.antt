@@ -1,7 +1,7 @@
 -- The mark of the record.
 -- Assumes nothing.
 use mathlib.Core.Path.{sym, ap}
-use Rattle.queue.specs.Flat.{Tagged}
+use Rattle.flat.specs.Flat.{Tagged}
 use borrow.Author.Needs.{needs}
 use Rattle.state.proofs.ops.opens_at.Statement.{statement}
 use Rattle.state.proofs.ops.opens_at.Tie as tie

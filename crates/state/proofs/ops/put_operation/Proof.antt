@@ -2,10 +2,10 @@
 -- Assumes nothing.
 use mathlib.Core.Path.{sym, ap, _∙_}
 use lib.ListN.{set}
-use Rattle.queue.specs.Flat.{Tagged}
-use Rattle.worksteps.specs.FlatSteps.{withOp}
-use Rattle.state.specs.Operations.{opValue}
-use Rattle.state.specs.State.{held}
+use Rattle.flat.specs.Flat.{Tagged}
+use Rattle.flat.specs.Inner.FlatSteps.{withOp}
+use Rattle.state.specs.Inner.Operations.{opValue}
+use Rattle.state.specs.Inner.State.{flatIn}
 use Rattle.state.proofs.QueueRecords.{clean-opens}
 use Rattle.state.proofs.QueueHeld.{shown-as}
 use borrow.Author.Needs.{needs}
@@ -31,7 +31,7 @@ returns c =
     let old = c .before .before .before .before .before .record-at in
     let new = c .before .before .before .before .record-of in
     shown-as (a .image .now) (start .pre .0) _
-    (ap (λ (x : Tagged). set (held (a .image .now) .queue) (a .i) x) (sym (new .ensures .is) ∙ ap (λ (x : Tagged). withOp x (opValue (a .o))) (sym (old .ensures .is))))
+    (ap (λ (x : Tagged). set (flatIn (a .image .now) .queue) (a .i) x) (sym (new .ensures .is) ∙ ap (λ (x : Tagged). withOp x (opValue (a .o))) (sym (old .ensures .is))))
     (c .before .before .put-record .ensures)
 
 pub put-operation-spec : {M : Type 1} → statement M

@@ -1,8 +1,8 @@
 -- The record with another station.
 -- Assumes nothing.
 use mathlib.Core.Path.{sym, _∙_}
-use Rattle.worksteps.specs.FlatSteps.{moveTo}
-use Rattle.valid.specs.Values.{taggedOf}
+use Rattle.flat.specs.Inner.FlatSteps.{moveTo}
+use Rattle.valid.specs.Inner.Decoded.{taggedOf}
 use Rattle.state.proofs.QueueRecords.{reads-stationed}
 use Rattle.state.proofs.QueueHeld.{alter-shown}
 use borrow.Author.Needs.{needs}

@@ -4,17 +4,17 @@ use mathlib.Core.Path.{_≡_, sym, ap, _∙_}
 use Prim.Native.Nat.{ℕ, _+_, _-_, _≤_, _<_}
 use native.Mathlib.Numerals.{add-one}
 use lib.ListN.{length, drop}
-use Rattle.queue.specs.Flat.{find, breaks, endOf}
-use Rattle.worksteps.specs.FlatSteps.{noOp}
-use Rattle.worksteps.proofs.Turns.{find-end, find-hit, find-next}
-use Rattle.state.specs.State.{held}
+use Rattle.flat.specs.Inner.Queues.{firstIndex, breaks, endOf}
+use Rattle.flat.specs.Inner.FlatSteps.{noOp}
+use Rattle.flat.proofs.Turns.{find-end, find-hit, find-next}
+use Rattle.state.specs.Inner.State.{flatIn}
 use borrow.Author.Needs.{needs}
 use native.Mathlib.Omega.{arith}
 use Rattle.state.proofs.ops.unit_end.Statement.{statement}
 use Rattle.state.proofs.ops.unit_end.Tie as tie
 
 abbrev Inv-loop : tie.InvT-loop
-Inv-loop image k p n i₀ i = (i ≤ n) × (i + find (breaks k) (drop i (held image .queue)) ≡ endOf k p (held image .queue))
+Inv-loop image k p n i₀ i = (i ≤ n) × (i + firstIndex (breaks k) (drop i (flatIn image .queue)) ≡ endOf k p (flatIn image .queue))
 
 abbrev μ-loop : tie.MeasureT-loop
 μ-loop image k p n i₀ i = n - i
@@ -28,7 +28,7 @@ add-i c = omega (arith, c .total .ensures .is, c .total .ensures .within, c .bef
 loop-holds : tie.Need-loop-holds Inv-loop μ-loop
 loop-holds c =
     let a = c .before .before .args in
-    (omega (arith, c .total .ensures .is, c .before .before .pre .1), ap (λ (m : ℕ). m + find (breaks (a .k)) (drop m (held (a .image .now) .queue))) (add-one (a .p)))
+    (omega (arith, c .total .ensures .is, c .before .before .pre .1), ap (λ (m : ℕ). m + firstIndex (breaks (a .k)) (drop m (flatIn (a .image .now) .queue))) (add-one (a .p)))
 
 breaks-at-requires : tie.Need-breaks-at-requires Inv-loop μ-loop
 breaks-at-requires c κs = (c .before .before .before .before .pre .0, omega (arith, c .before .before .total .ensures .is))
@@ -37,9 +37,9 @@ returns : tie.Need-returns Inv-loop μ-loop
 returns c =
     let l = c .before .before .before in
     let a = l .before .before .before .args in
-    let h : l .loop .i < length (held (a .image .now) .queue) = omega (arith, l .before .total .ensures .is) in
+    let h : l .loop .i < length (flatIn (a .image .now) .queue) = omega (arith, l .before .total .ensures .is) in
     record {
-      is = sym (find-hit (breaks (a .k)) (held (a .image .now) .queue) (l .loop .i) noOp h (sym (c .before .breaks-at .ensures) ∙ c .if1 .taken)) ∙ l .loop .inv .1;
+      is = sym (find-hit (breaks (a .k)) (flatIn (a .image .now) .queue) (l .loop .i) noOp h (sym (c .before .breaks-at .ensures) ∙ c .if1 .taken)) ∙ l .loop .inv .1;
       within = omega arith;
     }
 
@@ -53,17 +53,17 @@ loop-again : tie.Need-loop-again Inv-loop μ-loop
 loop-again c =
     let l = c .before .before .before in
     let a = l .before .before .before .args in
-    let h : l .loop .i < length (held (a .image .now) .queue) = omega (arith, l .before .total .ensures .is) in
-    (omega arith, find-next (breaks (a .k)) (held (a .image .now) .queue) (l .loop .i) noOp h (sym (c .before .breaks-at .ensures) ∙ c .if1 .left) ∙ l .loop .inv .1)
+    let h : l .loop .i < length (flatIn (a .image .now) .queue) = omega (arith, l .before .total .ensures .is) in
+    (omega arith, find-next (breaks (a .k)) (flatIn (a .image .now) .queue) (l .loop .i) noOp h (sym (c .before .breaks-at .ensures) ∙ c .if1 .left) ∙ l .loop .inv .1)
 
 returns-2 : tie.Need-returns-2 Inv-loop μ-loop
 returns-2 c =
     let l = c .before in
     let a = l .before .before .before .args in
     let n = l .before .total in
-    let end : length (held (a .image .now) .queue) ≤ l .loop .i = omega (arith, n .ensures .is) in
+    let end : length (flatIn (a .image .now) .queue) ≤ l .loop .i = omega (arith, n .ensures .is) in
     let here : n .result ≡ l .loop .i = omega arith in
-    record { is = here ∙ sym (find-end (breaks (a .k)) (held (a .image .now) .queue) (l .loop .i) end) ∙ l .loop .inv .1; within = omega (arith, n .ensures .is) }
+    record { is = here ∙ sym (find-end (breaks (a .k)) (flatIn (a .image .now) .queue) (l .loop .i) end) ∙ l .loop .inv .1; within = omega (arith, n .ensures .is) }
 
 pub unit-end-spec : {M : Type 1} → statement M
 unit-end-spec =

@@ -1,6 +1,6 @@
 -- `results::label_at` meets its contract.
 -- Assumes nothing.
-use Rattle.state.proofs.ResultLaws.{in-view, outcome-of}
+use Rattle.state.proofs.ResultLaws.{in-view, call-result-of}
 use Rattle.state.proofs.results.label_at.Statement.{statement}
 use Rattle.state.proofs.results.label_at.Tie as tie
 
@@ -12,7 +12,7 @@ result-at-requires c κs =
 returns : tie.Need-returns
 returns c =
     let a = c .before .before in
-    outcome-of (a .args .image .now) (a .pre .0) (a .args .i) (a .pre .1) (c .result-at .ensures) .label
+    call-result-of (a .args .image .now) (a .pre .0) (a .args .i) (a .pre .1) (c .result-at .ensures) .label
 
 pub label-at-spec : {M : Type 1} → statement M
 label-at-spec = tie.close (tie.spec result-at-requires returns)

@@ -6,16 +6,16 @@ use native.Mathlib.Omega.{arith}
 use native.Mathlib.Nat.{zero-add}
 use lib.ListN.{length, drop, getD}
 use borrow.Author.Tests.{lt-ltb, le-ltb}
-use Rattle.queue.specs.Flat.{find}
-use Rattle.worksteps.proofs.Turns.{find-end, find-hit, find-next}
-use Rattle.state.specs.State.{held}
-use Rattle.state.specs.Results.{noResult, isAbove}
+use Rattle.flat.specs.Inner.Queues.{firstIndex}
+use Rattle.flat.proofs.Turns.{find-end, find-hit, find-next}
+use Rattle.state.specs.Inner.State.{flatIn}
+use Rattle.state.specs.Inner.Results.{noResult, isAbove}
 use borrow.Author.Needs.{needs}
 use Rattle.state.proofs.results.place_of.Statement.{statement}
 use Rattle.state.proofs.results.place_of.Tie as tie
 
 abbrev Inv-loop : tie.InvT-loop
-Inv-loop image label n i₀ i = (i ≤ n) × (i + find (isAbove label) (drop i (held image .results)) ≡ find (isAbove label) (held image .results))
+Inv-loop image label n i₀ i = (i ≤ n) × (i + firstIndex (isAbove label) (drop i (flatIn image .results)) ≡ firstIndex (isAbove label) (flatIn image .results))
 
 abbrev μ-loop : tie.MeasureT-loop
 μ-loop image label n i₀ i = n - i
@@ -36,7 +36,7 @@ returns : tie.Need-returns Inv-loop μ-loop
 returns c =
     let l = c .before .before .before in
     let a = l .before .before .before in
-    let rs = held (a .args .image .now) .results in
+    let rs = flatIn (a .args .image .now) .results in
     let h : l .loop .i < length rs = omega (arith, l .before .total .ensures .is) in
     sym (find-hit (isAbove (a .args .label)) rs (l .loop .i) noResult h (lt-ltb (a .args .label) (getD rs (l .loop .i) noResult .label) (omega (arith, c .if1 .taken, c .before .label-at .ensures)))) ∙ l .loop .inv .1
 
@@ -50,7 +50,7 @@ loop-again : tie.Need-loop-again Inv-loop μ-loop
 loop-again c =
     let l = c .before .before .before in
     let a = l .before .before .before in
-    let rs = held (a .args .image .now) .results in
+    let rs = flatIn (a .args .image .now) .results in
     let h : l .loop .i < length rs = omega (arith, l .before .total .ensures .is) in
     (omega arith, find-next (isAbove (a .args .label)) rs (l .loop .i) noResult h (le-ltb (a .args .label) (getD rs (l .loop .i) noResult .label) (omega (arith, c .if1 .left, c .before .label-at .ensures))) ∙ l .loop .inv .1)
 
@@ -58,7 +58,7 @@ returns-2 : tie.Need-returns-2 Inv-loop μ-loop
 returns-2 c =
     let l = c .before in
     let a = l .before .before .before .args in
-    let rs = held (a .image .now) .results in
+    let rs = flatIn (a .image .now) .results in
     let end : length rs ≤ l .loop .i = omega (arith, l .before .total .ensures .is) in
     let here : l .before .total .result ≡ l .loop .i = omega arith in
     here ∙ sym (find-end (isAbove (a .label)) rs (l .loop .i) end) ∙ l .loop .inv .1

@@ -5,7 +5,7 @@ use Prim.Native.Nat.{_+_, _≤_, _-_}
 use native.Mathlib.Omega.{arith}
 use lib.ListN.{length, length-take}
 use Rattle.graph.specs.Packed.{listed}
-use Rattle.state.specs.State.{held}
+use Rattle.state.specs.Inner.State.{flatIn}
 use Rattle.state.proofs.ResultLaws.{Stored, stored-count, stored-next, labels-count}
 use borrow.Author.Needs.{needs}
 use Rattle.state.proofs.results.store_all.Statement.{statement}
@@ -23,7 +23,7 @@ four s = search needs
 
 record Within (s : tie.Start Inv-loop μ-loop) : Type 0 where
   pub few : s .args .labels .count ≤ 4
-  pub room : length (held (s .args .image .now) .results) + s .args .labels .count ≤ 64
+  pub room : length (flatIn (s .args .image .now) .results) + s .args .labels .count ≤ 64
 
 within : (s : tie.Start Inv-loop μ-loop) → Within s
 within s =

@@ -1,11 +1,11 @@
 -- `results::store_one` meets its contract.
 -- Assumes nothing.
 use native.Mathlib.Omega.{arith}
-use Rattle.state.specs.State.{held}
-use Rattle.state.specs.Results.{isAbove}
+use Rattle.state.specs.Inner.State.{flatIn}
+use Rattle.state.specs.Inner.Results.{isAbove}
 use Rattle.state.proofs.ResultLaws.{result-count, result-put}
 use borrow.Author.Needs.{needs}
-use Rattle.queue.proofs.Places.{find-within}
+use Rattle.flat.proofs.Places.{find-within}
 use Rattle.state.proofs.results.store_one.Statement.{statement}
 use Rattle.state.proofs.results.store_one.Tie as tie
 
@@ -17,7 +17,7 @@ insert-result-requires c κs =
     let a = c .before .before .before .before in
     let s = a .args .image .now in
     let e = result-count s (a .pre .0) in
-    (a .pre .0 .sound, omega (arith, e, c .before .place-of .ensures, find-within (isAbove (a .args .label)) (held s .results)), omega (arith, e))
+    (a .pre .0 .sound, omega (arith, e, c .before .place-of .ensures, find-within (isAbove (a .args .label)) (flatIn s .results)), omega (arith, e))
 
 same-length : tie.Need-same-length
 same-length c = search needs

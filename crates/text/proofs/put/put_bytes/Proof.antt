@@ -3,7 +3,7 @@
 use Prim.Native.Nat.{_+_, _-_, _≤_}
 use mathlib.Core.Path.{_≡_, refl}
 use lib.ListN.{length, take, length-set}
-use Rattle.text.specs.Text.{Written}
+use Rattle.text.specs.Inner.Put.{TextPut}
 use Rattle.text.proofs.Pasting.{written-none, copy-more, copy-all}
 use borrow.Author.Needs.{needs}
 use native.Mathlib.Omega.{arith}
@@ -12,7 +12,7 @@ use Rattle.text.proofs.put.put_bytes.Statement.{statement}
 use Rattle.text.proofs.put.put_bytes.Tie as tie
 
 abbrev Inv-loop : tie.InvT-loop
-Inv-loop out₀ at literal i₀ out i = (i ≤ length literal) × (length out ≡ length out₀) × Written out₀ at (take i literal) out (at + i)
+Inv-loop out₀ at literal i₀ out i = (i ≤ length literal) × (length out ≡ length out₀) × TextPut out₀ at (take i literal) out (at + i)
 
 abbrev μ-loop : tie.MeasureT-loop
 μ-loop out₀ at literal i₀ out i = length literal - i

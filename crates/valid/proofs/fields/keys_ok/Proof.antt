@@ -7,8 +7,9 @@ use mathlib.Core.List.{List}
 use lib.Bits.{bitAnd}
 use lib.ListN.{getD}
 use borrow.Author.Tests.{le-leb, lt-leb}
-use Rattle.records.specs.Bytes.{le64, keysAt, bytes8}
-use Rattle.valid.specs.Tests.{keysOk, keyPlaces}
+use Rattle.records.specs.Inner.Numbers.{le64, keysAt}
+use Rattle.records.specs.Bytes.{bytes8}
+use Rattle.valid.specs.Inner.Tests.{keysOk, keyPlaces}
 use Rattle.valid.proofs.Digits.{sum-fits, below-fits, ok-few, ok-low, ok-64, ok-marks}
 use native.Mathlib.Omega.{arith}
 use borrow.Author.Needs.{needs}

@@ -3,7 +3,7 @@
 use Prim.Native.Nat.{ℕ}
 use lib.ListN.{getD}
 use borrow.Author.Tests.{le-leb, lt-leb}
-use Rattle.valid.specs.Tests.{labelsOk}
+use Rattle.valid.specs.Inner.Tests.{labelsOk}
 use Rattle.valid.proofs.Digits.{labels-few}
 use native.Mathlib.Omega.{arith}
 use borrow.Author.Needs.{needs}

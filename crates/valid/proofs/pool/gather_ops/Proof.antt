@@ -7,9 +7,9 @@ use mathlib.Core.List.{List, _++_}
 use lib.Seq.{take-all}
 use Rattle.records.specs.declared.labels.Labels.{Labels}
 use Rattle.records.specs.declared.op.OpRecord.{OpRecord}
-use Rattle.image.specs.Layout.{view, blank, opRegion}
-use Rattle.valid.specs.Values.{labelsOf}
-use Rattle.valid.specs.Tests.{opLabels, Gathers}
+use Rattle.image.specs.Inner.Regions.{view, blank, opRegion}
+use Rattle.valid.specs.Inner.Decoded.{labelsOf}
+use Rattle.valid.specs.Inner.Tests.{opLabels, Gathers}
 use Rattle.valid.proofs.Turns.{ops-next}
 use borrow.Author.Needs.{needs}
 use native.Mathlib.Omega.{arith}

@@ -6,8 +6,8 @@ use lib.ListN.{length, take, length-set}
 use mathlib.Core.List.{List, [], _∷_, _++_, append-nil}
 use lib.Seq.{take-all}
 use Rattle.records.specs.declared.result.ResultRecord.{ResultRecord}
-use Rattle.image.specs.Layout.{view, blank, resultRegion}
-use Rattle.valid.specs.Tests.{resultLabels}
+use Rattle.image.specs.Inner.Regions.{view, blank, resultRegion}
+use Rattle.valid.specs.Inner.Tests.{resultLabels}
 use Rattle.valid.proofs.Turns.{push, results-next, length-results}
 use borrow.Author.Needs.{needs}
 use native.Mathlib.Omega.{arith}

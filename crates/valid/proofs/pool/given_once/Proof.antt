@@ -8,7 +8,7 @@ use mathlib.Core.List.{List}
 use lib.ListN.{length, getD, take, drop}
 use lib.Seq.{getD-take, length-take-le}
 use Rattle.graph.specs.KeyLists.{contains}
-use Rattle.valid.specs.Tests.{givenOnce, Padded}
+use Rattle.valid.specs.Inner.Tests.{givenOnce, Padded}
 use Rattle.valid.proofs.Turns.{among-padded, given-zero, given-late, given-twice, given-next, given-end, given-none, Seen, none-seen, searched, one-seen}
 use borrow.Author.Needs.{needs}
 use Rattle.valid.proofs.pool.given_once.Statement.{statement}

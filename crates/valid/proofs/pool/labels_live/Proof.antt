@@ -1,12 +1,12 @@
 -- `pool::labels_live` meets its contract.
 -- Assumes nothing.
 use mathlib.Core.Path.{ap, _∙_}
-use Prim.Native.Nat.{ℕ, _+_, _≤_}
+use Prim.Native.Nat.{ℕ, _≤_}
 use lib.ListN.{length, take, length-append}
 use mathlib.Core.List.{List, _++_}
 use borrow.Author.Tests.{le-leb, lt-leb}
-use Rattle.image.specs.Layout.{view}
-use Rattle.valid.specs.Tests.{opLabels, resultLabels, liveLabels, givenOnce}
+use Rattle.image.specs.Inner.Regions.{view}
+use Rattle.valid.specs.Inner.Tests.{opLabels, resultLabels, liveLabels, givenOnce}
 use Rattle.valid.proofs.Turns.{kept, padded}
 use native.Mathlib.Omega.{arith}
 use borrow.Author.Needs.{needs}

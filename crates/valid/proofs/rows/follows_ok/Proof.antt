@@ -3,7 +3,7 @@
 use mathlib.Core.Path.{refl}
 use lib.ListN.{getD}
 use borrow.Author.Tests.{eq-eqb, ne-eqb, le-leb, lt-leb}
-use Rattle.records.specs.Records.{decodeOp}
+use Rattle.records.specs.Inner.Decoded.{decodeOp}
 use borrow.Author.Needs.{needs}
 use Rattle.valid.proofs.rows.follows_ok.Statement.{statement}
 use Rattle.valid.proofs.rows.follows_ok.Tie as tie

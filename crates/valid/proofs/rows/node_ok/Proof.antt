@@ -7,9 +7,9 @@ use mathlib.Core.Path.{_≡_, sym, _∙_}
 use Prim.Native.Nat.{ℕ, _+_}
 use lib.ListN.{getD}
 use borrow.Author.Tests.{eq-eqb, ne-eqb}
-use Rattle.records.specs.Bytes.{le16}
-use Rattle.records.specs.Records.{decodeNode}
-use Rattle.valid.specs.Tests.{nodeOk, keysOk}
+use Rattle.records.specs.Inner.Numbers.{le16}
+use Rattle.records.specs.Inner.Decoded.{decodeNode}
+use Rattle.valid.specs.Inner.Tests.{nodeOk, keysOk}
 use Rattle.valid.proofs.Turns.{none-at, yes-test}
 use borrow.Author.Needs.{needs}
 use Rattle.valid.proofs.rows.node_ok.Statement.{statement}

@@ -4,8 +4,8 @@ use mathlib.Core.Path.{_≡_, refl, sym, _∙_}
 use Prim.Native.Nat.{_+_, _*_, _-_, _≤_, _<_}
 use native.Mathlib.Omega.{arith}
 use lib.ListN.{length, drop}
-use Rattle.image.specs.Layout.{view, blank, nodeRegion}
-use Rattle.valid.specs.Tests.{walk, nodeOk, nodesOk}
+use Rattle.image.specs.Inner.Regions.{view, blank, nodeRegion}
+use Rattle.valid.specs.Inner.Tests.{walk, nodeOk, nodesOk}
 use Rattle.valid.proofs.Turns.{walk-end}
 use Rattle.valid.proofs.InPlace.{row-not, row-next}
 use borrow.Author.Needs.{needs}

@@ -8,10 +8,10 @@ use lib.Dec.{eqb, leb}
 use mathlib.Core.List.{List, [], _∷_}
 use lib.ListN.{getD}
 use borrow.Author.Tests.{le-leb, lt-leb, not-true, not-false}
-use Rattle.queue.specs.Flat.{placed, follows}
-use Rattle.records.specs.Records.{decodeOp, labelsAt}
-use Rattle.valid.specs.Values.{taggedOf}
-use Rattle.valid.specs.Tests.{opOk, operandOk, numbersOk, targetsOk, keysOk, labelsOk, mostOf}
+use Rattle.flat.specs.Inner.Queues.{placed, follows}
+use Rattle.records.specs.Inner.Decoded.{decodeOp, labelsAt}
+use Rattle.valid.specs.Inner.Decoded.{taggedOf}
+use Rattle.valid.specs.Inner.Tests.{opOk, operandOk, numbersOk, targetsOk, keysOk, labelsOk, mostOf}
 use Rattle.valid.proofs.Turns.{none-at, yes-test}
 use borrow.Author.Needs.{needs}
 use Rattle.valid.proofs.rows.op_ok.Statement.{statement}

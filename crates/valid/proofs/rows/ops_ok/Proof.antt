@@ -9,8 +9,8 @@ use native.Mathlib.Omega.{arith}
 use mathlib.Core.Bool.{Bool, true, false, cond, _&&_}
 use lib.ListN.{length, drop}
 use borrow.Author.Tests.{eq-eqb, ne-eqb}
-use Rattle.image.specs.Layout.{view, blank, opRegion}
-use Rattle.valid.specs.Tests.{walk, opOk, opsOk, addsAmong}
+use Rattle.image.specs.Inner.Regions.{view, blank, opRegion}
+use Rattle.valid.specs.Inner.Tests.{walk, opOk, opsOk, addsAmong}
 use Rattle.valid.proofs.Turns.{walk-end, adds-next, adds-end, yes-test}
 use Rattle.valid.proofs.InPlace.{row-not, row-next}
 use borrow.Author.Needs.{needs}

@@ -6,7 +6,7 @@ use native.Mathlib.Omega.{arith}
 use lib.Dec.{leb}
 use lib.ListN.{getD}
 use borrow.Author.Tests.{eq-eqb, ne-eqb, le-leb, lt-leb}
-use Rattle.records.specs.Records.{decodeOp}
+use Rattle.records.specs.Inner.Decoded.{decodeOp}
 use borrow.Author.Needs.{needs}
 use Rattle.valid.proofs.rows.place_ok.Statement.{statement}
 use Rattle.valid.proofs.rows.place_ok.Tie as tie

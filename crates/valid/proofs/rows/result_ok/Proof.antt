@@ -8,9 +8,9 @@ use native.Mathlib.Omega.{arith}
 use Prim.Native.Nat.{ℕ}
 use lib.ListN.{getD}
 use borrow.Author.Tests.{eq-eqb, ne-eqb, lt-ltb, le-ltb}
-use Rattle.records.specs.Bytes.{le16}
-use Rattle.records.specs.Records.{decodeResult}
-use Rattle.valid.specs.Tests.{resultOk, keysOk}
+use Rattle.records.specs.Inner.Numbers.{le16}
+use Rattle.records.specs.Inner.Decoded.{decodeResult}
+use Rattle.valid.specs.Inner.Tests.{resultOk, keysOk}
 use Rattle.valid.proofs.Turns.{none-at, yes-test}
 use borrow.Author.Needs.{needs}
 use Rattle.valid.proofs.rows.result_ok.Statement.{statement}

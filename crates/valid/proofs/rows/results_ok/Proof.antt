@@ -4,8 +4,8 @@ use mathlib.Core.Path.{_≡_, refl, sym, ap, _∙_}
 use Prim.Native.Nat.{ℕ, _+_, _*_, _-_, _≤_, _<_}
 use native.Mathlib.Omega.{arith}
 use lib.ListN.{length, drop}
-use Rattle.image.specs.Layout.{view, blank, resultRegion}
-use Rattle.valid.specs.Tests.{walk, resultOk, resultsOk}
+use Rattle.image.specs.Inner.Regions.{view, blank, resultRegion}
+use Rattle.valid.specs.Inner.Tests.{walk, resultOk, resultsOk}
 use Rattle.valid.proofs.Turns.{walk-end}
 use Rattle.valid.proofs.InPlace.{row-not, row-next}
 use borrow.Author.Needs.{needs}

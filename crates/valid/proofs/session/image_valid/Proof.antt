@@ -7,8 +7,8 @@ use lib.ListN.{length}
 use mathlib.Core.List.{List}
 use Prim.Native.Nat.{ℕ, _+_}
 use borrow.Author.Tests.{not-true, not-false, le-leb, leb-true}
-use Rattle.image.specs.Layout.{Sound, view}
-use Rattle.valid.specs.Tests.{opsOk, addsAmong}
+use Rattle.image.specs.Inner.Regions.{Sound, view}
+use Rattle.valid.specs.Inner.Tests.{opsOk, addsAmong}
 use Rattle.valid.proofs.Exactness.{Passes, exactly, refused}
 use borrow.Author.Needs.{needs}
 use Rattle.graph.proofs.Answers.{and-left, and-right}

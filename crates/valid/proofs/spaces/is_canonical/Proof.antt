@@ -5,7 +5,7 @@ use mathlib.Core.Path.{sym, subst, _∙_}
 use Prim.Native.Nat.{ℕ, _+_, _*_}
 use borrow.Author.Tests.{not-true, not-false}
 use mathlib.Core.Bool.{true≢false}
-use Rattle.image.specs.Layout.{Zeros}
+use Rattle.image.specs.Inner.Regions.{Zeros}
 use Rattle.valid.proofs.Unused.{part-zeros, zeros-part, refuses}
 use borrow.Author.Needs.{needs}
 use Rattle.valid.proofs.spaces.is_canonical.Statement.{statement}

@@ -3,7 +3,7 @@
 use native.Mathlib.Omega.{arith}
 use lib.ListN.{getD}
 use borrow.Author.Tests.{le-leb, leb-true}
-use Rattle.image.specs.Layout.{nodeRegion, opRegion, resultRegion}
+use Rattle.image.specs.Inner.Regions.{nodeRegion, opRegion, resultRegion}
 use Rattle.image.proofs.Regions.{count-of}
 use Rattle.valid.proofs.Unused.{sound-of, refuses}
 use borrow.Author.Needs.{needs}

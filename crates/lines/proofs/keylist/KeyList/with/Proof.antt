@@ -6,7 +6,7 @@ use mathlib.Core.Path.{_≡_, refl, ap, _∙_}
 use Prim.Native.Nat.{ℕ, _+_, min}
 use native.Mathlib.Omega.{arith}
 use borrow.Author.Needs.{needs}
-use Rattle.lines.specs.Reads.{KeysOf}
+use Rattle.lines.specs.Inner.LineParts.{KeysOf}
 use Rattle.lines.specs.declared.keylist.KeyList.{KeyList}
 use Rattle.lines.proofs.KeyLists.{keys-more}
 use Rattle.lines.proofs.keylist.KeyList.with.Statement.{statement}
@@ -29,7 +29,7 @@ start w = w .before .before .before
 
 -- the list that is returned, with count n
 abbrev listWith : tie.After-and2 → ℕ → KeyList
-listWith w n = record { count = n; last = start w .args .v; keys = w .before .and .result; rising = w .and2 .result }
+listWith w n = record { count = n; latest = start w .args .v; keys = w .before .and .result; rising = w .and2 .result }
 
 one-more : (w : tie.After-and2) (n : ℕ) (ts : List ℕ) → KeysOf ts (start w .args .self) → n ≡ min (start w .args .self .count + 1) 9 → KeysOf (ts ++ start w .args .v ∷ []) (listWith w n)
 one-more w n ts p e =

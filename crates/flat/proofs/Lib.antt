@@ -1,0 +1,12 @@
+pub mod Places
+pub mod Elements
+pub mod Nesting
+pub mod Labels
+pub mod Turns
+pub mod Focus
+pub mod UnitPlaces
+pub mod Heads
+pub mod Admits
+pub mod Units
+pub mod Events
+pub mod Facts

@@ -1,1 +1,0 @@
-// Images that hold a valid session, definitions and laws alone: what the functions that work on them state.

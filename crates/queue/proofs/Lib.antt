@@ -1,4 +1,0 @@
-pub mod Places
-pub mod Elements
-pub mod Nesting
-pub mod Labels

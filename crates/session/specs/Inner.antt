@@ -1,0 +1,5 @@
+-- What states the contracts of functions that no host in C calls; a reader of the promises needs none of it.
+pub mod Accepts
+pub mod Claims
+pub mod DrainStep
+pub mod Drained

@@ -1,0 +1,5 @@
+-- What states the contracts of functions that no host in C calls; a reader of the promises needs none of it.
+pub mod Operations
+pub mod Results
+pub mod State
+pub mod ValidImage

@@ -1,2 +1,0 @@
-pub mod FlatSteps
-pub mod FlatEvents
