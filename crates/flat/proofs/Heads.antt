@@ -9,12 +9,11 @@ use lib.Dec.{eqb}
 use lib.ListN.{length, getD, length-append}
 use lib.Seq.{slice, take-append-seam, getD-at, set-at}
 use borrow.Author.Tests.{ne-eqb, eq-eqb, lt-ltb, le-ltb}
-use Rattle.graph.specs.Lists.{any}
 use Rattle.graph.specs.Refusals.{Answer, refused, done, mapDone}
 use Rattle.graph.specs.KeyLists.{isNil, contains}
 use Rattle.graph.specs.Nodes.{Node, Op, Result, hits, actOn, actBy, mayFinish, stored}
 use Rattle.graph.specs.Sessions.{Station, station, Session, store}
-use Rattle.graph.specs.Steps.{Change, only, anyHits, FirstOp, firstOp, moveAt, afterRealise, realiseAt, afterFinish, finishAt, putUnit, move, realise, finish, step}
+use Rattle.graph.specs.Steps.{Change, only, any, anyHits, FirstOp, firstOp, moveAt, afterRealise, realiseAt, afterFinish, finishAt, putUnit, move, realise, finish, step}
 use Rattle.flat.specs.Flat.{Tagged, Flat, standing, tagUnit, tagUnits, queueOf, nodesOf, flat}
 use Rattle.flat.specs.Inner.Queues.{firstIndex, removeAt}
 use Rattle.flat.specs.Inner.Nested.{atPlace, Full, Keyed}

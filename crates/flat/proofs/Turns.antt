@@ -11,7 +11,7 @@ use lib.Dec.{ltb, leb·suc-suc}
 use lib.ListN.{length, take, drop, getD, drop-of-length-le, length-append, length-map, take-append-drop}
 use lib.Seq.{slice, slice-empty, length-slice, length-take-le, getD-take, drop-cons, drop-append-le, take-suc}
 use borrow.Author.Tests.{lt-ltb, le-ltb, ltb-true, ltb-false}
-use Rattle.graph.specs.Lists.{any}
+use Rattle.graph.specs.Steps.{any}
 use Rattle.flat.specs.Inner.Queues.{firstIndex}
 use Rattle.flat.specs.Inner.FlatSteps.{alter, mapFrom, firstIn}
 

@@ -1,12 +1,11 @@
 -- The work steps: document 01, section 'Work steps'. In brackets: the rules of the published CG Calculus, arXiv 1911.10982.
 -- Assumes nothing.
 use Prim.Native.Nat.{ℕ, zero, suc, _-_}
-use mathlib.Core.Bool.{Bool, cond, _&&_, _||_}
+use mathlib.Core.Bool.{Bool, false, cond, _&&_, _||_}
 use mathlib.Core.List.{List, [], _∷_, _++_}
 use lib.Dec.{eqb, leb, ltb}
 use lib.ListN.{length, take, drop}
 use Rattle.graph.specs.declared.act.Act.the-variants.{Map}
-use Rattle.graph.specs.Lists.{any}
 use Rattle.graph.specs.Refusals.{Answer, refused, done, mapDone}
 use Rattle.graph.specs.Affine.{composed}
 use Rattle.graph.specs.KeyLists.{isNil, disjoint, sameKeys}
@@ -41,6 +40,11 @@ behind s c = record { now = s ∷ c .now; newResults = c .newResults }
 abbrev pub at : ℕ → (Station → List Station → Answer Change) → List Station → Answer Change
 at k f [] = refused 20
 at k f (s ∷ ss) = cond (eqb (s .node .key) k) (f s ss) (mapDone (behind s) (at k f ss))
+
+-- is there one that p holds of?
+abbrev pub any : {A : Type 0} → (A → Bool) → List A → Bool
+any p [] = false
+any p (x ∷ xs) = p x || any p xs
 
 -- does any operation of the unit target this node?
 abbrev pub anyHits : List Op → Node → Bool

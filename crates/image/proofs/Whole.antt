@@ -9,7 +9,7 @@ use mathlib.Core.List.{List, [], _∷_, _++_, append-assoc, append-nil}
 use lib.ListN.{length, getD, take, drop, replicate, length-append, length-take, length-drop, length-replicate, getD-replicate, List·getD-append, List·getD-eq-default}
 use lib.Seq.{getD-append-add, ext-getD, take-all, take-add, drop-drop, take-at, drop-at}
 use Rattle.text.specs.Text.{texts}
-use Rattle.text.proofs.Lists.{texts-append}
+use Rattle.text.proofs.CommaLists.{texts-append}
 use Rattle.records.specs.Bytes.{bytes16}
 use Rattle.records.specs.Inner.Numbers.{chunk, tab}
 use Rattle.records.specs.Records.{encodeHead, encodeNode, encodeOp, encodeResult}

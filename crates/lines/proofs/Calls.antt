@@ -1,6 +1,6 @@
 -- Call lines: their grammar, their forms, and the answer to each form.
 -- Assumes nothing.
-use Prim.Native.Nat.{ℕ, _<_, _≤_, _^_}
+use Prim.Native.Nat.{ℕ, _<_, _≤_}
 use mathlib.Core.Path.{_≡_, refl, sym, ap, subst, _∙_}
 use mathlib.Core.Bool.{Bool, true, false, cond, false≢true, _&&_}
 use mathlib.Core.List.{List, [], _∷_, _++_}
@@ -10,7 +10,7 @@ use borrow.Author.Tests.{le-leb, lt-leb}
 use lib.Dec.{eqb, leb}
 use lib.ListN.{length, getD}
 use Rattle.graph.specs.Calls.{Call, add, map, link, unlink, sum, top, pick, near, operandsOf, targetsOf}
-use Rattle.graph.specs.Words.{areWords}
+use Rattle.graph.specs.Words.{modulus, areWords}
 use Rattle.graph.specs.KeyLists.{isKey, areKeys, rising}
 use Rattle.graph.specs.Packed.{packed}
 use Rattle.text.specs.Text.{ascii}
@@ -133,13 +133,13 @@ answered f w = by-tests f (areKeys (operandsOf f ++ targetsOf f)) (leb (length (
 abbrev keyed : Bool → CallKind → ℕ → ℕ → List ℕ → CallLine
 keyed b k x y ts = cond (b && areKeys ts) (cond (leb (length ts) 8 && rising ts) (callLine k x y ts) (refusedCall 12)) (refusedCall 11)
 
-pub add-answer : (value : ℕ) → value < 2 ^ 32 → callLine Add value 0 [] ≡ callAnswer (add value)
+pub add-answer : (value : ℕ) → value < modulus → callLine Add value 0 [] ≡ callAnswer (add value)
 add-answer value h = sym (answered (add value) (h, tt))
 
-pub map-answer : (a b : ℕ) (ts : List ℕ) → a < 2 ^ 32 → b < 2 ^ 32 → Below ts → callMade Map a b ts ≡ callAnswer (map a b ts)
+pub map-answer : (a b : ℕ) (ts : List ℕ) → a < modulus → b < modulus → Below ts → callMade Map a b ts ≡ callAnswer (map a b ts)
 map-answer a b ts ha hb h = sym (answered (map a b ts) (ha, (hb, h)))
 
-module _ (key start : ℕ) (ts : List ℕ) (hk : key < 2 ^ 32) (hs : start < 2 ^ 32) (h : Below ts) where
+module _ (key start : ℕ) (ts : List ℕ) (hk : key < modulus) (hs : start < modulus) (h : Below ts) where
   near-by : (b : Bool) → isKey key ≡ b → keyed b Near key start ts ≡ callAnswer (near key start ts)
   near-by b e = ap (λ (x : Bool). keyed x Near key start ts) (sym e) ∙ sym (answered (near key start ts) (hs, (hk, h)))
 
@@ -167,7 +167,7 @@ module _ (k : CallKind) (is : Links k) where
   pub link-after : {l : List ℕ} {r : CallLine} → OneField (ascii " key=") l r k
   link-after {l} {r} = links (OneField (ascii " key=") l r) (λ h. h) (λ h. h) k is
 
-  module _ (key : ℕ) (ts : List ℕ) (hk : key < 2 ^ 32) (h : Below ts) where
+  module _ (key : ℕ) (ts : List ℕ) (hk : key < modulus) (h : Below ts) where
     link-by : (b : Bool) → isKey key ≡ b → keyed b k key 0 ts ≡ callAnswer (callForm k key 0 ts)
     link-by b e =
         ap (λ (x : Bool). keyed x k key 0 ts) (sym e)
@@ -183,7 +183,7 @@ module _ (k : CallKind) (is : Starts k) where
   pub start-after : {l : List ℕ} {r : CallLine} → OneField (ascii " start=") l r k
   start-after {l} {r} = starts (OneField (ascii " start=") l r) (λ h. h) (λ h. h) (λ h. h) k is
 
-  pub start-answer : (start : ℕ) (ts : List ℕ) → start < 2 ^ 32 → Below ts → callMade k start 0 ts ≡ callAnswer (callForm k start 0 ts)
+  pub start-answer : (start : ℕ) (ts : List ℕ) → start < modulus → Below ts → callMade k start 0 ts ≡ callAnswer (callForm k start 0 ts)
   start-answer start ts hs h =
       starts (λ (j : CallKind). callMade j start 0 ts ≡ callAnswer (callForm j start 0 ts))
       (sym (answered (sum start ts) (hs, h))) (sym (answered (top start ts) (hs, h))) (sym (answered (pick start ts) (hs, h))) k is

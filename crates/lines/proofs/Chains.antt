@@ -1,17 +1,18 @@
 -- A field, and what stands after it.
 -- Assumes nothing.
-use Prim.Native.Nat.{ℕ, _+_, _<_, _≤_, _^_}
+use Prim.Native.Nat.{ℕ, _+_, _<_, _≤_}
 use mathlib.Core.Path.{_≡_, refl, sym, ap, subst, _∙_}
 use mathlib.Core.Bool.{Bool, true, false}
 use mathlib.Core.List.{List, [], _∷_, _++_, append-nil}
 use native.Mathlib.Omega.{arith}
 use lib.ListN.{length, drop, length-drop, drop-of-length-le}
+use Rattle.graph.specs.Words.{modulus}
 use Rattle.text.specs.Text.{upTo, decimal, commas, ascii}
 use Rattle.text.specs.Inner.PartsRead.{LiteralAt, DecimalOf, Gap}
 use Rattle.text.specs.declared.cut.Place.the-variants.{At, Missing}
 use Rattle.text.specs.declared.number.Number.the-variants.{Is as NumberIs, Not as NumberNot}
 use Rattle.text.proofs.Splits.{Part, part, part-is, cancel, decimal-clean, same-number}
-use Rattle.text.proofs.Lists.{commas-clean}
+use Rattle.text.proofs.CommaLists.{commas-clean}
 use Rattle.lines.specs.Forms.{targets}
 use Rattle.lines.specs.Inner.Answers.{ReadAs, form, other}
 use Rattle.lines.specs.Inner.LineParts.{Below, KeysOf, KeysStored, TargetsOf, FieldOf, tailText, fieldsText, Spare, Values, ValuesOf}
@@ -111,7 +112,7 @@ module _ {R : Type 0} {ten r : R} {answer : Values → R} (s : List ℕ) (at : �
 -- x is read at `at`, and ends at n
 pub record NumberAt (s : List ℕ) (at : ℕ) (literal : List ℕ) (x n : ℕ) : Type 0 where
   pub field : FieldOf s at literal (Is x n)
-  pub small : x < 2 ^ 32
+  pub small : x < modulus
 
 -- where at most two numbers may follow, the last is spare
 spare-last : (more : List (List ℕ)) → length more ≤ 2 → (x y z : ℕ) → Spare more x y z → z ≡ 0

@@ -1,6 +1,6 @@
 -- One number more in a list of keys, and a list read number by number.
 -- Assumes nothing.
-use Prim.Native.Nat.{ℕ, suc, _+_, _<_, _≤_, _^_, min}
+use Prim.Native.Nat.{ℕ, suc, _+_, _<_, _≤_, min}
 use mathlib.Core.Path.{_≡_, refl, sym, ap, _∙_}
 use mathlib.Core.Bool.{Bool, true, _&&_, and-true, and-assoc}
 use mathlib.Core.List.{List, [], _∷_, _++_, append-nil}
@@ -14,8 +14,8 @@ use Rattle.text.specs.Text.{upTo, decimal, further, commas}
 use Rattle.text.specs.Inner.PartsRead.{DecimalOf}
 use Rattle.text.specs.declared.number.Number.the-variants.{Not}
 use Rattle.text.proofs.Splits.{Part, part, part-is, decimal-clean, same-number}
-use Rattle.text.proofs.Lists.{further-gap, passed, passed-last, passed-next}
-use Rattle.graph.specs.Words.{areWords}
+use Rattle.text.proofs.CommaLists.{further-gap, passed, passed-last, passed-next}
+use Rattle.graph.specs.Words.{modulus, areWords}
 use Rattle.graph.specs.KeyLists.{isKey, areKeys, above, rising}
 use Rattle.graph.specs.Packed.{packed}
 use Rattle.graph.specs.declared.keys.Keys.{Keys}
@@ -63,7 +63,7 @@ held-more ts v k key key′ p held es a l =
 
 -- ---- a list read number by number
 
-below-snoc : (ts : List ℕ) (v : ℕ) → Below ts → v < 2 ^ 32 → Below (ts ++ v ∷ [])
+below-snoc : (ts : List ℕ) (v : ℕ) → Below ts → v < modulus → Below (ts ++ v ∷ [])
 below-snoc [] v b h = (h, tt)
 below-snoc (t ∷ ts) v b h = (b .0, below-snoc ts v (b .1) h)
 
@@ -71,7 +71,7 @@ below-snoc (t ∷ ts) v b h = (b .0, below-snoc ts v (b .1) h)
 pub record Rest (l : List ℕ) : Type 0 where
   pub first : ℕ
   pub others : List ℕ
-  pub small : first < 2 ^ 32
+  pub small : first < modulus
   pub below : Below others
   pub text : l ≡ decimal first ++ further others
 
@@ -106,7 +106,7 @@ module _ (s : List ℕ) (k : KeyList) (key : List ℕ) (at : ℕ) (g : Listing s
       let t = g .rest us b e in
       q (t .first) (t .small) (part-is 44 (drop at s) (decimal (t .first)) (further (t .others)) (t .text) (decimal-clean 44 (omega arith) (t .first)) (further-gap (t .others)))
 
-  module _ (v : ℕ) (k′ : KeyList) (key′ : List ℕ) (small : v < 2 ^ 32) (q : upTo 44 (drop at s) ≡ decimal v) (p : KeysOf (g .read ++ v ∷ []) k′) (h : KeysStored (g .read ++ v ∷ []) key′) where
+  module _ (v : ℕ) (k′ : KeyList) (key′ : List ℕ) (small : v < modulus) (q : upTo 44 (drop at s) ≡ decimal v) (p : KeysOf (g .read ++ v ∷ []) k′) (h : KeysStored (g .read ++ v ∷ []) key′) where
     number : drop at s ≡ decimal v ++ drop (at + length (upTo 44 (drop at s))) s
     number = here .text ∙ ap (λ (r : List ℕ). r ++ drop (at + length (upTo 44 (drop at s))) s) q
 
@@ -162,8 +162,8 @@ rising-keys (t ∷ ts) e = rw (and-left (leb 1 t) (leb t 64) (and-left (isKey t)
 
 pub words-below : (l : List ℕ) → areWords l ≡ true → Below l
 words-below [] e = tt
-words-below (t ∷ ts) e = (ltb-true t (2 ^ 32) (and-left (ltb t (2 ^ 32)) (areWords ts) e), words-below ts (and-right (ltb t (2 ^ 32)) (areWords ts) e))
+words-below (t ∷ ts) e = (ltb-true t modulus (and-left (ltb t modulus) (areWords ts) e), words-below ts (and-right (ltb t modulus) (areWords ts) e))
 
 pub below-words : (l : List ℕ) → Below l → areWords l ≡ true
 below-words [] b = refl
-below-words (t ∷ ts) b = rw (lt-ltb t (2 ^ 32) (b .0), below-words ts (b .1))
+below-words (t ∷ ts) b = rw (lt-ltb t modulus (b .0), below-words ts (b .1))

@@ -1,16 +1,17 @@
 -- A line that begins with a head and a word, which decides the fields that follow.
 -- Assumes nothing.
-use Prim.Native.Nat.{ℕ, _+_, _<_, _^_}
+use Prim.Native.Nat.{ℕ, _+_, _<_}
 use mathlib.Core.Path.{_≡_, refl, sym, ap, subst, _∙_}
 use mathlib.Core.Bool.{Bool, true, false, false≢true}
 use mathlib.Core.List.{List, [], _∷_, _++_}
 use native.Mathlib.Omega.{arith}
 use lib.ListN.{length, drop}
+use Rattle.graph.specs.Words.{modulus}
 use Rattle.text.specs.Text.{upTo, decimal, ascii, commas}
 use Rattle.text.specs.Inner.PartsRead.{LiteralAt, Gap}
 use Rattle.text.specs.declared.cut.Place.the-variants.{At, Missing}
 use Rattle.text.proofs.Splits.{Clean, part, part-is, cancel, same-number}
-use Rattle.text.proofs.Lists.{commas-inj}
+use Rattle.text.proofs.CommaLists.{commas-inj}
 use Rattle.lines.specs.Forms.{TextOf}
 use Rattle.lines.specs.Inner.Answers.{ReadAs, form, other}
 use Rattle.lines.specs.Inner.LineParts.{Below, tailText, Tailed, fieldsText, Spare, Values, ValuesOf}
@@ -51,7 +52,7 @@ withKind k p = record { kind = k; x = p .x; y = p .y; z = p .z; to = p .to }
 
 -- its numbers are 32-bit numbers
 abbrev pub Small : {K : Type 0} → Parts K → Type 0
-Small p = (p .x < 2 ^ 32) × (p .y < 2 ^ 32) × (p .z < 2 ^ 32) × Below (p .to)
+Small p = (p .x < modulus) × (p .y < modulus) × (p .z < modulus) × Below (p .to)
 
 -- what its kind has no use for is zero, or empty
 abbrev pub Unused : {K : Type 0} → Grammar K → Parts K → Type 0

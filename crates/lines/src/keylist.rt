@@ -89,9 +89,9 @@ impl KeyList {
         ensures { λ r. ⌜ ((ts : List ℕ) → KeysOf ts self → KeysOf (ts ++ v ∷ []) r) ⌝ }
     {
         let n = self.count;
-        let last = self.latest;
+        let latest = self.latest;
         let keys = and(self.keys, is_key(v));
-        let rising = and(self.rising, last < v);
+        let rising = and(self.rising, latest < v);
         let more = if n < 9 { n + 1 } else { n };
         KeyList {
             count: more,

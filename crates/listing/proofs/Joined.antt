@@ -10,7 +10,7 @@ use lib.Seq.{take-suc, split-at, getD-at}
 use Rattle.text.specs.Inner.Put.{TextPut}
 use Rattle.text.specs.Text.{texts}
 use Rattle.text.proofs.Pasting.{written-room, written-then}
-use Rattle.text.proofs.Lists.{texts-append}
+use Rattle.text.proofs.CommaLists.{texts-append}
 use Rattle.listing.specs.Inner.Rows.{joined}
 
 -- the same text, written another way

@@ -8,6 +8,7 @@ use mathlib.Core.List.{List, [], _∷_, _++_}
 use lib.Dec.{eqb}
 use lib.ListN.{length}
 use borrow.Author.Tests.{ne-eqb}
+use Rattle.graph.specs.Words.{modulus}
 use Rattle.graph.specs.Steps.{Step, admit, realise, move, finish, join, split, swap, fuse}
 use Rattle.graph.specs.Counts.{tallyPlace, ofKind, quotedSteps}
 use Rattle.graph.proofs.Answers.{test-most}
@@ -24,10 +25,10 @@ rested t = each (λ k c. upBy c 0) t
 abbrev pub Fits : Tally → Type 0
 Fits t = rested t ≡ t
 
-fitting : (c : ℕ) → c < 4294967296 → upBy c 0 ≡ c
+fitting : (c : ℕ) → c < modulus → upBy c 0 ≡ c
 fitting c h = omega arith
 
-pub fits : (t : Tally) → t .admit < 4294967296 → t .realise < 4294967296 → t .«move_on» < 4294967296 → t .finish < 4294967296 → t .join < 4294967296 → t .split < 4294967296 → t .swap < 4294967296 → t .fuse < 4294967296 → Fits t
+pub fits : (t : Tally) → t .admit < modulus → t .realise < modulus → t .«move_on» < modulus → t .finish < modulus → t .join < modulus → t .split < modulus → t .swap < modulus → t .fuse < modulus → Fits t
 fits t a r m f j s w u =
     λ i. record {
       admit = fitting (t .admit) a i;

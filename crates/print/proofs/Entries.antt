@@ -9,7 +9,7 @@ use lib.ListN.{length, take, drop, getD, length-append, take-append-drop}
 use lib.Seq.{take-suc, take-all, length-take-le}
 use Rattle.text.specs.Text.{decimal, further, commas}
 use Rattle.text.specs.Inner.Put.{TextPut}
-use Rattle.text.proofs.Lists.{further-append}
+use Rattle.text.proofs.CommaLists.{further-append}
 use Rattle.text.proofs.Pasting.{written-none, written-room, written-then, written-size}
 use Rattle.print.specs.Inner.Values.{entry}
 

@@ -6,7 +6,7 @@ use mathlib.Core.List.{List, _∷_, _++_, append-assoc}
 use native.Mathlib.Omega.{arith}
 use Rattle.graph.specs.Nodes.{Node, Result}
 use Rattle.text.specs.Text.{ascii, decimal, commas}
-use Rattle.text.proofs.Lists.{commas-inj, commas-clean}
+use Rattle.text.proofs.CommaLists.{commas-inj, commas-clean}
 use Rattle.text.proofs.Splits.{cancel, part-is, same-number}
 use Rattle.print.specs.Printed.{lineOf, newline, resultText, nodeText}
 

@@ -3,12 +3,13 @@
 use mathlib.Core.Path.{_≡_, refl, sym, ap, subst, _∙_}
 use mathlib.Core.Bool.{Bool, true, false, _&&_, true≢false}
 use mathlib.Core.List.{List, [], _∷_, _++_}
-use Prim.Native.Nat.{ℕ, zero, suc, _+_, _≤_, _<_, _^_}
+use Prim.Native.Nat.{ℕ, zero, suc, _+_, _≤_, _<_}
 use native.Mathlib.Omega.{arith}
 use lib.Dec.{eqb, ltb}
 use lib.IntN.{ℤ}
 use lib.ListN.{length, take}
 use borrow.Author.Tests.{eqb-true, le-leb, ltb-true}
+use Rattle.graph.specs.Words.{modulus}
 use Rattle.graph.specs.Refusals.{Answer, refused, done}
 use Rattle.graph.specs.Sessions.{Session}
 use Rattle.graph.specs.Acceptance.{Claimed, claim as claimOf}
@@ -33,10 +34,10 @@ take-text out text = let e : length text ≡ 0 + length text = omega arith in ap
 abbrev SameClaim : ℕ → ClaimMade → ClaimMade → Type 0
 SameClaim n x y = (x .image ≡ y .image) × (answerText n (x .answer) (take (lengthIn (x .answer)) (x .output)) ≡ answerText n (y .answer) (take (lengthIn (y .answer)) (y .output)))
 
-word : (line : List ℕ) (l : ℕ) → IsClaim line l → l < 2 ^ 32
-word line l i = go (ltb l (2 ^ 32)) refl (i .fits)
+word : (line : List ℕ) (l : ℕ) → IsClaim line l → l < modulus
+word line l i = go (ltb l modulus) refl (i .fits)
   where
-    go : (b : Bool) → ltb l (2 ^ 32) ≡ b → b && true ≡ true → l < 2 ^ 32
+    go : (b : Bool) → ltb l modulus ≡ b → b && true ≡ true → l < modulus
     go true e h = ltb-true _ _ e
     go false e h = absurd (true≢false (sym h))
 
@@ -45,7 +46,7 @@ module _ (image : List ℕ) (n : ℕ) (out out′ : List ℕ) where
   refused-same zero = (refl, refl)
   refused-same (suc k) = (refl, refl)
 
-  claim-made : 128 ≤ length out → 128 ≤ length out′ → (s : Session) (l : ℕ) → l < 2 ^ 32 → (a : Answer Claimed) → Fine l s a → SameClaim n (claimServed image out s a) (claimServed image out′ s a)
+  claim-made : 128 ≤ length out → 128 ≤ length out′ → (s : Session) (l : ℕ) → l < modulus → (a : Answer Claimed) → Fine l s a → SameClaim n (claimServed image out s a) (claimServed image out′ s a)
   claim-made room room′ s l w (refused k) h = refused-same k
   claim-made room room′ s l w (done c) h =
       let short : length (resultText (c .result)) ≤ 128 = result-short (c .result) (omega (arith, h .0)) (h .1) in

@@ -3,11 +3,12 @@
 use mathlib.Core.Path.{_≡_, refl, ap}
 use mathlib.Core.Bool.{true}
 use mathlib.Core.List.{List, [], _∷_, _++_}
-use Prim.Native.Nat.{ℕ, suc, _+_, _*_, _≤_, _<_, _^_}
+use Prim.Native.Nat.{ℕ, suc, _+_, _*_, _≤_, _<_}
 use native.Mathlib.Omega.{arith}
 use lib.ListN.{length, length-append}
 use Rattle.text.specs.Text.{ascii, decimal, further, commas, texts}
 use Rattle.text.proofs.Decimals.{len-ten}
+use Rattle.graph.specs.Words.{modulus}
 use Rattle.graph.specs.KeyLists.{isKey, areKeys}
 use Rattle.graph.specs.Nodes.{Node, Result}
 use Rattle.graph.specs.Sessions.{Station, Session, graphOf, labelsOfResults, pending, live}
@@ -34,18 +35,18 @@ commas-short (t ∷ ts) h =
     omega (arith, length-append (decimal t) (further ts), len-ten t (omega (arith, key-high t (and-left _ _ h))))
 
 -- two numbers and up to eight keys
-line-short : (a b c : List ℕ) (x y : ℕ) (ks : List ℕ) → length a + length b + length c ≤ 19 → x < 2 ^ 32 → y < 2 ^ 32 → length ks ≤ 8 → areKeys ks ≡ true → length (lineOf a x b y c ks) ≤ 128
+line-short : (a b c : List ℕ) (x y : ℕ) (ks : List ℕ) → length a + length b + length c ≤ 19 → x < modulus → y < modulus → length ks ≤ 8 → areKeys ks ≡ true → length (lineOf a x b y c ks) ≤ 128
 line-short a b c x y ks h k l few v = simp length-append (omega (arith, h, len-ten x k, len-ten y l, commas-short ks v, few))
 
-pub result-short : (r : Result) → r .label < 2 ^ 32 → ValidResult r → length (resultText r) ≤ 128
+pub result-short : (r : Result) → r .label < modulus → ValidResult r → length (resultText r) ≤ 128
 unfolding ascii
 result-short r l v = line-short (ascii "label=") (ascii " value=") (ascii " left=") (r .label) (r .value) (r .left) (omega arith) l (v .value) (v .left .few) (v .left .keys)
 
-node-short : (n : Node) → n .key < 2 ^ 32 → ValidNode n → length (nodeText n) ≤ 128
+node-short : (n : Node) → n .key < modulus → ValidNode n → length (nodeText n) ≤ 128
 unfolding ascii
 node-short n k v = line-short (ascii "key=") (ascii " value=") (ascii " links=") (n .key) (n .value) (n .links) (omega arith) k (v .value) (v .few) (v .keys)
 
-head-short : (n m k : ℕ) → n < 2 ^ 32 → m < 2 ^ 32 → k < 2 ^ 32 → length (headText n m k) ≤ 128
+head-short : (n m k : ℕ) → n < modulus → m < modulus → k < modulus → length (headText n m k) ≤ 128
 unfolding ascii
 head-short n m k a b c = simp length-append (omega (arith, len-ten n a, len-ten m b, len-ten k c))
 

@@ -15,6 +15,7 @@ use Rattle.text.specs.Inner.Put.{TextPut}
 use Rattle.text.proofs.Pasting.{written-size}
 use Rattle.print.specs.Printed.{refusalText, resultText}
 use Rattle.print.proofs.Refusals.{refusal-fits}
+use Rattle.graph.specs.Words.{modulus}
 use Rattle.graph.specs.Refusals.{Answer, refused, done}
 use Rattle.graph.specs.Sessions.{Session}
 use Rattle.graph.specs.Acceptance.{Claimed, claim as claimOf}
@@ -43,7 +44,7 @@ take-pasted s text = let e : length text ≡ 0 + length text = omega arith in ta
 pub printed-served : (n : ℕ) (z : ℤ) (out : List ℕ) (m r : ℕ) → m ≤ length out → r ≡ refusalIn z → r ≡ 0 → AnswerPrinted n z (take m out) out m
 printed-served n z out m r h e q = record { within = h; bytes = text-served n z (take m out) (sym q ∙ e) }
 
-module _ (n r : ℕ) (line : n < 2 ^ 64) (refusal : r < 2 ^ 32) (s : List ℕ) (room : 128 ≤ length s) where
+module _ (n r : ℕ) (line : n < 2 ^ 64) (refusal : r < modulus) (s : List ℕ) (room : 128 ≤ length s) where
   pub refusal-room : 0 + length (refusalText n r) ≤ length s
   refusal-room = omega (arith, refusal-fits n r line refusal)
 

@@ -5,6 +5,7 @@ use Prim.Native.Nat.{ℕ, zero, suc, _+_, _*_, _/_, _%_, _^_, _<_}
 use native.Mathlib.Omega.{arith}
 use mathlib.Core.List.{List, [], _∷_, _++_}
 use lib.ListN.{length, getD}
+use Rattle.graph.specs.Words.{modulus}
 use Rattle.graph.specs.declared.keys.Keys.{Keys}
 use Rattle.records.specs.declared.labels.Labels.{Labels}
 use Rattle.records.specs.declared.node.NodeRecord.{NodeRecord}
@@ -24,7 +25,7 @@ Bytes s = (i : ℕ) → getD s i 0 < 256
 pub back16 : (v : ℕ) → v < 2 ^ 16 → le16 (bytes16 v) 0 ≡ v
 back16 v h = omega arith
 
-back32 : (v : ℕ) → v < 2 ^ 32 → le32 (bytes32 v) 0 ≡ v
+back32 : (v : ℕ) → v < modulus → le32 (bytes32 v) 0 ≡ v
 back32 v h = omega arith
 
 low : (a y : ℕ) → a < 256 → (a + y * 256) % 256 ≡ a
@@ -52,20 +53,20 @@ pub record FitLabels (l : Labels) : Type 0 where
   pub small : (i : ℕ) → i < 4 → getD (l .label) i 0 < 2 ^ 16
 
 pub record FitNode (n : NodeRecord) : Type 0 where
-  pub value : n .value < 2 ^ 32
+  pub value : n .value < modulus
   pub links : FitKeys (n .links)
   pub spare : n .spare < 2 ^ 16
 
 pub record FitOp (o : OpRecord) : Type 0 where
-  pub a : o .a < 2 ^ 32
-  pub b : o .b < 2 ^ 32
+  pub a : o .a < modulus
+  pub b : o .b < modulus
   pub targets : FitKeys (o .targets)
   pub labels : FitLabels (o .labels)
   pub spare : o .spare < 2 ^ 16
 
 pub record FitResult (r : ResultRecord) : Type 0 where
   pub label : r .label < 2 ^ 16
-  pub value : r .value < 2 ^ 32
+  pub value : r .value < modulus
   pub left : FitKeys (r .left)
 
 -- SIZES
@@ -150,7 +151,7 @@ module _ (s : List ℕ) (b : Bytes s) where
   small16 : (at : ℕ) → le16 s at < 2 ^ 16
   small16 at = omega (arith, b at, b (at + 1))
 
-  small32 : (at : ℕ) → le32 s at < 2 ^ 32
+  small32 : (at : ℕ) → le32 s at < modulus
   small32 at = omega (arith, b at, b (at + 1), b (at + 2), b (at + 3))
 
   pub fit-node : FitNode (decodeNode s)

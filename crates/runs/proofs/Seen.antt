@@ -1,7 +1,7 @@
 -- What answers say of the session that an image holds: which lines are forms, what is pending, what is allowed, what a claim writes.
 -- Assumes nothing.
 use mathlib.Core.Path.{_≡_, refl, sym, ap, subst, _∙_}
-use Prim.Native.Nat.{ℕ, zero, suc, _≤_, _<_, _^_}
+use Prim.Native.Nat.{ℕ, zero, suc, _≤_, _<_}
 use native.Mathlib.Omega.{arith}
 use mathlib.Core.Bool.{Bool, true, false, not, cond, true≢false, _&&_}
 use mathlib.Core.List.{List, [], _∷_, _++_}
@@ -13,7 +13,7 @@ use lib.ListN.{length, length-append}
 use borrow.Author.Tests.{lt-ltb, le-leb, eqb-true, eq-eqb, ne-eqb}
 use Rattle.graph.specs.Refusals.{Answer, refused, done, mapDone, andThen, unless}
 use Rattle.graph.specs.KeyLists.{areKeys, contains}
-use Rattle.graph.specs.Words.{areWords}
+use Rattle.graph.specs.Words.{modulus, areWords}
 use Rattle.graph.specs.Nodes.{Result}
 use Rattle.graph.specs.Sessions.{Station, Session, pending}
 use Rattle.graph.specs.Steps.{Step, admit, realise, move, finish, join, split, swap, fuse, Change, behind, at, step}
@@ -50,13 +50,13 @@ sessionIn s (refused n) = s
 sessionIn s (done u) = u
 
 -- LINES THAT ARE FORMS
-word : (n : ℕ) → n < 2 ^ 32 → areWords (n ∷ []) ≡ true
-word n h = and-both (lt-ltb n (2 ^ 32) h) refl
+word : (n : ℕ) → n < modulus → areWords (n ∷ []) ≡ true
+word n h = and-both (lt-ltb n modulus h) refl
 
-field-short : (name : String) (n : ℕ) → length (ascii name) ≤ 20 → n < 2 ^ 32 → length (field name n []) < 256
+field-short : (name : String) (n : ℕ) → length (ascii name) ≤ 20 → n < modulus → length (field name n []) < 256
 field-short name n h k = omega (arith, length-append (ascii name) (decimal n ++ []), length-append (decimal n) [], len-ten n k)
 
-pub claim-form : (l : ℕ) → l < 2 ^ 32 → IsClaim (claimText l) l
+pub claim-form : (l : ℕ) → l < modulus → IsClaim (claimText l) l
 unfolding ascii
 claim-form l h = record { short = field-short "claim=" l (omega arith) h; fits = word l h; same = refl }
 
@@ -75,7 +75,7 @@ key-found k f (s ∷ ss) h e = go (eqb (s .node .key) k) refl (λ q. key-found k
 
 record GoodKey (k : ℕ) : Type 0 where
   keys : areKeys (k ∷ []) ≡ true
-  small : k < 2 ^ 32
+  small : k < modulus
 
 good-key : (s : Session) → Valid s → (k : ℕ) (f : Station → List Station → Answer Change) (g : Change → Session) {u : Session} → mapDone g (at k f (s .stations)) ≡ done u → GoodKey k
 good-key s v k f g e =

@@ -10,12 +10,11 @@ use lib.Dec.{eqb}
 use lib.ListN.{length, getD}
 use lib.Seq.{slice}
 use borrow.Author.Tests.{lt-ltb, le-ltb}
-use Rattle.graph.specs.Lists.{any}
 use Rattle.graph.specs.Refusals.{Answer, refused, done, mapDone}
 use Rattle.graph.specs.KeyLists.{isNil}
 use Rattle.graph.specs.Nodes.{targetsKey, mayFinishAt}
 use Rattle.graph.specs.OneAtATime.{Labelled, addOf, opOf, isOp}
-use Rattle.graph.specs.Steps.{Step, admit, realise, move, finish}
+use Rattle.graph.specs.Steps.{Step, admit, realise, move, finish, any}
 use Rattle.graph.specs.Drain.{orElse}
 use Rattle.graph.proofs.Answers.{eqb-same, by-bool}
 use Rattle.flat.specs.Flat.{Tagged, Flat}

@@ -10,6 +10,7 @@ use lib.Dec.{ltb}
 use native.Mathlib.Numerals.{add-one, unary-clauses}
 use lib.Seq.{drop-cons}
 use lib.ListN.{length, drop, getD, length-append, List·getD-append, drop-of-length-le}
+use Rattle.graph.specs.Words.{modulus}
 use Rattle.text.specs.Text.{digits, decimal}
 
 digits-low : (k n : ℕ) → n < 10 → digits k n ≡ (48 + n) ∷ []
@@ -139,7 +140,7 @@ text-is s w e = rw e (decimal-is w)
 -- v is what the first i bytes make, and they are digits
 pub record Reading (s : List ℕ) (v i : ℕ) : Type 0 where
   pub within : i ≤ length s
-  pub small : v < 2 ^ 32
+  pub small : v < modulus
   pub worth : valueFrom 0 s ≡ valueFrom v (drop i s)
   pub figures : Figures (drop i s) → Figures s
 
@@ -159,16 +160,16 @@ module _ (s : List ℕ) (v i x : ℕ) (r : Reading s v i) (h : i < length s) (e 
         figures = λ d. r .figures (rw (drop-cons s i 0 h) (omega arith, omega arith, rw add-one at d));
       }
 
-  pub refute-large : 4294967295 < v * 10 + (x - 48) → (w : ℕ) → w < 2 ^ 32 → s ≡ decimal w → ⊥
+  pub refute-large : 4294967295 < v * 10 + (x - 48) → (w : ℕ) → w < modulus → s ≡ decimal w → ⊥
   refute-large big w hw ew =
       omega (arith, valueFrom-ge (v * 10 + (x - 48)) (drop (i + 1) s), worth-more, text-is s w ew .worth)
 
-  pub refute-digit : (48 ≤ x → x ≤ 57 → ⊥) → (w : ℕ) → w < 2 ^ 32 → s ≡ decimal w → ⊥
+  pub refute-digit : (48 ≤ x → x ≤ 57 → ⊥) → (w : ℕ) → w < modulus → s ≡ decimal w → ⊥
   refute-digit bad w hw ew =
       let d = digit-at s i (text-is s w ew .figures) h in
       bad (omega (arith, d)) (omega (arith, d))
 
-pub refute-empty : (s : List ℕ) → length s ≡ 0 → (w : ℕ) → w < 2 ^ 32 → s ≡ decimal w → ⊥
+pub refute-empty : (s : List ℕ) → length s ≡ 0 → (w : ℕ) → w < modulus → s ≡ decimal w → ⊥
 refute-empty s h w hw e = omega (arith, text-is s w e .some)
 
 pub is-zero : (s : List ℕ) → getD s 0 0 ≡ 48 → length s ≡ 1 → s ≡ decimal 0
@@ -177,7 +178,7 @@ is-zero [] e h = absurd (omega arith)
 is-zero (x ∷ []) e h = ap (λ (k : ℕ). k ∷ []) e
 is-zero (x ∷ y ∷ ys) e h = absurd (omega arith)
 
-pub refute-zero : (s : List ℕ) → getD s 0 0 ≡ 48 → (length s ≡ 1 → ⊥) → (w : ℕ) → w < 2 ^ 32 → s ≡ decimal w → ⊥
+pub refute-zero : (s : List ℕ) → getD s 0 0 ≡ 48 → (length s ≡ 1 → ⊥) → (w : ℕ) → w < modulus → s ≡ decimal w → ⊥
 unfolding decimal digits
 refute-zero s z ne zero hw e = ne (ap length e)
 refute-zero s z ne (suc w) hw e = omega (arith, text-is s (suc w) e .lead (omega arith))
@@ -205,7 +206,7 @@ len-le (suc k) n h = go (ltb n 10) refl (len-le k (n / 10))
         let q : 10 ^ (suc k + 1) ≡ 10 ^ (k + 1) * 10 = simp unary-clauses in
         omega (arith, len-high n (ltb-false n 10 e), ih (omega arith))
 
-pub len-ten : (n : ℕ) → n < 2 ^ 32 → length (decimal n) ≤ 10
+pub len-ten : (n : ℕ) → n < modulus → length (decimal n) ≤ 10
 len-ten n h = len-le 9 n (omega arith)
 
 pub len-twenty : (n : ℕ) → n < 2 ^ 64 → length (decimal n) ≤ 20

@@ -1,5 +1,5 @@
 pub mod Decimals
 pub mod Splits
 pub mod Beginnings
-pub mod Lists
+pub mod CommaLists
 pub mod Pasting

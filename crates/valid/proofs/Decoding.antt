@@ -8,6 +8,7 @@ use mathlib.Core.List.{List, [], _∷_, _++_}
 use lib.Dec.{eqb, leb, ltb}
 use lib.ListN.{length, getD, take, replicate, length-append, length-replicate}
 use borrow.Author.Tests.{eqb-true, eqb-false, ltb-true, leb-true, lt-ltb, eq-eqb}
+use Rattle.graph.specs.Words.{modulus}
 use Rattle.graph.specs.declared.act.Act.{Act}
 use Rattle.graph.specs.declared.act.Act.the-variants.{Map, Link, Unlink, Sum, Top, Pick, Near}
 use Rattle.graph.specs.Packed.{listed, packed}
@@ -110,7 +111,7 @@ plain kind key a b k e = λ i. fields kind (sym (eqb-true key 0 k) i) (sym (eqb-
 keyed : (kind key a b : ℕ) → eqb a 0 ≡ true → fields kind key 0 b ≡ fields kind key a b
 keyed kind key a b e = λ i. fields kind key (sym (eqb-true a 0 e) i) b
 
-act-good : (kind key a b : ℕ) → a < 2 ^ 32 → b < 2 ^ 32 → (kind ≡ 0 → ⊥) → leb kind 7 ≡ true → operandOk kind key ≡ true → numbersOk kind a b ≡ true → ActGood kind key a b
+act-good : (kind key a b : ℕ) → a < modulus → b < modulus → (kind ≡ 0 → ⊥) → leb kind 7 ≡ true → operandOk kind key ≡ true → numbersOk kind a b ≡ true → ActGood kind key a b
 act-good zero key a b ha hb nz l o n = absurd (nz refl)
 act-good (suc zero) key a b ha hb nz l o n = record { act = (ha, hb); held = refl; same = λ i. fields 1 (sym (eqb-true key 0 o) i) a b; most = refl }
 act-good (suc (suc zero)) key a b ha hb nz l o n = record { act = o; held = hb; same = keyed 2 key a b (and-left _ _ n); most = refl }
@@ -258,8 +259,8 @@ record FieldsGood (a : Act) (h : ℕ) (f : Fields) : Type 0 where
   act : actOf (f .kind) (f .key) (f .a) (f .b) ≡ a
   held : heldOf (f .kind) (f .b) ≡ h
   most : mostLabels a ≡ mostOf (f .kind)
-  small-a : f .a < 2 ^ 32
-  small-b : f .b < 2 ^ 32
+  small-a : f .a < modulus
+  small-b : f .b < modulus
 
 fields-good : (a : Act) (h : ℕ) → ValidAct a → ValidHeld a h → FieldsGood a h (fieldsOf a h)
 fields-good (Map m) h v w = record { kind = refl; other = refl; operand = refl; numbers = refl; act = refl; held = sym w; most = refl; small-a = v .0; small-b = v .1 }

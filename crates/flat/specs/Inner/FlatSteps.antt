@@ -9,13 +9,12 @@ use lib.ListN.{length, take, drop, getD, set}
 use lib.Seq.{slice}
 use Rattle.graph.specs.declared.task.Task.{Task}
 use Rattle.graph.specs.declared.task.Task.the-variants.{Acts, Finishes, Passes}
-use Rattle.graph.specs.Lists.{any}
 use Rattle.graph.specs.Refusals.{Answer, refused, done, mapDone}
 use Rattle.graph.specs.Nodes.{Node, Op, targetsKey, mayFinishAt, actOn, actBy, stored, newNode, addResult}
 use Rattle.graph.specs.Tasks.{taskRule}
 use Rattle.graph.specs.OneAtATime.{Labelled, addOf, opOf}
 use Rattle.graph.specs.Sessions.{store}
-use Rattle.graph.specs.Steps.{Step, admit, realise, move, finish, join, split, swap, fuse, maySwap, mayFuse, fused}
+use Rattle.graph.specs.Steps.{Step, admit, realise, move, finish, join, split, swap, fuse, maySwap, mayFuse, fused, any}
 use Rattle.flat.specs.Flat.{Tagged, Flat}
 use Rattle.flat.specs.Inner.Nested.{ofOp, atPlace}
 use Rattle.flat.specs.Inner.Queues.{firstIndex, isAt, endOf, removeAt}
