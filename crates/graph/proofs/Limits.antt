@@ -15,7 +15,7 @@ use Rattle.graph.specs.declared.act.Act.the-variants.{Map, Link, Unlink,
 use Rattle.graph.specs.Words.{modulus}
 use Rattle.graph.specs.Affine.{plus}
 use Rattle.graph.specs.KeyLists.{isKey, areKeys, contains, strike, above, rising, isFull, sameKeys}
-use Rattle.graph.specs.Acts.{isMap, affineOf, newValue, newLinks, newHeld, answer}
+use Rattle.graph.specs.Acts.{isMap, affineOf, newValue, newLinks, newHeld, resultValue}
 use Rattle.graph.specs.Nodes.{Node, Op, actOn, actBy, resultsFor, stored, newNode, addResult}
 use Rattle.graph.specs.Sessions.{Station}
 use Rattle.graph.specs.Steps.{Change, putUnit, mayFuse, fused}
@@ -114,14 +114,14 @@ valid-held Top h v ls g k = omega arith
 valid-held Pick h v ls g k = g
 valid-held (Near j) h v ls g k = cond-lt (contains j ls) (plus h v) h modulus (mod-lt (1 * h + v) positive) k
 
-valid-answer : (a : Act) (h : ℕ) → ValidHeld a h → answer a h < modulus
-valid-answer (Map m) h k = positive
-valid-answer (Link j) h k = k
-valid-answer (Unlink j) h k = positive
-valid-answer Sum h k = k
-valid-answer Top h k = k
-valid-answer Pick h k = k
-valid-answer (Near j) h k = k
+valid-result-value : (a : Act) (h : ℕ) → ValidHeld a h → resultValue a h < modulus
+valid-result-value (Map m) h k = positive
+valid-result-value (Link j) h k = k
+valid-result-value (Unlink j) h k = positive
+valid-result-value Sum h k = k
+valid-result-value Top h k = k
+valid-result-value Pick h k = k
+valid-result-value (Near j) h k = k
 
 valid-actOn : (o : Op) (n : Node) → ValidOp o → ValidNode n → ValidNode (actOn o n)
 valid-actOn o n g h =
@@ -152,9 +152,9 @@ valid-fused o q e g =
 pub valid-stored : (o : Op) → ValidOp o → Each ValidResult (stored o)
 valid-stored o g = go (o .labels)
   where
-    go : (ls : List ℕ) → Each ValidResult (resultsFor ls (answer (o .act) (o .held)) (o .targets))
+    go : (ls : List ℕ) → Each ValidResult (resultsFor ls (resultValue (o .act) (o .held)) (o .targets))
     go [] = tt
-    go (l ∷ ls) = (record { value = valid-answer (o .act) (o .held) (g .held); left = g .targets }, go ls)
+    go (l ∷ ls) = (record { value = valid-result-value (o .act) (o .held) (g .held); left = g .targets }, go ls)
 
 pub valid-newNode : (n v : ℕ) → v < modulus → ValidNode (newNode n v)
 valid-newNode n v h = record { value = h; few = omega arith; keys = refl }

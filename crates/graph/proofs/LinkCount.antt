@@ -12,7 +12,7 @@ use Rattle.graph.specs.declared.act.Act.{Act}
 use Rattle.graph.specs.declared.act.Act.the-variants.{Link}
 use Rattle.graph.specs.Affine.{plus}
 use Rattle.graph.specs.KeyLists.{contains, strike, isFull}
-use Rattle.graph.specs.Acts.{newHeld, answer}
+use Rattle.graph.specs.Acts.{newHeld, resultValue}
 use Rattle.graph.specs.Calls.{Call, link, targetsOf}
 use Rattle.graph.specs.Nodes.{Node, Op, Result, hits, actBy, addResult}
 use Rattle.graph.specs.OneAtATime.{World, labelled, passOp, process, processFrom, oneAtATime}
@@ -80,7 +80,7 @@ process-one c l x = go (sort c l)
     go (operates a h i e) =
         let o : Op = record { act = a; held = h; targets = targetsOf c; labels = l ∷ [] } in
         let q : Op = passOp o (x .nodes) in
-        rw e (record { result = record { label = l; value = answer (q .act) (q .held); left = q .targets }; label = refl; more = rw (pass-labels o (x .nodes)) })
+        rw e (record { result = record { label = l; value = resultValue (q .act) (q .held); left = q .targets }; label = refl; more = rw (pass-labels o (x .nodes)) })
 
 later-keep : (m l : ℕ) (cs : List Call) (x : World) (q : Result) → resultOfLabel m (x .results) ≡ some q → resultOfLabel m ((processFrom l cs x) .results) ≡ some q
 later-keep m l [] x q e = e
@@ -108,14 +108,14 @@ link-count before later k to h r e =
     let o : Op = record { act = Link k; held = 0; targets = to; labels = m ∷ [] } in
     let q : Op = passOp o (x .nodes) in
     let c : Counts k (0 + fullTargets to (x .nodes)) q = pass-counts k o (x .nodes) refl (omega (arith, h)) in
-    let own : Result = record { label = m; value = answer (q .act) (q .held); left = q .targets } in
+    let own : Result = record { label = m; value = resultValue (q .act) (q .held); left = q .targets } in
     let new : (process (labelled (link k to) m) x) .results ≡ x .results ++ (own ∷ []) = rw (pass-labels o (x .nodes)) in
     let none-yet : resultOfLabel m (x .results) ≡ none = earlier-miss m 1 before (record { nodes = []; results = [] }) (omega arith) refl in
     let found : resultOfLabel m ((process (labelled (link k to) m) x) .results) ≡ some own = ap (resultOfLabel m) new ∙ find-append m (x .results) (own ∷ []) ∙ ap (λ (p : Option Result). orThat p (resultOfLabel m (own ∷ []))) none-yet ∙ find-here m own [] refl in
     let one : 1 + length before ≡ m = omega arith in
     let all : oneAtATime (before ++ (link k to ∷ later)) ≡ processFrom (suc m) later (process (labelled (link k to) m) x) = process-append 1 before (link k to ∷ later) (record { nodes = []; results = [] }) ∙ ap (λ (n : ℕ). processFrom n (link k to ∷ later) x) one in
     let same : own ≡ r = some-same (sym (later-keep m (suc m) later (process (labelled (link k to) m) x) own found) ∙ sym (ap (λ (y : World). resultOfLabel m (y .results)) all) ∙ e) in
-    let held : answer (q .act) (q .held) ≡ q .held = ap (λ (a : Act). answer a (q .held)) (c .act) in
+    let held : resultValue (q .act) (q .held) ≡ q .held = ap (λ (a : Act). resultValue a (q .held)) (c .act) in
     omega (arith, c .held, held, ap (λ (y : Result). y .value) same)
 
 -- of every list of events sent to a fresh session: the result of a link is the number of its targets whose list had eight, so at most the

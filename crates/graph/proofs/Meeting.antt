@@ -89,7 +89,7 @@ reads-free {a} {b} f g = record {
   first = λ h v ls i. newHeld a h (g .value v i) (g .links ls i);
 }
 
--- the swap table is sound
+-- where the swap table lets two acts share a target, they may change places
 pub share-free : (a b : Act) → mayShare a b ≡ true → Free a b
 share-free a b e = reads-free (fold-reads a (and-left _ _ e)) (fold-reads b (and-right (isFold a) _ e))
 

@@ -4,7 +4,7 @@ use Prim.Native.Nat.{ℕ, suc}
 use mathlib.Core.Bool.{Bool, cond, not, _&&_, _||_}
 use mathlib.Core.List.{List, [], _∷_}
 use Rattle.graph.specs.declared.act.Act.{Act}
-use Rattle.graph.specs.Acts.{newValue, newLinks, newHeld, answer}
+use Rattle.graph.specs.Acts.{newValue, newLinks, newHeld, resultValue}
 use Rattle.graph.specs.KeyLists.{isNil, contains, strike}
 
 -- "a node (key, 32-bit unsigned value, list of linked keys)"
@@ -66,7 +66,7 @@ resultsFor [] v ts = []
 resultsFor (l ∷ ls) v ts = record { label = l; value = v; left = ts } ∷ resultsFor ls v ts
 
 abbrev pub stored : Op → List Result
-stored o = resultsFor (o .labels) (answer (o .act) (o .held)) (o .targets)
+stored o = resultsFor (o .labels) (resultValue (o .act) (o .held)) (o .targets)
 
 -- an add's node, where there are n: "with its value, no links and a key one above the number of nodes"
 abbrev pub newNode : ℕ → ℕ → Node

@@ -14,7 +14,7 @@ use Rattle.graph.specs.declared.act.Act.{Act}
 use Rattle.graph.specs.declared.keys.Keys.{Keys}
 use Rattle.graph.specs.declared.task.Task.{Task}
 use Rattle.graph.specs.declared.task.Task.the-variants.{Acts, Finishes, Passes}
-use Rattle.graph.specs.Acts.{isMap, newValue, newLinks, newHeld, answer}
+use Rattle.graph.specs.Acts.{isMap, newValue, newLinks, newHeld, resultValue}
 use Rattle.graph.specs.Nodes.{Node, Result, actOn, actBy, resultsFor, stored}
 use Rattle.graph.specs.Tasks.{taskRule, sameTask}
 use Rattle.graph.specs.OneAtATime.{Labelled, addOf, opOf, isOp}
@@ -170,7 +170,7 @@ room-for image p o holds-valid h carries =
     (labels-room s (holds-valid .valid) p within)
 
 -- the operation is taken out first, and then its results are stored
-pub finish-shown : (f : Flat) (p e : ℕ) (o : Operation) (v : ℕ) (t u : List ℕ) → Carries ((getD (f .queue) p noOp) .call) o → v ≡ answer (o .act) (o .held)
+pub finish-shown : (f : Flat) (p e : ℕ) (o : Operation) (v : ℕ) (t u : List ℕ) → Carries ((getD (f .queue) p noOp) .call) o → v ≡ resultValue (o .act) (o .held)
     → Shows (withQueue f (takeOut p e (getD (f .queue) p noOp) (f .queue))) t
     → Shows (withResults (flatIn t) (store (resultsFor (labelsOf (o .labels)) v (listed (o .targets))) (flatIn t .results))) u
     → Shows (finishPlace p e (getD (f .queue) p noOp) f) u

@@ -125,7 +125,7 @@ pub fn finish_at(image: &mut [u8], p: usize, e: usize)
     let o = ops::operation_at(image, p);
     take_out(image, p, e);
     let act = o.act;
-    let value = act::answer(act, o.held);
+    let value = act::result_value(act, o.held);
     let labels = o.labels;
     let left = o.targets;
     results::store_all(image, labels, value, left);

@@ -42,10 +42,10 @@ tested-session (otherLine s h never e) z = absurd (never tt tt)
 tested-session {image} (served s h f i e) z = subst (ImageOf image) (valid-back s (h .valid) ∙ ap sessionOf (h .same)) h
 
 pub exact-none : {image : List ℕ} {b : Bool} → Exact image b → b ≡ false → (s : Session) → ImageOf image s → ⊥
-exact-none x e s h = true≢false (sym (x .complete s (h .valid) (h .same) .0) ∙ e)
+exact-none x e s h = true≢false (sym (x .implied s (h .valid) (h .same) .0) ∙ e)
 
 pub exact-session : {image : List ℕ} {b : Bool} → Exact image b → b ≡ true → ImageOf image (sessionOf image)
-exact-session x e = record { valid = x .sound e .0; same = x .sound e .1 }
+exact-session x e = record { valid = x .implies e .0; same = x .implies e .1 }
 
 pub session-valid : {image : List ℕ} → ImageOf image (sessionOf image) → ValidImage image
 session-valid {image} h = valid-image image (h .valid) (h .same)

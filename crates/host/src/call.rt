@@ -5,7 +5,7 @@ use lines::call::CallAnswer;
 use lines::call::CallKind;
 use lines::call::parse_call;
 use panel::returned::Returned;
-use panel::returned::number;
+use panel::returned::returned_number;
 use session::accepts::accept;
 use state::results::last;
 use text::cut::part_to;
@@ -59,5 +59,5 @@ pub fn call_at(image: &mut [u8], frame: &[u8], at: usize) -> Returned
 pub extern "C" fn cg_call(image: &mut [u8], frame: &[u8], at: usize) -> i64
     ensures { λ r. ⌜ Calls (now (image .entry)) (lineAt (now (frame .entry)) at) (record { answer = r; image = now (image .exit) }) ⌝ }
 {
-    number(call_at(image, frame, at))
+    returned_number(call_at(image, frame, at))
 }

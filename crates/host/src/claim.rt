@@ -4,7 +4,7 @@ use calls::claim::Claim;
 use lines::claim::ClaimLine;
 use lines::claim::parse_claim;
 use panel::returned::Returned;
-use panel::returned::number;
+use panel::returned::returned_number;
 use print::lines::put_result;
 use print::lines::result_len;
 use session::claims::call_result;
@@ -77,5 +77,5 @@ pub fn claim_at(image: &mut [u8], frame: &[u8], at: usize, out: &mut [u8]) -> Re
 pub extern "C" fn cg_claim(image: &mut [u8], frame: &[u8], at: usize, out: &mut [u8]) -> i64
     ensures { λ r. ⌜ Claims (now (image .entry)) (lineAt (now (frame .entry)) at) (now (out .entry)) (record { answer = r; image = now (image .exit); output = now (out .exit) }) ⌝ }
 {
-    number(claim_at(image, frame, at, out))
+    returned_number(claim_at(image, frame, at, out))
 }

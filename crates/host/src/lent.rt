@@ -1,6 +1,6 @@
 // The lent image: opening it, and its own refusals.
 use panel::returned::Returned;
-use panel::returned::number;
+use panel::returned::returned_number;
 use valid::session::image_valid;
 use valid::session::open;
 ghost use Rattle.host.specs.Entries.{opened};
@@ -26,7 +26,7 @@ pub extern "C" fn cg_open(image: &mut [u8]) -> i64
     ensures { λ r. ⌜ record { answer = r; image = now (image .exit) } ≡ opened (now (image .entry)) ⌝ }
 {
     if !open(image) {
-        return number(Returned::Refused(1));
+        return returned_number(Returned::Refused(1));
     }
-    number(Returned::Done(0))
+    returned_number(Returned::Done(0))
 }

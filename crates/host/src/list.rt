@@ -3,7 +3,7 @@ use crate::lent::image_refusal;
 use listing::measure::listing_len;
 use listing::write::put_listing;
 use panel::returned::Returned;
-use panel::returned::number;
+use panel::returned::returned_number;
 ghost use Rattle.panel.specs.Returned.{returnedNumber};
 ghost use Rattle.host.specs.Entries.{Lists};
 
@@ -28,5 +28,5 @@ pub fn list(image: &[u8], out: &mut [u8]) -> Returned
 pub extern "C" fn cg_list(image: &[u8], out: &mut [u8]) -> i64
     ensures { λ r. ⌜ Lists (now (image .entry)) (now (out .entry)) (record { answer = r; output = now (out .exit) }) ⌝ }
 {
-    number(list(image, out))
+    returned_number(list(image, out))
 }

@@ -4,7 +4,7 @@ use lines::step::StepLine;
 use lines::step::parse_step;
 use lines::step::tally_place;
 use panel::returned::Returned;
-use panel::returned::number;
+use panel::returned::returned_number;
 use panel::tally::Tally;
 use panel::tally::raise;
 use session::anystep::take;
@@ -71,7 +71,7 @@ pub fn step_answer(s: LineTaken) -> Returned
 fn answer_number(s: LineTaken) -> i64
     ensures { λ r. ⌜ r ≡ returnedNumber (takenAnswer s) ⌝ }
 {
-    number(step_answer(s))
+    returned_number(step_answer(s))
 }
 
 // The tally with the steps that a drain took.

@@ -8,7 +8,7 @@ pub enum Returned {
     Refused(u32),
 }
 
-pub fn number(a: Returned) -> i64
+pub fn returned_number(a: Returned) -> i64
     ensures { λ r. ⌜ r ≡ returnedNumber a ⌝ }
 {
     match a {

@@ -36,5 +36,5 @@ pub fn remove(image: &mut [u8], at: usize)
     requires { ⌜ (ValidImage (now image)) × (Claimable (now image) at) ⌝ }
     ensures { λ _. ⌜ now (image .exit) ≡ encode (keeping (sessionOf (now (image .entry))) (removeAt at (flatIn (now (image .entry)) .results))) ⌝ }
 {
-    results::take(image, at);
+    results::remove(image, at);
 }

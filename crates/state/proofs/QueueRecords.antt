@@ -73,7 +73,7 @@ module _ (r : OpRecord) where
         let same : callRecord (r .station) (eqb (r .opens) 1) (opOf (record { act = actOf (r .kind) (r .key) (r .a) (r .b); held = heldOf (r .kind) (r .b); targets = listed (r .targets); labels = labelsOf (r .labels) })) ≡ r = rw e at clean in
         record {
           is = rw e refl;
-          normal = record { keys = sym (ap (λ (x : OpRecord). x .targets) same); names = sym (ap (λ (x : OpRecord). x .labels) same); holds = map-holds (r .kind) (r .key) (r .a) (r .b) };
+          normal = record { keys = sym (ap (λ (x : OpRecord). x .targets) same); names = sym (ap (λ (x : OpRecord). x .labels) same); mapHeld = map-holds (r .kind) (r .key) (r .a) (r .b) };
         }
 
 -- RECORDS MADE
@@ -99,7 +99,7 @@ pub reads-operation : (p opens : ℕ) (o : Operation) (f : Fields) → f ≡ fie
 reads-operation p opens o f e h n =
     rw e
     (reads (record { place = p; opens = eqb opens 1; call = opOf (opValue o) }) (recordWith p opens (fieldsOf (o .act) (o .held)) (o .targets) (o .labels))
-    (λ i. record { place = p; opens = eqb opens 1; call = call-of (o .act) (o .held) p opens (o .targets) (o .labels) (n .holds) i })
+    (λ i. record { place = p; opens = eqb opens 1; call = call-of (o .act) (o .held) p opens (o .targets) (o .labels) (n .mapHeld) i })
     (λ i.
     record {
       station = p;

@@ -120,7 +120,7 @@ pub fn store_all(image: &mut [u8], labels: Labels, value: u32, left: Keys)
 }
 
 // The result at i goes.
-pub fn take(image: &mut [u8], i: usize)
+pub fn remove(image: &mut [u8], i: usize)
     requires { ⌜ (Proper (now image)) × (i < length (flatIn (now image) .results)) ⌝ }
     ensures { λ _. ⌜ Shows (withResults (flatIn (now (image .entry))) (removeAt i (flatIn (now (image .entry)) .results))) (now (image .exit)) ⌝ }
 {

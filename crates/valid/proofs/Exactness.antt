@@ -319,9 +319,9 @@ module _ (x : Session) (h : Valid x) where
 pub exactly : (s : List ℕ) (r : Bool) → Bytes s → (r ≡ true → Passes s) → (Passes s → r ≡ true) → Exact s r
 exactly s r y to from =
     record {
-      sound = λ e. (passes-valid s y (to e), passes-image s y (to e));
-      complete = λ x h e. (from (subst Passes e (valid-passes x h)), valid-back x h ∙ ap sessionOf e);
+      implies = λ e. (passes-valid s y (to e), passes-image s y (to e));
+      implied = λ x h e. (from (subst Passes e (valid-passes x h)), valid-back x h ∙ ap sessionOf e);
     }
 
 pub refused : (s : List ℕ) → (Passes s → ⊥) → Exact s false
-refused s f = record { sound = λ e. absurd (true≢false (sym e)); complete = λ x h e. absurd (f (subst Passes e (valid-passes x h))) }
+refused s f = record { implies = λ e. absurd (true≢false (sym e)); implied = λ x h e. absurd (f (subst Passes e (valid-passes x h))) }

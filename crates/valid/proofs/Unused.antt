@@ -41,7 +41,7 @@ module _ (s : List ℕ) where
 
 -- an answer that is no
 pub refuses : {P : Type 0} → (P → ⊥) → Decides P false
-refuses f = record { sound = λ e. absurd (true≢false (sym e)); complete = λ p. absurd (f p) }
+refuses f = record { implies = λ e. absurd (true≢false (sym e)); implied = λ p. absurd (f p) }
 
 -- OPENING: the head of no nodes, operations and results, and zeros
 abbrev pub freshHead : Head

@@ -29,7 +29,7 @@ returns c =
           record {
             keys = normal _ (c .strike .ensures);
             names = a .pre .names;
-            holds = λ m. c .before .held-after .ensures ∙ map-holds (o .act) (o .held) (n .value) (listed (n .links)) m ∙ a .pre .holds m;
+            mapHeld = λ m. c .before .held-after .ensures ∙ map-holds (o .act) (o .held) (n .value) (listed (n .links)) m ∙ a .pre .mapHeld m;
           };
     }
 

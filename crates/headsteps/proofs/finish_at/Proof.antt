@@ -16,8 +16,8 @@ operation-at-requires c κs = search needs
 take-out-requires : tie.Need-take-out-requires
 take-out-requires c κs = search needs
 
-answer-requires : tie.Need-answer-requires
-answer-requires c κs = search needs
+result-value-requires : tie.Need-result-value-requires
+result-value-requires c κs = search needs
 
 store-all-requires : tie.Need-store-all-requires
 store-all-requires c κs =
@@ -34,7 +34,7 @@ returns : tie.Need-returns
 returns c =
     let a = c .before .before .before .before .before .before .before .before .before .before .before .before .before .before in
     let o = c .before .before .before .before .before .before .before .before .before .before .before .operation-at in
-    finish-shown (flatIn (a .args .image .now)) (a .args .p) (a .args .e) (o .result) _ _ _ (o .ensures) (c .before .before .before .before .before .before .answer .ensures) (c .before .before .before .before .before .before .before .before .before .take-out .ensures) (c .before .before .store-all .ensures)
+    finish-shown (flatIn (a .args .image .now)) (a .args .p) (a .args .e) (o .result) _ _ _ (o .ensures) (c .before .before .before .before .before .before .result-value .ensures) (c .before .before .before .before .before .before .before .before .before .take-out .ensures) (c .before .before .store-all .ensures)
 
 pub finish-at-spec : {M : Type 1} → statement M
 finish-at-spec =
@@ -42,7 +42,7 @@ finish-at-spec =
     (tie.spec
     operation-at-requires
     take-out-requires
-    answer-requires
+    result-value-requires
     store-all-requires
     same-length
     returns)

@@ -11,6 +11,7 @@ use Rattle.text.specs.Text.{ascii, decimal}
 use Rattle.text.specs.Inner.PartsRead.{Gap}
 use Rattle.graph.specs.KeyLists.{isKey, areKeys, above, rising}
 use Rattle.graph.specs.Words.{modulus}
+use Rattle.graph.specs.Valid.{Each}
 use Rattle.graph.specs.Packed.{packed}
 use Rattle.graph.specs.Refusals.{Answer, refused, done}
 use Rattle.graph.specs.Steps.{admit, realise, move, finish, join, split, swap, fuse}
@@ -32,10 +33,9 @@ use Rattle.lines.specs.declared.step.StepLine.{StepLine}
 use Rattle.lines.specs.declared.step.StepWord.{StepWord}
 use Rattle.lines.specs.declared.step.StepWord.the-variants.{Is as StepIs, Not as StepNot}
 
--- 32-bit numbers
+-- what `areWords` tests, as facts
 abbrev pub Below : List ℕ → Type 0
-Below [] = Unit {0}
-Below (t ∷ ts) = (t < modulus) × Below ts
+Below ts = Each (λ t. t < modulus) ts
 
 -- ---- a list of keys
 

@@ -30,7 +30,7 @@ fieldsValue f = record { kind = f .kind; key = f .key; a = f .a; b = f .b }
 pub record Normal (o : Operation) : Type 0 where
   pub keys : o .targets ≡ packed (listed (o .targets))
   pub names : o .labels ≡ packedLabels (labelsOf (o .labels))
-  pub holds : isMap (o .act) ≡ true → o .held ≡ 0
+  pub mapHeld : isMap (o .act) ≡ true → o .held ≡ 0
 
 -- the call is this operation
 pub record Carries (call : Labelled) (o : Operation) : Type 0 where

@@ -13,13 +13,13 @@ use Rattle.valid.specs.Inner.Decoded.{sessionOf}
 
 -- the answer is true exactly where some valid session has these bytes as its image, and that session is the only one
 pub record Exact (bytes : List ℕ) (answer : Bool) : Type 0 where
-  pub sound : answer ≡ true → Valid (sessionOf bytes) × (encode (sessionOf bytes) ≡ bytes)
-  pub complete : (x : Session) → Valid x → encode x ≡ bytes → (answer ≡ true) × (x ≡ sessionOf bytes)
+  pub implies : answer ≡ true → Valid (sessionOf bytes) × (encode (sessionOf bytes) ≡ bytes)
+  pub implied : (x : Session) → Valid x → encode x ≡ bytes → (answer ≡ true) × (x ≡ sessionOf bytes)
 
 -- the answer is true exactly where the fact holds
 pub record Decides (fact : Type 0) (answer : Bool) : Type 0 where
-  pub sound : answer ≡ true → fact
-  pub complete : fact → answer ≡ true
+  pub implies : answer ≡ true → fact
+  pub implied : fact → answer ≡ true
 
 -- opening: the image of the fresh session, where the length is right
 pub record Opened (bytes after : List ℕ) (answer : Bool) : Type 0 where

@@ -38,7 +38,7 @@ append-operation-requires : tie.Need-append-operation-requires
 append-operation-requires c κs =
     let s = c .before .before .before .before .before .before .before in
     let room = spare (s .args .image .now) (s .pre .0) (sym (c .before .before .before .before .refusal .ensures) ∙ c .before .before .before .if1 .left) in
-    (s .pre .0 .proper, room .queue, record { keys = s .pre .1; names = only-normal (c .before .last .result + 1); holds = s .pre .2 })
+    (s .pre .0 .proper, room .queue, record { keys = s .pre .1; names = only-normal (c .before .last .result + 1); mapHeld = s .pre .2 })
 
 set-last-requires : tie.Need-set-last-requires
 set-last-requires c κs = c .before .before .before .append-operation .ensures .proper

@@ -13,8 +13,8 @@ use Rattle.host.proofs.claim.cg_claim.Tie as tie
 claim-at-requires : tie.Need-claim-at-requires
 claim-at-requires c κs = search needs
 
-number-requires : tie.Need-number-requires
-number-requires c κs = search needs
+returned-number-requires : tie.Need-returned-number-requires
+returned-number-requires c κs = search needs
 
 same-length : tie.Need-same-length
 same-length c = search needs
@@ -24,11 +24,11 @@ same-length-2 c = search needs
 
 returns : tie.Need-returns
 returns c =
-    let same : toZ w64 (ofZ w64 (c .number .result)) ≡ c .number .result = search needs in
+    let same : toZ w64 (ofZ w64 (c .returned-number .result)) ≡ c .returned-number .result = search needs in
     let after : List ℕ = _ in
     let output : List ℕ = _ in
-    entered-as (λ i. record { answer = (same ∙ c .number .ensures) i; image = after; output = output }) (c .before .before .before .before .before .claim-at .ensures)
+    entered-as (λ i. record { answer = (same ∙ c .returned-number .ensures) i; image = after; output = output }) (c .before .before .before .before .before .claim-at .ensures)
 
 pub cg-claim-spec : {M : Type 1} → statement M
 cg-claim-spec =
-    tie.close (tie.spec claim-at-requires number-requires same-length same-length-2 returns)
+    tie.close (tie.spec claim-at-requires returned-number-requires same-length same-length-2 returns)

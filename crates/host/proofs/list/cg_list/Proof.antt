@@ -13,17 +13,17 @@ use Rattle.host.proofs.list.cg_list.Tie as tie
 list-requires : tie.Need-list-requires
 list-requires c κs = search needs
 
-number-requires : tie.Need-number-requires
-number-requires c κs = search needs
+returned-number-requires : tie.Need-returned-number-requires
+returned-number-requires c κs = search needs
 
 same-length : tie.Need-same-length
 same-length c = search needs
 
 returns : tie.Need-returns
 returns c =
-    let same : toZ w64 (ofZ w64 (c .number .result)) ≡ c .number .result = search needs in
+    let same : toZ w64 (ofZ w64 (c .returned-number .result)) ≡ c .returned-number .result = search needs in
     let output : List ℕ = _ in
-    entered-as (λ i. record { answer = (same ∙ c .number .ensures) i; output = output }) (c .before .before .before .list .ensures)
+    entered-as (λ i. record { answer = (same ∙ c .returned-number .ensures) i; output = output }) (c .before .before .before .list .ensures)
 
 pub cg-list-spec : {M : Type 1} → statement M
-cg-list-spec = tie.close (tie.spec list-requires number-requires same-length returns)
+cg-list-spec = tie.close (tie.spec list-requires returned-number-requires same-length returns)

@@ -38,7 +38,7 @@ returns c =
     let labels : labelsOf (a .labels) ++ labelsOf (b .labels) ≡ labelsOf (l .result) = sym (ap labelsOf (l .ensures) ∙ listed-labels (labelsOf (a .labels) ++ labelsOf (b .labels))) in
     record {
       is = λ i. opOf (record { act = Map (map i); held = 0; targets = listed (a .targets); labels = labels i });
-      normal = record { keys = s .pre .0 .keys; names = l .ensures ∙ ap packedLabels labels; holds = λ e. refl };
+      normal = record { keys = s .pre .0 .keys; names = l .ensures ∙ ap packedLabels labels; mapHeld = λ e. refl };
     }
 
 pub merge-spec : {M : Type 1} → statement M

@@ -17,7 +17,7 @@ use Rattle.valid.proofs.session.image_valid.Tie as tie
 
 -- the image is sound past the first test
 sound : (c : tie.Else1) → Sound (c .before .before .before .args .image .now)
-sound c = c .before .is-sound .ensures .sound (not-false _ (c .if1 .left))
+sound c = c .before .is-sound .ensures .implies (not-false _ (c .if1 .left))
 
 -- the answer for the queue, where the image passes
 queued : (s : List ℕ) → Passes s → (opsOk (length (view s .nodes)) (view s .ops) && leb (length (view s .nodes) + addsAmong (view s .ops)) 64) ≡ true
@@ -27,13 +27,13 @@ is-sound-requires : tie.Need-is-sound-requires
 is-sound-requires c κs = search needs
 
 returns : tie.Need-returns
-returns c = refused (c .before .before .before .args .image .now) (λ p. true≢false (sym (c .before .is-sound .ensures .complete (p .sound)) ∙ not-true _ (c .if1 .taken)))
+returns c = refused (c .before .before .before .args .image .now) (λ p. true≢false (sym (c .before .is-sound .ensures .implied (p .sound)) ∙ not-true _ (c .if1 .taken)))
 
 is-canonical-requires : tie.Need-is-canonical-requires
 is-canonical-requires c κs = sound c
 
 returns-2 : tie.Need-returns-2
-returns-2 c = refused (c .before .before .before .before .before .args .image .now) (λ p. true≢false (sym (c .before .is-canonical .ensures .complete (p .canonical)) ∙ not-true _ (c .if2 .taken)))
+returns-2 c = refused (c .before .before .before .before .before .args .image .now) (λ p. true≢false (sym (c .before .is-canonical .ensures .implied (p .canonical)) ∙ not-true _ (c .if2 .taken)))
 
 nodes-ok-requires : tie.Need-nodes-ok-requires
 nodes-ok-requires c κs = sound (c .before .before)
@@ -72,7 +72,7 @@ returns-6 c =
     (λ e.
     record {
       sound = sound e1;
-      canonical = e2 .before .is-canonical .ensures .sound (not-false _ (e2 .if2 .left));
+      canonical = e2 .before .is-canonical .ensures .implies (not-false _ (e2 .if2 .left));
       shown =
           record {
             nodes = sym (e3 .before .nodes-ok .ensures) ∙ not-false _ (e3 .if3 .left);

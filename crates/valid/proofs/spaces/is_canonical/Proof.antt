@@ -117,7 +117,7 @@ returns-5 c =
     let o = c .before .before .before .before .before .before .before .before .before .before .before .before .before .before .op-count .ensures in
     let r = c .before .before .before .before .before .before .before .before .before .before .before .before .before .result-count .ensures in
     record {
-      sound = λ e.
+      implies = λ e.
           record {
             version = c .before .before .before .before .before .before .before .before .before .before .before .if1 .left;
             head = part-zeros s 6 16 (omega arith) (sym (c .before .before .before .before .before .before .before .before .before .all-zero .ensures) ∙ not-false _ (c .before .before .before .before .before .before .before .before .if2 .left));
@@ -125,7 +125,7 @@ returns-5 c =
             ops = subst (λ (k : ℕ). Zeros s (1040 + 32 * k) 3088) o (part-zeros s _ _ (omega (arith, o, start .pre .ops)) (sym (c .before .before .before .all-zero3 .ensures) ∙ not-false _ (c .before .before .if4 .left)));
             results = subst (λ (k : ℕ). Zeros s (3088 + 16 * k) 4112) r (part-zeros s _ _ (omega (arith, r, start .pre .results)) (sym (c .all-zero4 .ensures) ∙ e));
           };
-      complete = λ p. c .all-zero4 .ensures ∙ zeros-part s _ _ (omega (arith, r, start .pre .results)) (subst (λ (k : ℕ). Zeros s (3088 + 16 * k) 4112) (sym r) (p .results));
+      implied = λ p. c .all-zero4 .ensures ∙ zeros-part s _ _ (omega (arith, r, start .pre .results)) (subst (λ (k : ℕ). Zeros s (3088 + 16 * k) 4112) (sym r) (p .results));
     }
 
 pub is-canonical-spec : {M : Type 1} → statement M

@@ -36,8 +36,8 @@ returns-4 : tie.Need-returns-4
 returns-4 c =
     let s = c .before .before .before .before .before .before .args .image .now in
     record {
-      sound = λ e. sound-of s (c .before .before .before .before .before .if1 .left) (c .before .before .before .if2 .left) (c .before .if3 .left) (leb-true _ _ e);
-      complete = λ p. le-leb (getD s 3 0) 64 (omega (arith, p .results, count-of resultRegion s));
+      implies = λ e. sound-of s (c .before .before .before .before .before .if1 .left) (c .before .before .before .if2 .left) (c .before .if3 .left) (leb-true _ _ e);
+      implied = λ p. le-leb (getD s 3 0) 64 (omega (arith, p .results, count-of resultRegion s));
     }
 
 pub is-sound-spec : {M : Type 1} → statement M

@@ -1,9 +1,9 @@
--- `results::take` meets its contract.
+-- `results::remove` meets its contract.
 -- Assumes nothing.
 use Rattle.state.proofs.ResultLaws.{in-view, result-taken}
 use borrow.Author.Needs.{needs}
-use Rattle.state.proofs.results.take.Statement.{statement}
-use Rattle.state.proofs.results.take.Tie as tie
+use Rattle.state.proofs.results.remove.Statement.{statement}
+use Rattle.state.proofs.results.remove.Tie as tie
 
 remove-result-requires : tie.Need-remove-result-requires
 remove-result-requires c κs =
@@ -18,5 +18,5 @@ returns c =
     let a = c .before .before .before .before .before in
     result-taken (a .args .image .now) (a .pre .0) _ (a .args .i) (c .before .before .remove-result .ensures)
 
-pub take-spec : {M : Type 1} → statement M
-take-spec = tie.close (tie.spec remove-result-requires same-length returns)
+pub remove-spec : {M : Type 1} → statement M
+remove-spec = tie.close (tie.spec remove-result-requires same-length returns)

@@ -9,8 +9,8 @@ use mir.Syntax.{w64}
 use mir.Val.{toZ, SFits}
 use mir.Facts.{toZ-pos, toZ-ofZ}
 use Rattle.panel.specs.Returned.{returnedNumber}
-use Rattle.panel.proofs.returned.number.Statement.{statement}
-use Rattle.panel.proofs.returned.number.Tie as tie
+use Rattle.panel.proofs.returned.returned_number.Statement.{statement}
+use Rattle.panel.proofs.returned.returned_number.Tie as tie
 
 -- 0 less n, as the machine has it
 less : (n : ℕ) → n < 2 ^ 63 → pos 0 -ℤ toZ w64 n ≡ negℤ (pos n)
@@ -48,7 +48,7 @@ returns-2 c = toZ-ofZ (less-fits _ (small c)) ∙ less _ (small c) ∙ sym (ap r
 sub-result : tie.Need-sub-result
 sub-result c = less-fits _ (small c)
 
-pub number-spec : {M : Type 1} → statement M
-number-spec =
+pub returned-number-spec : {M : Type 1} → statement M
+returned-number-spec =
     tie.close
     (tie.spec enum-known-a cast-result enum-known-a-2 cast-result-2 sub-result returns returns-2)
