@@ -24,6 +24,22 @@ enum Kind {
     Fuse,
 }
 
+/// The task rules of the published CG Calculus (arXiv 1911.10982) for one operation at
+/// a station, in the order in which its section 6 names them, so that both can be read
+/// side by side: the rules over one station, then the one over two.
+enum Rule {
+    /// A map, link or unlink targets the node.
+    Map,
+    /// A fold targets the node.
+    Fold,
+    /// No targets are left.
+    Complete,
+    /// The station is the last, and its node no target.
+    Last,
+    /// A station follows, and this one's node is no target.
+    Propagate,
+}
+
 /// Counts one step. A full count rests.
 fn count(tally: &mut Tally, kind: Kind) {
     let count = &mut tally[kind as usize];
@@ -39,7 +55,7 @@ impl Session {
                 return Ok(());
             }
             Step::Admit => self.admit().map(|()| Kind::Admit),
-            Step::Realise { at } => self.station(at)?.realise().map(|()| Kind::Realise),
+            Step::Realise { at } => self.realise(self.place(at)?).map(|()| Kind::Realise),
             Step::Move { at } => self.move_on(self.place(at)?).map(|()| Kind::Move),
             Step::Finish { at } => self.finish(self.place(at)?).map(|()| Kind::Finish),
             Step::Join { at, unit } => self.station(at)?.join(unit).map(|()| Kind::Join),
@@ -100,6 +116,18 @@ impl Session {
         place + 1 == self.stations.len()
     }
 
+    fn realise(&mut self, place: usize) -> Result<(), Refusal> {
+        let last = self.is_last(place);
+        let Station { node, streamlet } = &mut self.stations[place];
+        let head = streamlet.front_mut().ok_or(Refusal::NoUnit)?;
+        let acts = |op: &&mut Operation| matches!(op.rule(node, last), Rule::Map | Rule::Fold);
+        let first = head.iter_mut().find(acts).ok_or(Refusal::NotAllowed)?;
+        first.visit(node);
+        Ok(())
+    }
+
+    /// Asks for no operation's rule: one without targets may move on with its unit,
+    /// although COMPLETE comes first for it.
     fn move_on(&mut self, place: usize) -> Result<(), Refusal> {
         let last = self.is_last(place);
         let Station { node, streamlet } = &mut self.stations[place];
@@ -116,7 +144,7 @@ impl Session {
         let last = self.is_last(place);
         let Station { node, streamlet } = &mut self.stations[place];
         let head = streamlet.front_mut().ok_or(Refusal::NoUnit)?;
-        let done = |op: &Operation| op.targets.is_empty() || (last && !op.targets(node));
+        let done = |op: &Operation| matches!(op.rule(node, last), Rule::Complete | Rule::Last);
         let first = head.iter().position(done).ok_or(Refusal::NotAllowed)?;
         let operation = head.remove(first);
         if head.is_empty() {
@@ -139,7 +167,7 @@ impl Session {
         let (taken, kind) = match busy {
             None => (self.admit(), Kind::Admit),
             Some(place) => {
-                if self.stations[place].realise().is_ok() {
+                if self.realise(place).is_ok() {
                     (Ok(()), Kind::Realise)
                 } else if self.finish(place).is_ok() {
                     (Ok(()), Kind::Finish)
@@ -154,14 +182,6 @@ impl Session {
 }
 
 impl Station {
-    fn realise(&mut self) -> Result<(), Refusal> {
-        let Station { node, streamlet } = self;
-        let head = streamlet.front_mut().ok_or(Refusal::NoUnit)?;
-        let first = head.iter_mut().find(|operation| operation.targets(node));
-        first.ok_or(Refusal::NotAllowed)?.visit(node);
-        Ok(())
-    }
-
     /// The place of a unit in the streamlet, from the head.
     fn unit(&self, number: u32) -> Result<usize, Refusal> {
         let place = (number as usize).checked_sub(1).ok_or(Refusal::NoUnit)?;
@@ -237,6 +257,26 @@ impl Station {
 impl Operation {
     fn targets(&self, node: &Node) -> bool {
         self.targets.contains(&node.key)
+    }
+
+    /// The first rule that holds for it at the node's station.
+    ///
+    /// Once no targets are left, LAST or PROP holds beside COMPLETE. The paper's figure
+    /// prints PROP before COMPLETE; asked there, it would keep such an operation from
+    /// finishing before the last station.
+    fn rule(&self, node: &Node, last: bool) -> Rule {
+        let (targeted, fold) = (self.targets(node), self.act.is_fold());
+        if targeted && !fold {
+            Rule::Map
+        } else if targeted && fold {
+            Rule::Fold
+        } else if self.targets.is_empty() {
+            Rule::Complete
+        } else if last {
+            Rule::Last
+        } else {
+            Rule::Propagate
+        }
     }
 
     /// Acts at the node and strikes its key.

@@ -198,20 +198,49 @@ fn steps_20_21_22() {
     desk.all(&["step=drain"]);
 }
 
+/// Each call but add, without its targets, and whether it folds.
+const CALLS: [(&str, bool); 7] = [
+    ("map a=1 b=0", false),
+    ("link key=1", false),
+    ("unlink key=1", false),
+    ("sum start=0", true),
+    ("top start=0", true),
+    ("pick start=0", true),
+    ("near key=1 start=0", true),
+];
+
+/// One operation at the first of so many stations. More than one step is allowed only
+/// where it has no targets and a station follows.
+#[test]
+fn realise_move_and_finish_are_allowed_exactly() {
+    let cases: [(usize, &str, &[&str]); 8] = [
+        (2, "", &["move", "finish"]),
+        (2, "1", &["move"]),
+        (2, "2", &["realise"]),
+        (2, "1,2", &["realise"]),
+        (1, "", &["finish"]),
+        (1, "1", &["realise"]),
+        (1, "2", &["finish"]),
+        (1, "1,2", &["realise"]),
+    ];
+    for (call, _) in CALLS {
+        for (nodes, to, allowed) in cases {
+            let mut desk = Desk::after(&vec!["call=add value=5"; nodes]);
+            desk.all(&["step=drain", &format!("call={call} to={to}"), "step=admit"]);
+            for step in ["realise", "move", "finish"] {
+                let answer = desk.clone().line(&format!("step={step} at={nodes}"));
+                let expected = if allowed.contains(&step) { 0 } else { -22 };
+                assert_eq!(answer, expected, "{step}, {call} to={to}, {nodes} nodes");
+            }
+        }
+    }
+}
+
 #[test]
 fn swap_and_fuse_are_allowed_exactly() {
-    let calls = [
-        ("map a=1 b=0", false),
-        ("link key=1", false),
-        ("unlink key=1", false),
-        ("sum start=0", true),
-        ("top start=0", true),
-        ("pick start=0", true),
-        ("near key=1 start=0", true),
-    ];
     let targets = ["", "1", "2", "1,2"];
-    for (first, first_folds) in calls {
-        for (second, second_folds) in calls {
+    for (first, first_folds) in CALLS {
+        for (second, second_folds) in CALLS {
             for t1 in targets {
                 for t2 in targets {
                     let mut desk = Desk::after(&["call=add value=5", "step=drain"]);
