@@ -3,15 +3,18 @@
 use mathlib.Core.Path.{_≡_, refl, sym, _∙_, ap, ap₂}
 use Prim.Native.Nat.{ℕ, suc, _+_, _-_, _≤_, _<_}
 use native.Mathlib.Omega.{arith}
-use mathlib.Core.Bool.{Bool, true, false, cond, not, _&&_, _||_, true≢false}
+use mathlib.Core.Bool.{Bool, true, false, cond, _&&_, _||_, true≢false}
 use mathlib.Core.List.{List, [], _∷_, _++_, append-assoc, append-nil, map}
 use lib.Dec.{eqb}
 use lib.ListN.{length, getD, length-append}
 use lib.Seq.{slice, take-append-seam, getD-at, set-at}
 use borrow.Author.Tests.{ne-eqb, eq-eqb, lt-ltb, le-ltb}
 use Rattle.graph.specs.Refusals.{Answer, refused, done, mapDone}
-use Rattle.graph.specs.KeyLists.{isNil, contains}
+use Rattle.graph.specs.KeyLists.{isNil}
 use Rattle.graph.specs.Nodes.{Node, Op, Result, hits, actOn, actBy, mayFinish, stored}
+use Rattle.graph.specs.declared.task.Sought.the-variants.{Acts, Finishes}
+use Rattle.graph.specs.Tasks.{ruleFor, ruleActs, ruleFinishes}
+use Rattle.graph.proofs.Tasks.{acts-exactly, finishes-exactly}
 use Rattle.graph.specs.Sessions.{Station, station, Session, store}
 use Rattle.graph.specs.Steps.{Change, only, any, anyHits, FirstOp, firstOp, moveAt, afterRealise, realiseAt, afterFinish, finishAt, putUnit, move, realise, finish, step}
 use Rattle.flat.specs.Flat.{Tagged, Flat, standing, tagUnit, tagUnits, queueOf, nodesOf, flat}
@@ -19,7 +22,7 @@ use Rattle.flat.specs.Inner.Queues.{firstIndex, removeAt}
 use Rattle.flat.specs.Inner.Nested.{atPlace, Full, Keyed}
 use Rattle.flat.proofs.Places.{No, find-none, find-at, drop-past, drop-mid, slice-mid, no-queue, beyond-below, length-nodes}
 use Rattle.flat.proofs.Nesting.{flatSession}
-use Rattle.flat.specs.Inner.FlatSteps.{alter, mapFrom, firstIn, noOp, noNode, moveTo, openAs, hitsKey, unitFrom, headUnit, onPlace, onFirstOp, moveFlat, actAt, actFlat, realiseFlat, finishesAt, takeOut, finishPlace, leaveFlat, finishFlat, flatStep}
+use Rattle.flat.specs.Inner.FlatSteps.{alter, mapFrom, firstIn, noOp, noNode, moveTo, openAs, soughtAt, unitFrom, headUnit, onPlace, onFirstOp, moveFlat, actAt, actFlat, realiseFlat, takeOut, finishPlace, leaveFlat, finishFlat, flatStep}
 use Rattle.flat.proofs.Focus.{put, back, Agrees, step-focus}
 use Rattle.flat.proofs.UnitPlaces.{unit-none, unit-here, start}
 
@@ -58,10 +61,22 @@ module _ (k : ℕ) (g : ℕ → ℕ → Flat → Answer Flat) (F : Node → List
     pub head-agrees : Agrees k (headUnit k g) (λ s ss. F (s .node) ss (s .units)) rs l
     head-agrees N A s ss e K a = heads N A (s .node) (s .units) ss e (sym e ∙ K .0 .0) (K .1 .0) (K .0 .1, K .1 .1) a
 
+-- WHAT A STEP LOOKS FOR: the rule's acts and finishes are the nested steps' tests
+acts-same : (k : ℕ) (n : Node) → n .key ≡ k → (d : Bool) (o : Op) → hits o n ≡ soughtAt Acts k (standing k d o)
+acts-same k n key d o = sym (acts-exactly o n (eqb k 1)) ∙ ap (λ (j : ℕ). ruleActs (ruleFor o j (eqb k 1))) key
+
+last-key : (k : ℕ) (ss : List Station) → k ≡ suc (length ss) → isNil ss ≡ eqb k 1
+last-key k [] d = sym (eq-eqb k 1 d)
+last-key k (s ∷ ss) d = sym (ne-eqb k 1 (λ e. omega arith))
+
+finishes-same : (k : ℕ) (n : Node) (ss : List Station) → n .key ≡ k → k ≡ suc (length ss) → (d : Bool) (o : Op) → mayFinish o n (isNil ss) ≡ soughtAt Finishes k (standing k d o)
+finishes-same k n ss key stands d o =
+    sym (finishes-exactly o n (isNil ss)) ∙ ap₂ (λ (j : ℕ) (z : Bool). ruleFinishes (ruleFor o j z)) key (last-key k ss stands)
+
 -- MOVE
-pub any-ops : (k : ℕ) (b : Bool) (u : List Op) (n : Node) → n .key ≡ k → any (hitsKey k) (tagUnit k b u) ≡ anyHits u n
+pub any-ops : (k : ℕ) (b : Bool) (u : List Op) (n : Node) → n .key ≡ k → any (soughtAt Acts k) (tagUnit k b u) ≡ anyHits u n
 any-ops k b [] n e = refl
-any-ops k b (o ∷ os) n e = ap₂ (λ (j : ℕ) (x : Bool). contains j (o .targets) || x) (sym e) (any-ops k false os n e)
+any-ops k b (o ∷ os) n e = ap₂ (λ (x y : Bool). x || y) (sym (acts-same k n e b o)) (any-ops k false os n e)
 
 pub moved-ops : (j k : ℕ) (b : Bool) (u : List Op) → map (moveTo j) (tagUnit k b u) ≡ tagUnit j b u
 moved-ops j k b [] = refl
@@ -92,7 +107,7 @@ module _ (k : ℕ) (rs : List Result) (l : ℕ) where
       new : Flat
       new = flatSession ((nodesOf (s ∷ ss) ++ (n ∷ [])) ++ N) (mapFrom (moveTo (k - 1)) (length B) (length (B ++ U)) (B ++ (U ++ R))) rs l
 
-      test : (eqb k 1 || any (hitsKey k) (slice (length B) (length (B ++ U)) (B ++ (U ++ R)))) ≡ anyHits (o ∷ os) n
+      test : (eqb k 1 || any (soughtAt Acts k) (slice (length B) (length (B ++ U)) (B ++ (U ++ R)))) ≡ anyHits (o ∷ os) n
       test = rw (ne-eqb k 1 (λ x. omega arith), slice-mid B U R) (any-ops k true (o ∷ os) n e)
 
       go : (b : Bool) → cond b (refused 22) (done new) ≡ mapDone (back N A rs l) (cond b (refused 22) (done (only (station n us ∷ station (s .node) (s .units ++ ((o ∷ os) ∷ [])) ∷ ss))))
@@ -201,9 +216,9 @@ regroup-key j k e B u us A = sym (regroup B (tagUnit k true u) (tagUnits k us) A
 module _ (k : ℕ) (rs : List Result) (l : ℕ) where
   realise-first : UnitAgrees k (realiseFlat k) realiseAt rs l
   realise-first N A n o os us ss key stands K =
-      first-agrees k rs l N A n us ss (λ o. hits o n) (hitsKey k) (λ d o. ap (λ (j : ℕ). contains j (o .targets)) key) (actFlat k) (afterRealise n us ss) acted (first (λ o. hits o n) (o ∷ os))
+      first-agrees k rs l N A n us ss (λ o. hits o n) (soughtAt Acts k) (acts-same k n key) (actFlat k) (afterRealise n us ss) acted (first (λ o. hits o n) (o ∷ os))
     where
-      acted : FoundAgrees k rs l N A n us ss (λ o. hits o n) (hitsKey k) (λ d o. ap (λ (j : ℕ). contains j (o .targets)) key)
+      acted : FoundAgrees k rs l N A n us ss (λ o. hits o n) (soughtAt Acts k) (acts-same k n key)
           (actFlat k) (afterRealise n us ss)
       acted a o b =
           let D : List Tagged = queueOf ss ++ tagUnit k true a in
@@ -222,13 +237,6 @@ pub realise-bridge : (k : ℕ) (s : Session) → Keyed (s .stations) → length 
 realise-bridge k s K room = step-focus k (headUnit k (realiseFlat k)) (λ s ss. realiseAt (s .node) ss (s .units)) s K room (realise-agrees k (s .results) (s .last))
 
 -- FINISH
-last-key : (k : ℕ) (ss : List Station) → k ≡ suc (length ss) → isNil ss ≡ eqb k 1
-last-key k [] d = sym (eq-eqb k 1 d)
-last-key k (s ∷ ss) d = sym (ne-eqb k 1 (λ e. omega arith))
-
-done-same : (k : ℕ) (n : Node) (ss : List Station) → n .key ≡ k → k ≡ suc (length ss) → (d : Bool) (o : Op) → mayFinish o n (isNil ss) ≡ finishesAt k (standing k d o)
-done-same k n ss key stands d o = ap₂ (λ (z : Bool) (j : ℕ). isNil (o .targets) || (z && not (contains j (o .targets)))) (last-key k ss stands) key
-
 pub remove-seam : (D : List Tagged) (y : Tagged) (E : List Tagged) → removeAt (length D) (D ++ (y ∷ E)) ≡ D ++ E
 remove-seam D y E i = take-append-seam D (y ∷ E) i ++ drop-past D y E i
 
@@ -263,9 +271,9 @@ out-at k B a o (x ∷ b) R =
 module _ (k : ℕ) (rs : List Result) (l : ℕ) where
   finish-first : UnitAgrees k (finishFlat k) finishAt rs l
   finish-first N A n o os us ss key stands K =
-      first-agrees k rs l N A n us ss (λ o. mayFinish o n (isNil ss)) (finishesAt k) (done-same k n ss key stands) leaveFlat (afterFinish n us ss) gone (first (λ o. mayFinish o n (isNil ss)) (o ∷ os))
+      first-agrees k rs l N A n us ss (λ o. mayFinish o n (isNil ss)) (soughtAt Finishes k) (finishes-same k n ss key stands) leaveFlat (afterFinish n us ss) gone (first (λ o. mayFinish o n (isNil ss)) (o ∷ os))
     where
-      gone : FoundAgrees k rs l N A n us ss (λ o. mayFinish o n (isNil ss)) (finishesAt k) (done-same k n ss key stands)
+      gone : FoundAgrees k rs l N A n us ss (λ o. mayFinish o n (isNil ss)) (soughtAt Finishes k) (finishes-same k n ss key stands)
           leaveFlat (afterFinish n us ss)
       gone a o b =
           let ns : List Node = (nodesOf ss ++ (n ∷ [])) ++ N in

@@ -26,13 +26,9 @@ pub record Result : Type 0 where
   pub value : ℕ
   pub left : List ℕ
 
--- does the operation target the node with this key?
-abbrev pub targetsKey : Op → ℕ → Bool
-targetsKey o k = contains k (o .targets)
-
--- the same of a node
+-- does the operation target this node?
 abbrev pub hits : Op → Node → Bool
-hits o n = targetsKey o (n .key)
+hits o n = contains (n .key) (o .targets)
 
 -- "At each target it acts and strikes that key": the node and the operation after the act (CG Calculus: MAP, FOLD)
 abbrev pub actOn : Op → Node → Node
@@ -52,13 +48,9 @@ visitOp o n = cond (hits o n) (actBy o n) o
 abbrev pub nothingLeft : Op → Bool
 nothingLeft o = isNil (o .targets)
 
--- "has no targets left, or, at the last station, doesn't target this node", whose key is k (CG Calculus: COMPLETE, LAST)
-abbrev pub mayFinishAt : Op → ℕ → Bool → Bool
-mayFinishAt o k isLast = nothingLeft o || (isLast && not (targetsKey o k))
-
--- the same of a node
+-- "has no targets left, or, at the last station, doesn't target this node" (CG Calculus: COMPLETE, LAST)
 abbrev pub mayFinish : Op → Node → Bool → Bool
-mayFinish o n isLast = mayFinishAt o (n .key) isLast
+mayFinish o n isLast = nothingLeft o || (isLast && not (hits o n))
 
 -- the results that a finished operation stores: each of its labels gets the same value and the same `left`
 abbrev pub resultsFor : List ℕ → ℕ → List ℕ → List Result

@@ -1,4 +1,4 @@
--- The head unit of a station: the first operation in it that a task rule holds for, and what each step on it answers.
+-- The head unit of a station: the first operation in it that a step looks for, and what each step on it answers.
 -- Assumes nothing.
 use mathlib.Core.Path.{_≡_, refl, sym, _∙_, ap}
 use Prim.Native.Nat.{ℕ, _-_, _≤_, _<_}
@@ -8,14 +8,15 @@ use mathlib.Core.List.{List}
 use lib.Dec.{leb, ltb}
 use lib.ListN.{length, getD}
 use borrow.Author.Tests.{lt-ltb, le-ltb, eq-eqb, ne-eqb, leb-true, ltb-true}
-use Rattle.graph.specs.declared.task.Task.{Task}
+use Rattle.graph.specs.declared.task.Sought.{Sought}
+use Rattle.graph.specs.declared.task.Sought.the-variants.{Acts}
 use Rattle.graph.specs.Refusals.{Answer, refused, done, andThen}
 use Rattle.graph.specs.Steps.{move}
 use Rattle.graph.proofs.Answers.{and-left, and-right, Holds, refuses, holds, holds-cond, holds-at}
 use Rattle.flat.specs.Flat.{Flat}
 use Rattle.graph.specs.OneAtATime.{isOp}
 use Rattle.flat.specs.Inner.Queues.{isAt}
-use Rattle.flat.specs.Inner.FlatSteps.{firstIn, mapFrom, noOp, moveTo, withQueue, hitsKey, ruleHolds, headUnit, onFirstOp, moveFlat, known, atKey, flatStep}
+use Rattle.flat.specs.Inner.FlatSteps.{firstIn, mapFrom, noOp, moveTo, withQueue, soughtAt, headUnit, onFirstOp, moveFlat, known, atKey, flatStep}
 use Rattle.flat.proofs.Turns.{any-first}
 use Rattle.state.specs.Inner.State.{flatIn}
 use Rattle.state.specs.Inner.ValidImage.{ValidImage}
@@ -36,33 +37,33 @@ in-nodes k f e =
     let h : k ≤ length (f .nodes) = leb-true k (length (f .nodes)) (and-right (leb 1 k) (leb k (length (f .nodes))) e) in
     record { low = l; inside = omega arith; high = h }
 
--- A STEP ON THE FIRST that a task rule holds for
-module _ (t : Task) (k : ℕ) (f : Flat) where
-  first-located : (g : ℕ → ℕ → Flat → Flat) → atKey k (headUnit k (onFirstOp (ruleHolds t k) g)) f ≡ andThen (locateFirst t k f) (λ s. done (g (s .start) (s .end) f))
-  first-located g = head-located k f (onFirstOp (ruleHolds t k) g) ∙ go (locate k 1 f)
+-- A STEP ON THE FIRST that it looks for
+module _ (t : Sought) (k : ℕ) (f : Flat) where
+  first-located : (g : ℕ → ℕ → Flat → Flat) → atKey k (headUnit k (onFirstOp (soughtAt t k) g)) f ≡ andThen (locateFirst t k f) (λ s. done (g (s .start) (s .end) f))
+  first-located g = head-located k f (onFirstOp (soughtAt t k) g) ∙ go (locate k 1 f)
     where
       at : (e p : ℕ) (b : Bool) → cond b (done (g p e f)) (refused 22) ≡ andThen (cond b (done (record { start = p; end = e })) (refused 22)) (λ (s : Span). done (g (s .start) (s .end) f))
       at e p true = refl
       at e p false = refl
 
-      go : (x : Answer Span) → andThen x (λ (s : Span). onFirstOp (ruleHolds t k) g (s .start) (s .end) f) ≡ andThen (andThen x (firstFor t k (f .queue))) (λ (s : Span). done (g (s .start) (s .end) f))
+      go : (x : Answer Span) → andThen x (λ (s : Span). onFirstOp (soughtAt t k) g (s .start) (s .end) f) ≡ andThen (andThen x (firstFor t k (f .queue))) (λ (s : Span). done (g (s .start) (s .end) f))
       go (refused r) = refl
       go (done s) =
-          let p = firstIn (ruleHolds t k) (s .start) (s .end) (f .queue) in
+          let p = firstIn (soughtAt t k) (s .start) (s .end) (f .queue) in
           at (s .end) p (ltb p (s .end))
 
   module _ (g : ℕ → ℕ → Flat → Flat) where
-    pub first-no : {n : ℕ} → locateFirst t k f ≡ refused n → atKey k (headUnit k (onFirstOp (ruleHolds t k) g)) f ≡ refused n
+    pub first-no : {n : ℕ} → locateFirst t k f ≡ refused n → atKey k (headUnit k (onFirstOp (soughtAt t k) g)) f ≡ refused n
     first-no e = first-located g ∙ ap (λ (y : Answer Span). andThen y (λ s. done (g (s .start) (s .end) f))) e
 
-    pub first-yes : {u : Span} → locateFirst t k f ≡ done u → atKey k (headUnit k (onFirstOp (ruleHolds t k) g)) f ≡ done (g (u .start) (u .end) f)
+    pub first-yes : {u : Span} → locateFirst t k f ≡ done u → atKey k (headUnit k (onFirstOp (soughtAt t k) g)) f ≡ done (g (u .start) (u .end) f)
     first-yes e = first-located g ∙ ap (λ (y : Answer Span). andThen y (λ s. done (g (s .start) (s .end) f))) e
 
   pub first-none : {n : ℕ} → locate k 1 f ≡ refused n → locateFirst t k f ≡ refused n
   first-none e = ap (λ (y : Answer Span). andThen y (firstFor t k (f .queue))) e
 
   -- p is what the search gave
-  module _ (u : Span) (e : locate k 1 f ≡ done u) (p : ℕ) (is : p ≡ firstIn (ruleHolds t k) (u .start) (u .end) (f .queue)) where
+  module _ (u : Span) (e : locate k 1 f ≡ done u) (p : ℕ) (is : p ≡ firstIn (soughtAt t k) (u .start) (u .end) (f .queue)) where
     found-by : locateFirst t k f ≡ foundBefore (u .end) p
     found-by = ap (λ (y : Answer Span). andThen y (firstFor t k (f .queue))) e ∙ ap (foundBefore (u .end)) (sym is)
 
@@ -85,7 +86,7 @@ module _ (t : Task) (k : ℕ) (f : Flat) where
       go : (x : Answer Span) → Holds (Stands k f) x → Holds Found (andThen x (firstFor t k (f .queue)))
       go (refused r) h = refuses
       go (done s) h =
-          let p = firstIn (ruleHolds t k) (s .start) (s .end) (f .queue) in
+          let p = firstIn (soughtAt t k) (s .start) (s .end) (f .queue) in
           let u = holds-at h in
           holds-cond (ltb p (s .end))
           (λ b.
@@ -104,7 +105,7 @@ pub record FoundOp (image : List ℕ) (k : ℕ) (u : Span) : Type 0 where
   pub fits : u .end ≤ length (flatIn image .queue)
   pub op : isOp ((getD (flatIn image .queue) (u .start) noOp) .call) ≡ true
 
-pub found-op : (image : List ℕ) → ValidImage image → (t : Task) (k : ℕ) (u : Span) → locateFirst t k (flatIn image) ≡ done u → FoundOp image k u
+pub found-op : (image : List ℕ) → ValidImage image → (t : Sought) (k : ℕ) (u : Span) → locateFirst t k (flatIn image) ≡ done u → FoundOp image k u
 found-op image holds-valid t k u e =
     let w : Found t k (flatIn image) u = holds-at (rw e at (found-there t k (flatIn image))) in
     record { node = w .node; inside = w .inside; fits = w .fits; op = op-at image holds-valid k (u .start) (w .node) (w .at) }
@@ -139,14 +140,14 @@ module _ (k : ℕ) (f : Flat) where
     move-last one = move-is ∙ rw (eq-eqb k 1 one)
 
     module _ (other : (k ≡ 1 → ⊥)) where
-      hit-or-free : (b : Bool) → ltb (firstIn (hitsKey k) (u .start) (u .end) (f .queue)) (u .end) ≡ b
+      hit-or-free : (b : Bool) → ltb (firstIn (soughtAt Acts k) (u .start) (u .end) (f .queue)) (u .end) ≡ b
           → flatStep (move k) f ≡ cond b (refused 22) (done (withQueue f (mapFrom (moveTo (k - 1)) (u .start) (u .end) (f .queue))))
       hit-or-free b t =
-          move-is ∙ rw (ne-eqb k 1 other, any-first (hitsKey k) (f .queue) (u .end) (head .fits) (u .start) (head .before) ∙ t)
+          move-is ∙ rw (ne-eqb k 1 other, any-first (soughtAt Acts k) (f .queue) (u .end) (head .fits) (u .start) (head .before) ∙ t)
 
-      pub move-hit : firstIn (hitsKey k) (u .start) (u .end) (f .queue) < u .end → flatStep (move k) f ≡ refused 22
+      pub move-hit : firstIn (soughtAt Acts k) (u .start) (u .end) (f .queue) < u .end → flatStep (move k) f ≡ refused 22
       move-hit hit = hit-or-free true (lt-ltb _ _ hit)
 
-      pub move-free : u .end ≤ firstIn (hitsKey k) (u .start) (u .end) (f .queue)
+      pub move-free : u .end ≤ firstIn (soughtAt Acts k) (u .start) (u .end) (f .queue)
           → flatStep (move k) f ≡ done (withQueue f (mapFrom (moveTo (k - 1)) (u .start) (u .end) (f .queue)))
       move-free free = hit-or-free false (le-ltb _ _ free)

@@ -12,21 +12,19 @@ use lib.Seq.{slice, length-slice, length-take-le}
 use borrow.Author.Tests.{lt-ltb, le-ltb}
 use Rattle.graph.specs.declared.act.Act.{Act}
 use Rattle.graph.specs.declared.keys.Keys.{Keys}
-use Rattle.graph.specs.declared.task.Task.{Task}
-use Rattle.graph.specs.declared.task.Task.the-variants.{Acts, Finishes, Passes}
-use Rattle.graph.specs.Acts.{isMap, newValue, newLinks, newHeld, resultValue}
+use Rattle.graph.specs.declared.task.TaskRule.the-variants.{Propagate}
+use Rattle.graph.specs.Acts.{isFold, isMap, newValue, newLinks, newHeld, resultValue}
 use Rattle.graph.specs.Nodes.{Node, Result, actOn, actBy, resultsFor, stored}
-use Rattle.graph.specs.Tasks.{taskRule, sameTask}
+use Rattle.graph.specs.Tasks.{ruleOf, ruleFor}
 use Rattle.graph.specs.OneAtATime.{Labelled, addOf, opOf, isOp}
 use Rattle.graph.specs.Packed.{listed, packed}
 use Rattle.graph.specs.Sessions.{Session, store}
 use Rattle.graph.proofs.AffineLaws.{map-of}
 use Rattle.graph.proofs.KeyLaws.{listed-packed}
-use Rattle.graph.proofs.Tasks.{acts-exactly, finishes-exactly, passes-exactly}
 use Rattle.flat.specs.Flat.{Tagged, Flat, flat}
 use Rattle.flat.specs.Inner.Nested.{nest, ofOp}
 use Rattle.flat.specs.Inner.Queues.{labelsIn, removeAt}
-use Rattle.flat.specs.Inner.FlatSteps.{alter, mapFrom, firstIn, noOp, noNode, openAs, withOp, withQueue, taskAt, ruleHolds, actAt, takeOut, finishPlace, handOn}
+use Rattle.flat.specs.Inner.FlatSteps.{alter, mapFrom, firstIn, noOp, noNode, openAs, withOp, withQueue, actAt, takeOut, finishPlace, handOn}
 use Rattle.flat.proofs.Turns.{first-stop, first-next, first-end, alter-length, mapFrom-none, mapFrom-next}
 use Rattle.flat.proofs.Facts.{labels-room}
 use Rattle.valid.specs.Inner.Decoded.{labelsOf}
@@ -38,25 +36,11 @@ use Rattle.state.specs.Inner.State.{flatIn, Proper, Shows, withNodes, withResul
 use Rattle.state.specs.Inner.ValidImage.{ValidImage}
 use Rattle.headsteps.specs.Inner.Heads.{bodyValue}
 
--- WHICH TASK RULE HOLDS
-rule-holds : (t : Task) (k : ℕ) (x : Tagged) → sameTask t (taskAt k x) ≡ ruleHolds t k x
-rule-holds t k x = go t (x .call)
-  where
-    go : (t : Task) (w : Labelled) → sameTask t (taskAt k (record { place = x .place; opens = x .opens; call = w })) ≡ ruleHolds t k (record { place = x .place; opens = x .opens; call = w })
-    go Acts (addOf l v) = refl
-    go Finishes (addOf l v) = refl
-    go Passes (addOf l v) = refl
-    go Acts (opOf o) = acts-exactly o (record { key = k; value = 0; links = [] }) (eqb k 1)
-    go Finishes (opOf o) = finishes-exactly o (record { key = k; value = 0; links = [] }) (eqb k 1)
-    go Passes (opOf o) = passes-exactly o (record { key = k; value = 0; links = [] }) (eqb k 1)
-
--- an operation's rule is by its targets
-pub rule-of : (k : ℕ) (w : Labelled) → isOp w ≡ true → taskRule (ofOp [] (λ o. o .targets) w) k (eqb k 1) ≡ ofOp Passes (λ o. taskRule (o .targets) k (eqb k 1)) w
+-- WHICH TASK RULE HOLDS: an operation's, by its kind and its targets
+pub rule-of : (k : ℕ) (w : Labelled) → isOp w ≡ true
+    → ruleOf (ofOp false (λ o. isFold (o .act)) w) (ofOp [] (λ o. o .targets) w) k (eqb k 1) ≡ ofOp Propagate (λ o. ruleFor o k (eqb k 1)) w
 rule-of k (addOf l v) e = absurd (true≢false (sym e))
 rule-of k (opOf o) e = refl
-
-pub rule-told : (t : Task) (k : ℕ) (x : Tagged) (found : Task) (b : Bool) → found ≡ taskAt k x → b ≡ sameTask t found → ruleHolds t k x ≡ b
-rule-told t k x found b at same = sym (same ∙ ap (sameTask t) at ∙ rule-holds t k x)
 
 -- A SEARCH from h, which is at i
 abbrev pub Searched : (Tagged → Bool) → List Tagged → ℕ → ℕ → ℕ → Type 0

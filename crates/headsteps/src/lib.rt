@@ -1,7 +1,8 @@
 // Steps on a station's head unit: realise, move, finish.
 use graph::act;
-use graph::task::Task;
-use graph::task::task_of;
+use graph::task::Sought;
+use graph::task::TaskRule;
+use graph::task::rule_of;
 use state::nodes;
 use state::nodes::Body;
 use state::operation::Operation;
@@ -16,31 +17,32 @@ ghost use lib.ListN.{length, getD};
 ghost use Rattle.graph.specs.Nodes.{actBy};
 ghost use Rattle.graph.specs.OneAtATime.{opOf, isOp};
 ghost use Rattle.graph.specs.Steps.{realise, move, finish};
-ghost use Rattle.flat.specs.Inner.FlatSteps.{noOp, noNode, moveTo, mapFrom, firstIn, withQueue, taskAt, ruleHolds, actAt, takeOut, finishPlace, known, flatStep, handOn};
+ghost use Rattle.flat.specs.Inner.FlatSteps.{noOp, noNode, moveTo, mapFrom, firstIn, withQueue, ruleAt, soughtAt, actAt, takeOut, finishPlace, known, flatStep, handOn};
 ghost use Rattle.state.specs.Inner.Operations.{opValue, Normal, Carries, Bounded};
 ghost use Rattle.state.specs.Inner.State.{flatIn, Proper, Shows};
 ghost use Rattle.state.specs.Inner.ValidImage.{ValidImage, Works};
 ghost use Rattle.units.specs.Inner.Numbered.{spotted};
 ghost use Rattle.headsteps.specs.Inner.Heads.{bodyValue, NoAdds, locateFirst};
 
-// The task rule that holds for the operation at i, at the station with key k.
-fn task_at(image: &[u8], k: u8, i: usize) -> Task
+// The first task rule that holds for the operation at i, at the station with key k.
+fn rule_at(image: &[u8], k: u8, i: usize) -> TaskRule
     requires { ⌜ (Proper (now image)) × (i < length (flatIn (now image) .queue)) × (isOp ((getD (flatIn (now image) .queue) i noOp) .call) ≡ true) ⌝ }
-    ensures { λ r. ⌜ r ≡ taskAt k (getD (flatIn (now (image .entry)) .queue) i noOp) ⌝ }
+    ensures { λ r. ⌜ r ≡ ruleAt k (getD (flatIn (now (image .entry)) .queue) i noOp) ⌝ }
 {
+    let is_fold = ops::is_fold_at(image, i);
     let targets = ops::targets_at(image, i);
-    task_of(targets, k, k == 1)
+    rule_of(is_fold, targets, k, k == 1)
 }
 
-// The first operation from h up to e that this task rule holds for, at the station with key k; e where there is none.
-pub fn first_for(image: &[u8], task: Task, k: u8, h: usize, e: usize) -> usize
+// The first operation from h up to e that a step looks for, by its task rule at the station with key k; e where there is none.
+pub fn first_for(image: &[u8], sought: Sought, k: u8, h: usize, e: usize) -> usize
     requires { ⌜ (Proper (now image)) × (h ≤ e) × (e ≤ length (flatIn (now image) .queue)) × (NoAdds h e (flatIn (now image) .queue)) ⌝ }
-    ensures { λ r. ⌜ Bounded (firstIn (ruleHolds task k) h e (flatIn (now (image .entry)) .queue)) e r ⌝ }
+    ensures { λ r. ⌜ Bounded (firstIn (soughtAt sought k) h e (flatIn (now (image .entry)) .queue)) e r ⌝ }
 {
     let mut i = h;
     while i < e {
-        let found = task_at(image, k, i);
-        if task.same(found) {
+        let rule = rule_at(image, k, i);
+        if sought.includes(rule) {
             return i;
         }
         i += 1;
@@ -131,15 +133,15 @@ pub fn finish_at(image: &mut [u8], p: usize, e: usize)
     results::store_all(image, labels, value, left);
 }
 
-// In the head unit, the first operation that this task rule holds for: its place, and where the unit ends.
-fn first_in_head(image: &[u8], task: Task, k: u8) -> Spot
+// In the head unit, the first operation that a step looks for: its place, and where the unit ends.
+fn first_in_head(image: &[u8], sought: Sought, k: u8) -> Spot
     requires { ⌜ ValidImage (now image) ⌝ }
-    ensures { λ r. ⌜ locateFirst task k (flatIn (now (image .entry))) ≡ spotted r ⌝ }
+    ensures { λ r. ⌜ locateFirst sought k (flatIn (now (image .entry))) ≡ spotted r ⌝ }
 {
     match unit_at(image, k, 1) {
         Spot::Refused(n) => Spot::Refused(n),
         Spot::At(h, e) => {
-            let p = first_for(image, task, k, h, e);
+            let p = first_for(image, sought, k, h, e);
             if p == e {
                 return Spot::Refused(22);
             }
@@ -153,7 +155,7 @@ pub fn realise(image: &mut [u8], k: u8) -> u32
     requires { ⌜ ValidImage (now image) ⌝ }
     ensures { λ r. ⌜ Works (flatStep (realise k) (flatIn (now (image .entry)))) (now (image .entry)) (now (image .exit)) r ⌝ }
 {
-    match first_in_head(image, Task::Acts, k) {
+    match first_in_head(image, Sought::Acts, k) {
         Spot::Refused(n) => n,
         Spot::At(p, _) => {
             act_at(image, k, p);
@@ -167,7 +169,7 @@ pub fn finish(image: &mut [u8], k: u8) -> u32
     requires { ⌜ ValidImage (now image) ⌝ }
     ensures { λ r. ⌜ Works (flatStep (finish k) (flatIn (now (image .entry)))) (now (image .entry)) (now (image .exit)) r ⌝ }
 {
-    match first_in_head(image, Task::Finishes, k) {
+    match first_in_head(image, Sought::Finishes, k) {
         Spot::Refused(n) => n,
         Spot::At(p, e) => {
             finish_at(image, p, e);
@@ -187,7 +189,7 @@ pub fn move_on(image: &mut [u8], k: u8) -> u32
             if k == 1 {
                 return 22;
             }
-            if first_for(image, Task::Acts, k, h, e) < e {
+            if first_for(image, Sought::Acts, k, h, e) < e {
                 return 22;
             }
             move_unit(image, k, h, e);

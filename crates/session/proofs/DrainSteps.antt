@@ -9,6 +9,7 @@ use lib.Dec.{eqb}
 use lib.ListN.{length, getD, drop}
 use lib.Seq.{drop-cons}
 use borrow.Author.Tests.{le-leb}
+use Rattle.graph.specs.declared.task.Sought.the-variants.{Acts, Finishes}
 use Rattle.graph.specs.Refusals.{Answer, refused, done}
 use Rattle.graph.specs.Sessions.{Session}
 use Rattle.graph.specs.Steps.{admit, realise, move, finish}
@@ -20,7 +21,7 @@ use Rattle.flat.specs.Inner.Nested.{nest}
 use Rattle.graph.specs.OneAtATime.{isOp}
 use Rattle.flat.specs.Inner.Queues.{endOf}
 use Rattle.flat.proofs.Elements.{each-queued}
-use Rattle.flat.specs.Inner.FlatSteps.{mapFrom, firstIn, noOp, noNode, moveTo, withQueue, hitsKey, actAt, finishesAt, finishPlace, admitCall, known, flatStep}
+use Rattle.flat.specs.Inner.FlatSteps.{mapFrom, firstIn, noOp, noNode, moveTo, withQueue, soughtAt, actAt, finishPlace, admitCall, known, flatStep}
 use Rattle.flat.specs.Inner.FlatEvents.{FlatTaken, flatDrainStep}
 use Rattle.state.specs.Inner.State.{flatIn, Shows}
 use Rattle.state.specs.Inner.ValidImage.{ValidImage, Leaves, Works}
@@ -80,26 +81,26 @@ module _ (image : List ℕ) (l : ValidImage image) (k : ℕ) (b : Begins image k
     canon : (p : Tagged → Bool) → firstIn p 0 e (flatIn image .queue) ≡ firstIn p 0 (endOf k 0 (flatIn image .queue)) (flatIn image .queue)
     canon p = ap (λ (n : ℕ). firstIn p 0 n (flatIn image .queue)) (at .ends)
 
-    pub takes-realise : {p : ℕ} → p ≡ firstIn (hitsKey k) 0 e (flatIn image .queue) → p < e →
+    pub takes-realise : {p : ℕ} → p ≡ firstIn (soughtAt Acts k) 0 e (flatIn image .queue) → p < e →
         flatDrainStep (flatIn image) ≡ done (taken (realise k) (actAt k p (getD (flatIn image .queue) p noOp) (getD (flatIn image .nodes) (k - 1) noNode) (flatIn image)))
     takes-realise s h =
-        let is = s ∙ canon (hitsKey k) in
+        let is = s ∙ canon (soughtAt Acts k) in
         subst (λ (n : ℕ). flatDrainStep (flatIn image) ≡ done (taken (realise k) (actAt k n (getD (flatIn image .queue) n noOp) (getD (flatIn image .nodes) (k - 1) noNode) (flatIn image)))) (sym is)
         (drain-realises (flatIn image) k x (drop 1 (flatIn image .queue)) begins (b .place) (b .station) node-known (omega (arith, is, at .ends, h)))
 
-    pub takes-finish : {p r : ℕ} → p ≡ firstIn (hitsKey k) 0 e (flatIn image .queue) → e ≤ p → r ≡ firstIn (finishesAt k) 0 e (flatIn image .queue) → r < e →
+    pub takes-finish : {p r : ℕ} → p ≡ firstIn (soughtAt Acts k) 0 e (flatIn image .queue) → e ≤ p → r ≡ firstIn (soughtAt Finishes k) 0 e (flatIn image .queue) → r < e →
         flatDrainStep (flatIn image) ≡ done (taken (finish k) (finishPlace r e (getD (flatIn image .queue) r noOp) (flatIn image)))
     takes-finish s h t j =
-        let is = t ∙ canon (finishesAt k) in
-        let hit = s ∙ canon (hitsKey k) in
+        let is = t ∙ canon (soughtAt Finishes k) in
+        let hit = s ∙ canon (soughtAt Acts k) in
         drain-finishes (flatIn image) k x (drop 1 (flatIn image .queue)) begins (b .place) (b .station) node-known (omega (arith, hit, at .ends, h)) (omega (arith, is, at .ends, j))
         ∙ (λ i. done (taken (finish k) (finishPlace (sym is i) (sym (at .ends) i) (getD (flatIn image .queue) (sym is i) noOp) (flatIn image))))
 
-    pub takes-move : {p r : ℕ} → p ≡ firstIn (hitsKey k) 0 e (flatIn image .queue) → e ≤ p → r ≡ firstIn (finishesAt k) 0 e (flatIn image .queue) → e ≤ r →
+    pub takes-move : {p r : ℕ} → p ≡ firstIn (soughtAt Acts k) 0 e (flatIn image .queue) → e ≤ p → r ≡ firstIn (soughtAt Finishes k) 0 e (flatIn image .queue) → e ≤ r →
         flatDrainStep (flatIn image) ≡ done (taken (move k) (withQueue (flatIn image) (mapFrom (moveTo (k - 1)) 0 e (flatIn image .queue))))
     takes-move s h t j =
-        let is = t ∙ canon (finishesAt k) in
-        let hit = s ∙ canon (hitsKey k) in
+        let is = t ∙ canon (soughtAt Finishes k) in
+        let hit = s ∙ canon (soughtAt Acts k) in
         drain-moves (flatIn image) k x (drop 1 (flatIn image .queue)) begins (b .place) (b .station) node-known (begins-op (omega (arith, at .ends))) (omega (arith, at .ends, at .fits)) (omega arith) (omega (arith, hit, at .ends, h)) (omega (arith, is, at .ends, j))
         ∙ (λ i. done (taken (move k) (withQueue (flatIn image) (mapFrom (moveTo (k - 1)) 0 (sym (at .ends) i) (flatIn image .queue)))))
 

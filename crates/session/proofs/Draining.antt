@@ -12,7 +12,11 @@ use lib.Seq.{slice}
 use borrow.Author.Tests.{lt-ltb, le-ltb}
 use Rattle.graph.specs.Refusals.{Answer, refused, done, mapDone}
 use Rattle.graph.specs.KeyLists.{isNil}
-use Rattle.graph.specs.Nodes.{targetsKey, mayFinishAt}
+use Rattle.graph.specs.declared.task.TaskRule.the-variants.{Propagate}
+use Rattle.graph.specs.declared.task.Sought.the-variants.{Acts, Finishes}
+use Rattle.graph.specs.Nodes.{Node}
+use Rattle.graph.specs.Tasks.{ruleFor, ruleActs, ruleFinishes}
+use Rattle.graph.proofs.Tasks.{acts-exactly, finishes-exactly}
 use Rattle.graph.specs.OneAtATime.{Labelled, addOf, opOf, isOp}
 use Rattle.graph.specs.Steps.{Step, admit, realise, move, finish, any}
 use Rattle.graph.specs.Drain.{orElse}
@@ -20,17 +24,20 @@ use Rattle.graph.proofs.Answers.{eqb-same, by-bool}
 use Rattle.flat.specs.Flat.{Tagged, Flat}
 use Rattle.flat.specs.Inner.Nested.{ofOp, atPlace}
 use Rattle.flat.specs.Inner.Queues.{firstIndex, isAt, endOf}
-use Rattle.flat.specs.Inner.FlatSteps.{mapFrom, firstIn, noOp, noNode, moveTo, withQueue, hitsKey, headUnit, onPlace, moveFlat, actAt, actFlat, realiseFlat, finishesAt, finishPlace, leaveFlat, finishFlat, admitCall, known, flatStep}
+use Rattle.flat.specs.Inner.FlatSteps.{mapFrom, firstIn, noOp, noNode, moveTo, withQueue, soughtAt, headUnit, onPlace, moveFlat, actAt, actFlat, realiseFlat, finishPlace, leaveFlat, finishFlat, admitCall, known, flatStep}
 use Rattle.flat.specs.Inner.FlatEvents.{firstPlace, FlatTaken, flatTaking, flatDrainStepAt, flatDrainStep}
 use Rattle.flat.proofs.Turns.{any-first, first-stop}
 
 abbrev pub taken : Step → Flat → FlatTaken
 taken t f = record { what = t; to = f }
 
--- an operation that doesn't target the last node
-finishes-last : (k : ℕ) (w : Labelled) → isOp w ≡ true → eqb k 1 ≡ true → ofOp false (λ o. targetsKey o k) w ≡ false → ofOp false (λ o. mayFinishAt o k (eqb k 1)) w ≡ true
+-- an operation that doesn't act at the last station finishes there
+finishes-last : (k : ℕ) (w : Labelled) → isOp w ≡ true → eqb k 1 ≡ true
+    → ruleActs (ofOp Propagate (λ o. ruleFor o k (eqb k 1)) w) ≡ false → ruleFinishes (ofOp Propagate (λ o. ruleFor o k (eqb k 1)) w) ≡ true
 finishes-last k (addOf l v) op e h = absurd (true≢false (sym op))
-finishes-last k (opOf o) op e h = rw (e, h) (or-true (isNil (o .targets)))
+finishes-last k (opOf o) op e h =
+    let n : Node = record { key = k; value = 0; links = [] } in
+    finishes-exactly o n (eqb k 1) ∙ rw (e, sym (acts-exactly o n (eqb k 1)) ∙ h) (or-true (isNil (o .targets)))
 
 -- nothing waits
 pub drain-empty : (f : Flat) → f .queue ≡ [] → flatDrainStep f ≡ refused 21
@@ -48,10 +55,10 @@ module _ (f : Flat) (k : ℕ) (x : Tagged) (xs : List Tagged) (stands : f .queue
   e = endOf k 0 (f .queue)
 
   abbrev p : ℕ
-  p = firstIn (hitsKey k) 0 e (f .queue)
+  p = firstIn (soughtAt Acts k) 0 e (f .queue)
 
   abbrev r : ℕ
-  r = firstIn (finishesAt k) 0 e (f .queue)
+  r = firstIn (soughtAt Finishes k) 0 e (f .queue)
 
   -- the head unit of that station begins the queue
   head : (g : ℕ → ℕ → Flat → Answer Flat) → headUnit k g f ≡ g 0 e f
@@ -90,14 +97,14 @@ module _ (f : Flat) (k : ℕ) (x : Tagged) (xs : List Tagged) (stands : f .queue
   -- at the last station an operation that doesn't target the node finishes
   last-finishes : isOp (getD (f .queue) 0 noOp .call) ≡ true → e ≤ length (f .queue) → 0 < e → e ≤ p → eqb k 1 ≡ true → r ≡ 0
   last-finishes op w z h l =
-      let hit : hitsKey k (getD (f .queue) 0 noOp) ≡ false = by-bool (hitsKey k (getD (f .queue) 0 noOp)) (λ t. absurd (omega (arith, first-stop (hitsKey k) (f .queue) e w 0 noOp z t))) (λ t. t) in
-      first-stop (finishesAt k) (f .queue) e w 0 noOp z (finishes-last k (getD (f .queue) 0 noOp .call) op l hit)
+      let hit : soughtAt Acts k (getD (f .queue) 0 noOp) ≡ false = by-bool (soughtAt Acts k (getD (f .queue) 0 noOp)) (λ t. absurd (omega (arith, first-stop (soughtAt Acts k) (f .queue) e w 0 noOp z t))) (λ t. t) in
+      first-stop (soughtAt Finishes k) (f .queue) e w 0 noOp z (finishes-last k (getD (f .queue) 0 noOp .call) op l hit)
 
   pub drain-moves : isOp (getD (f .queue) 0 noOp .call) ≡ true → e ≤ length (f .queue) → 0 < e → e ≤ p → e ≤ r → flatDrainStep f ≡ done (taken (move k) (withQueue f (mapFrom (moveTo (k - 1)) 0 e (f .queue))))
   drain-moves op w z h j =
       let s : flatStep (finish k) f ≡ refused 22 = finish-is ∙ rw (le-ltb r e j) in
       let one : eqb k 1 ≡ false = by-bool (eqb k 1) (λ l. absurd (omega (arith, last-finishes op w z h l))) (λ l. l) in
-      let none : any (hitsKey k) (slice 0 e (f .queue)) ≡ false = any-first (hitsKey k) (f .queue) e w 0 (omega arith) ∙ le-ltb p e h in
+      let none : any (soughtAt Acts k) (slice 0 e (f .queue)) ≡ false = any-first (soughtAt Acts k) (f .queue) e w 0 (omega arith) ∙ le-ltb p e h in
       let t : flatStep (move k) f ≡ done (withQueue f (mapFrom (moveTo (k - 1)) 0 e (f .queue))) = move-is ∙ rw (one, none) in
       no-realise h
       ∙ ap (λ (y : Answer Flat). orElse (mapDone (taken (finish k)) y) (flatTaking (move k) f)) s

@@ -1,6 +1,6 @@
 // Drain: its steps one after another, by its rule, until none is pending.
 use calls::admit::admit;
-use graph::task::Task;
+use graph::task::Sought;
 use headsteps::act_at;
 use headsteps::finish_at;
 use headsteps::first_for;
@@ -37,12 +37,12 @@ fn drain_at(image: &mut [u8], k: u8) -> StepTaken
     ensures { λ r. ⌜ DrainsOne (flatDrainStep (flatIn (now (image .entry)))) (now (image .exit)) r ⌝ }
 {
     let e = ops::unit_end(image, k, 0);
-    let p = first_for(image, Task::Acts, k, 0, e);
+    let p = first_for(image, Sought::Acts, k, 0, e);
     if p < e {
         act_at(image, k, p);
         return StepTaken::Realise;
     }
-    let q = first_for(image, Task::Finishes, k, 0, e);
+    let q = first_for(image, Sought::Finishes, k, 0, e);
     if q < e {
         finish_at(image, q, e);
         return StepTaken::Finish;

@@ -5,9 +5,10 @@ use Prim.Native.Nat.{ℕ, zero, suc, _≤_}
 use native.Mathlib.Omega.{arith}
 use mathlib.Core.Bool.{Bool, true, false, cond, not, true≢false}
 use mathlib.Core.List.{[]}
-use lib.Dec.{eqb}
+use lib.Dec.{eqb, ltb}
 use lib.ListN.{getD}
-use Rattle.graph.specs.Acts.{isMap}
+use borrow.Author.Tests.{lt-ltb, ne-eqb}
+use Rattle.graph.specs.Acts.{isMap, isFold}
 use Rattle.graph.specs.OneAtATime.{Labelled, addOf, opOf, isOp}
 use Rattle.graph.specs.Packed.{listed, packed}
 use Rattle.graph.specs.declared.act.Act.{Act}
@@ -49,10 +50,28 @@ map-holds (suc (suc (suc (suc (suc (suc zero)))))) key a b e = absurd (true≢fa
 map-holds (suc (suc (suc (suc (suc (suc (suc zero))))))) key a b e = absurd (true≢false (sym e))
 map-holds (suc (suc (suc (suc (suc (suc (suc (suc kind)))))))) key a b e = absurd (true≢false (sym e))
 
+fold-kinds : (kind key a b : ℕ) → ltb 3 kind ≡ cond (eqb kind 0) false (isFold (actOf kind key a b))
+fold-kinds zero key a b = refl
+fold-kinds (suc zero) key a b = refl
+fold-kinds (suc (suc zero)) key a b = refl
+fold-kinds (suc (suc (suc zero))) key a b = refl
+fold-kinds (suc (suc (suc (suc zero)))) key a b = refl
+fold-kinds (suc (suc (suc (suc (suc zero))))) key a b = refl
+fold-kinds (suc (suc (suc (suc (suc (suc zero)))))) key a b = refl
+fold-kinds (suc (suc (suc (suc (suc (suc (suc zero))))))) key a b = refl
+fold-kinds (suc (suc (suc (suc (suc (suc (suc (suc kind)))))))) key a b =
+    let n = suc (suc (suc (suc (suc (suc (suc (suc kind))))))) in
+    rw (lt-ltb 3 n (omega arith), ne-eqb n 0 (λ e. omega arith))
+
 -- RECORDS READ
 module _ (r : OpRecord) where
   pub is-add : {x : Tagged} → RecordFor x r → eqb (r .kind) 0 ≡ not (isOp (x .call))
   is-add h = by-bool (eqb (r .kind) 0) (λ e. rw e refl) (λ e. rw e refl) ∙ ap (λ (x : Tagged). not (isOp (x .call))) (sym (h .is))
+
+  pub is-fold : {x : Tagged} → RecordFor x r → ltb 3 (r .kind) ≡ ofOp false (λ o. isFold (o .act)) (x .call)
+  is-fold h =
+      fold-kinds (r .kind) (r .key) (r .a) (r .b) ∙ by-bool (eqb (r .kind) 0) (λ e. rw e refl) (λ e. rw e refl)
+      ∙ ap (λ (x : Tagged). ofOp false (λ o. isFold (o .act)) (x .call)) (sym (h .is))
 
   pub add-of : eqb (r .kind) 0 ≡ true → decodedCall r ≡ addOf (getD (r .labels .label) 0 0) (r .b)
   add-of e = rw e refl

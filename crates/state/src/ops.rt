@@ -17,6 +17,7 @@ ghost use mathlib.Core.Bool.{true, false, not};
 ghost use mathlib.Core.List.{[], _∷_, _++_};
 ghost use Prim.Native.Nat.{_<_};
 ghost use lib.ListN.{length, getD, set};
+ghost use Rattle.graph.specs.Acts.{isFold};
 ghost use Rattle.graph.specs.OneAtATime.{addOf, opOf, isOp};
 ghost use Rattle.flat.specs.Inner.Nested.{ofOp, atPlace};
 ghost use Rattle.flat.specs.Inner.Queues.{firstIndex, breaks, endOf, removeAt};
@@ -62,6 +63,15 @@ pub fn is_add_at(image: &[u8], i: usize) -> bool
 {
     let r = record_at(image, i);
     r.kind == 0
+}
+
+// Kinds 4 to 7 are folds.
+pub fn is_fold_at(image: &[u8], i: usize) -> bool
+    requires { ⌜ (Proper (now image)) × (i < length (flatIn (now image) .queue)) ⌝ }
+    ensures { λ r. ⌜ r ≡ ofOp false (λ o. isFold (o .act)) ((getD (flatIn (now (image .entry)) .queue) i noOp) .call) ⌝ }
+{
+    let r = record_at(image, i);
+    3 < r.kind
 }
 
 // The targets that remain; an add has none.

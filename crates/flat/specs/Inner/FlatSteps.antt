@@ -2,16 +2,18 @@
 -- show that each is the nested session's step.
 -- Assumes nothing.
 use Prim.Native.Nat.{ℕ, zero, suc, _+_, _-_}
-use mathlib.Core.Bool.{Bool, true, false, cond, not, _&&_, _||_}
+use mathlib.Core.Bool.{Bool, true, false, cond, _&&_, _||_}
 use mathlib.Core.List.{List, [], _∷_, _++_, map}
 use lib.Dec.{eqb, leb, ltb}
 use lib.ListN.{length, take, drop, getD, set}
 use lib.Seq.{slice}
-use Rattle.graph.specs.declared.task.Task.{Task}
-use Rattle.graph.specs.declared.task.Task.the-variants.{Acts, Finishes, Passes}
+use Rattle.graph.specs.declared.task.TaskRule.{TaskRule}
+use Rattle.graph.specs.declared.task.TaskRule.the-variants.{Propagate}
+use Rattle.graph.specs.declared.task.Sought.{Sought}
+use Rattle.graph.specs.declared.task.Sought.the-variants.{Acts, Finishes}
 use Rattle.graph.specs.Refusals.{Answer, refused, done, mapDone}
-use Rattle.graph.specs.Nodes.{Node, Op, targetsKey, mayFinishAt, actOn, actBy, stored, newNode, addResult}
-use Rattle.graph.specs.Tasks.{taskRule}
+use Rattle.graph.specs.Nodes.{Node, Op, actOn, actBy, stored, newNode, addResult}
+use Rattle.graph.specs.Tasks.{ruleFor, includes}
 use Rattle.graph.specs.OneAtATime.{Labelled, addOf, opOf}
 use Rattle.graph.specs.Sessions.{store}
 use Rattle.graph.specs.Steps.{Step, admit, realise, move, finish, join, split, swap, fuse, maySwap, mayFuse, fused, any}
@@ -53,23 +55,14 @@ withOp x o = record { place = x .place; opens = x .opens; call = opOf o }
 abbrev pub withQueue : Flat → List Tagged → Flat
 withQueue f q = record { nodes = f .nodes; queue = q; results = f .results; last = f .last }
 
--- does it target the node with key k?
-abbrev pub hitsKey : ℕ → Tagged → Bool
-hitsKey k x = ofOp false (λ o. targetsKey o k) (x .call)
+-- the first task rule that holds for it at the station with key k; the last station's key is 1. An add, which stands at no station,
+-- gets PROP, by which it neither acts nor finishes
+abbrev pub ruleAt : ℕ → Tagged → TaskRule
+ruleAt k x = ofOp Propagate (λ o. ruleFor o k (eqb k 1)) (x .call)
 
--- may it finish at the station with key k? The last station's key is 1.
-abbrev pub finishesAt : ℕ → Tagged → Bool
-finishesAt k x = ofOp false (λ o. mayFinishAt o k (eqb k 1)) (x .call)
-
--- the task rule that holds for it at station k
-abbrev pub taskAt : ℕ → Tagged → Task
-taskAt k x = ofOp Passes (λ o. taskRule (o .targets) k (eqb k 1)) (x .call)
-
--- is it this one?
-abbrev pub ruleHolds : Task → ℕ → Tagged → Bool
-ruleHolds Acts k x = hitsKey k x
-ruleHolds Finishes k x = finishesAt k x
-ruleHolds Passes k x = not (hitsKey k x || finishesAt k x)
+-- is it one that the step looks for?
+abbrev pub soughtAt : Sought → ℕ → Tagged → Bool
+soughtAt s k x = includes s (ruleAt k x)
 
 -- UNITS BY NUMBER
 -- where unit number i starts, counted from 1 at p; the queue's length where there are not so many units before it
@@ -99,7 +92,7 @@ onFirstOp p g h e f = onPlace g e (firstIn p h e (f .queue)) f
 
 -- MOVE
 abbrev pub moveFlat : ℕ → ℕ → ℕ → Flat → Answer Flat
-moveFlat k h e f = cond (eqb k 1 || any (hitsKey k) (slice h e (f .queue))) (refused 22) (done (withQueue f (mapFrom (moveTo (k - 1)) h e (f .queue))))
+moveFlat k h e f = cond (eqb k 1 || any (soughtAt Acts k) (slice h e (f .queue))) (refused 22) (done (withQueue f (mapFrom (moveTo (k - 1)) h e (f .queue))))
 
 -- REALISE
 abbrev pub actAt : ℕ → ℕ → Tagged → Node → Flat → Flat
@@ -112,7 +105,7 @@ abbrev pub actFlat : ℕ → ℕ → ℕ → Flat → Flat
 actFlat k p e f = actAt k p (getD (f .queue) p noOp) (getD (f .nodes) (k - 1) noNode) f
 
 abbrev pub realiseFlat : ℕ → ℕ → ℕ → Flat → Answer Flat
-realiseFlat k = onFirstOp (hitsKey k) (actFlat k)
+realiseFlat k = onFirstOp (soughtAt Acts k) (actFlat k)
 
 -- FINISH
 -- x, which stands at p in a unit that ends at e, hands its mark on to the next of its unit
@@ -129,7 +122,7 @@ abbrev pub leaveFlat : ℕ → ℕ → Flat → Flat
 leaveFlat p e f = finishPlace p e (getD (f .queue) p noOp) f
 
 abbrev pub finishFlat : ℕ → ℕ → ℕ → Flat → Answer Flat
-finishFlat k = onFirstOp (finishesAt k) leaveFlat
+finishFlat k = onFirstOp (soughtAt Finishes k) leaveFlat
 
 -- JOIN, SPLIT, SWAP, FUSE
 -- a unit and the next: g gets where the one starts, where the next does, and where that ends

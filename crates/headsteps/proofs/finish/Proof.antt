@@ -2,7 +2,7 @@
 -- Assumes nothing.
 use mathlib.Core.Path.{_≡_, refl, sym, ap, _∙_}
 use Rattle.graph.specs.Refusals.{done}
-use Rattle.graph.specs.declared.task.Task.the-variants.{Finishes}
+use Rattle.graph.specs.declared.task.Sought.the-variants.{Finishes}
 use Rattle.flat.specs.Inner.FlatSteps.{leaveFlat}
 use Rattle.state.specs.Inner.State.{flatIn}
 use Rattle.state.proofs.Working.{works-refused, works-done}

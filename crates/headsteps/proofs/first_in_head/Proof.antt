@@ -41,19 +41,19 @@ returns c =
     let a = c .before .before in
     let s = start a .args in
     let p = c .before .first-for in
-    first-past (s .task) (s .k) (flatIn (s .image .now)) (span a) (there a) (p .result) (p .ensures .is) (omega (arith, c .if1 .taken))
+    first-past (s .sought) (s .k) (flatIn (s .image .now)) (span a) (there a) (p .result) (p .ensures .is) (omega (arith, c .if1 .taken))
 
 returns-2 : tie.Need-returns-2
 returns-2 c =
     let s = c .before .before .before .before .before .args in
-    first-none (s .task) (s .k) (flatIn (s .image .now)) (c .before .before .before .unit-at .ensures ∙ ap spotted (c .before .n .given .1))
+    first-none (s .sought) (s .k) (flatIn (s .image .now)) (c .before .before .before .unit-at .ensures ∙ ap spotted (c .before .n .given .1))
 
 returns-3 : tie.Need-returns-3
 returns-3 c =
     let a = c .before .before in
     let s = start a .args in
     let p = c .before .first-for in
-    first-inside (s .task) (s .k) (flatIn (s .image .now)) (span a) (there a) (p .result) (p .ensures .is) (omega (arith, c .if1 .left, p .ensures .within))
+    first-inside (s .sought) (s .k) (flatIn (s .image .now)) (span a) (there a) (p .result) (p .ensures .is) (omega (arith, c .if1 .left, p .ensures .within))
 
 pub first-in-head-spec : {M : Type 1} → statement M
 first-in-head-spec =

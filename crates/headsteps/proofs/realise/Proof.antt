@@ -2,7 +2,7 @@
 -- Assumes nothing.
 use mathlib.Core.Path.{_≡_, refl, sym, ap, _∙_}
 use Rattle.graph.specs.Refusals.{done}
-use Rattle.graph.specs.declared.task.Task.the-variants.{Acts}
+use Rattle.graph.specs.declared.task.Sought.the-variants.{Acts}
 use Rattle.flat.specs.Inner.FlatSteps.{actFlat}
 use Rattle.state.specs.Inner.State.{flatIn}
 use Rattle.state.proofs.Working.{works-refused, works-done}
