@@ -38,39 +38,39 @@ in-nodes k f e =
     record { low = l; inside = omega arith; high = h }
 
 -- A STEP ON THE FIRST that it looks for
-module _ (t : Sought) (k : ℕ) (f : Flat) where
-  first-located : (g : ℕ → ℕ → Flat → Flat) → atKey k (headUnit k (onFirstOp (soughtAt t k) g)) f ≡ andThen (locateFirst t k f) (λ s. done (g (s .start) (s .end) f))
-  first-located g = head-located k f (onFirstOp (soughtAt t k) g) ∙ go (locate k 1 f)
+module _ (sought : Sought) (k : ℕ) (f : Flat) where
+  first-located : (g : ℕ → ℕ → Flat → Flat) → atKey k (headUnit k (onFirstOp (soughtAt sought k) g)) f ≡ andThen (locateFirst sought k f) (λ s. done (g (s .start) (s .end) f))
+  first-located g = head-located k f (onFirstOp (soughtAt sought k) g) ∙ go (locate k 1 f)
     where
       at : (e p : ℕ) (b : Bool) → cond b (done (g p e f)) (refused 22) ≡ andThen (cond b (done (record { start = p; end = e })) (refused 22)) (λ (s : Span). done (g (s .start) (s .end) f))
       at e p true = refl
       at e p false = refl
 
-      go : (x : Answer Span) → andThen x (λ (s : Span). onFirstOp (soughtAt t k) g (s .start) (s .end) f) ≡ andThen (andThen x (firstFor t k (f .queue))) (λ (s : Span). done (g (s .start) (s .end) f))
+      go : (x : Answer Span) → andThen x (λ (s : Span). onFirstOp (soughtAt sought k) g (s .start) (s .end) f) ≡ andThen (andThen x (firstFor sought k (f .queue))) (λ (s : Span). done (g (s .start) (s .end) f))
       go (refused r) = refl
       go (done s) =
-          let p = firstIn (soughtAt t k) (s .start) (s .end) (f .queue) in
+          let p = firstIn (soughtAt sought k) (s .start) (s .end) (f .queue) in
           at (s .end) p (ltb p (s .end))
 
   module _ (g : ℕ → ℕ → Flat → Flat) where
-    pub first-no : {n : ℕ} → locateFirst t k f ≡ refused n → atKey k (headUnit k (onFirstOp (soughtAt t k) g)) f ≡ refused n
+    pub first-no : {n : ℕ} → locateFirst sought k f ≡ refused n → atKey k (headUnit k (onFirstOp (soughtAt sought k) g)) f ≡ refused n
     first-no e = first-located g ∙ ap (λ (y : Answer Span). andThen y (λ s. done (g (s .start) (s .end) f))) e
 
-    pub first-yes : {u : Span} → locateFirst t k f ≡ done u → atKey k (headUnit k (onFirstOp (soughtAt t k) g)) f ≡ done (g (u .start) (u .end) f)
+    pub first-yes : {u : Span} → locateFirst sought k f ≡ done u → atKey k (headUnit k (onFirstOp (soughtAt sought k) g)) f ≡ done (g (u .start) (u .end) f)
     first-yes e = first-located g ∙ ap (λ (y : Answer Span). andThen y (λ s. done (g (s .start) (s .end) f))) e
 
-  pub first-none : {n : ℕ} → locate k 1 f ≡ refused n → locateFirst t k f ≡ refused n
-  first-none e = ap (λ (y : Answer Span). andThen y (firstFor t k (f .queue))) e
+  pub first-none : {n : ℕ} → locate k 1 f ≡ refused n → locateFirst sought k f ≡ refused n
+  first-none e = ap (λ (y : Answer Span). andThen y (firstFor sought k (f .queue))) e
 
   -- p is what the search gave
-  module _ (u : Span) (e : locate k 1 f ≡ done u) (p : ℕ) (is : p ≡ firstIn (soughtAt t k) (u .start) (u .end) (f .queue)) where
-    found-by : locateFirst t k f ≡ foundBefore (u .end) p
-    found-by = ap (λ (y : Answer Span). andThen y (firstFor t k (f .queue))) e ∙ ap (foundBefore (u .end)) (sym is)
+  module _ (u : Span) (e : locate k 1 f ≡ done u) (p : ℕ) (is : p ≡ firstIn (soughtAt sought k) (u .start) (u .end) (f .queue)) where
+    found-by : locateFirst sought k f ≡ foundBefore (u .end) p
+    found-by = ap (λ (y : Answer Span). andThen y (firstFor sought k (f .queue))) e ∙ ap (foundBefore (u .end)) (sym is)
 
-    pub first-past : u .end ≤ p → locateFirst t k f ≡ refused 22
+    pub first-past : u .end ≤ p → locateFirst sought k f ≡ refused 22
     first-past h = found-by ∙ rw (le-ltb p (u .end) h)
 
-    pub first-inside : p < u .end → locateFirst t k f ≡ done (record { start = p; end = u .end })
+    pub first-inside : p < u .end → locateFirst sought k f ≡ done (record { start = p; end = u .end })
     first-inside h = found-by ∙ rw (lt-ltb p (u .end) h)
 
   -- what is known of the one that was found
@@ -80,13 +80,13 @@ module _ (t : Sought) (k : ℕ) (f : Flat) where
     inside : s .start < s .end
     fits : s .end ≤ length (f .queue)
 
-  found-there : Holds Found (locateFirst t k f)
+  found-there : Holds Found (locateFirst sought k f)
   found-there = go (locate k 1 f) (located-stands k 1 f)
     where
-      go : (x : Answer Span) → Holds (Stands k f) x → Holds Found (andThen x (firstFor t k (f .queue)))
+      go : (x : Answer Span) → Holds (Stands k f) x → Holds Found (andThen x (firstFor sought k (f .queue)))
       go (refused r) h = refuses
       go (done s) h =
-          let p = firstIn (soughtAt t k) (s .start) (s .end) (f .queue) in
+          let p = firstIn (soughtAt sought k) (s .start) (s .end) (f .queue) in
           let u = holds-at h in
           holds-cond (ltb p (s .end))
           (λ b.
@@ -105,9 +105,9 @@ pub record FoundOp (image : List ℕ) (k : ℕ) (u : Span) : Type 0 where
   pub fits : u .end ≤ length (flatIn image .queue)
   pub op : isOp ((getD (flatIn image .queue) (u .start) noOp) .call) ≡ true
 
-pub found-op : (image : List ℕ) → ValidImage image → (t : Sought) (k : ℕ) (u : Span) → locateFirst t k (flatIn image) ≡ done u → FoundOp image k u
-found-op image holds-valid t k u e =
-    let w : Found t k (flatIn image) u = holds-at (rw e at (found-there t k (flatIn image))) in
+pub found-op : (image : List ℕ) → ValidImage image → (sought : Sought) (k : ℕ) (u : Span) → locateFirst sought k (flatIn image) ≡ done u → FoundOp image k u
+found-op image holds-valid sought k u e =
+    let w : Found sought k (flatIn image) u = holds-at (rw e at (found-there sought k (flatIn image))) in
     record { node = w .node; inside = w .inside; fits = w .fits; op = op-at image holds-valid k (u .start) (w .node) (w .at) }
 
 -- the head unit has no add

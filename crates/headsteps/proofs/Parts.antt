@@ -37,10 +37,10 @@ use Rattle.state.specs.Inner.ValidImage.{ValidImage}
 use Rattle.headsteps.specs.Inner.Heads.{bodyValue}
 
 -- WHICH TASK RULE HOLDS: an operation's, by its kind and its targets
-pub rule-of : (k : ℕ) (w : Labelled) → isOp w ≡ true
+pub rule-read : (k : ℕ) (w : Labelled) → isOp w ≡ true
     → ruleOf (ofOp false (λ o. isFold (o .act)) w) (ofOp [] (λ o. o .targets) w) k (eqb k 1) ≡ ofOp Propagate (λ o. ruleFor o k (eqb k 1)) w
-rule-of k (addOf l v) e = absurd (true≢false (sym e))
-rule-of k (opOf o) e = refl
+rule-read k (addOf l v) e = absurd (true≢false (sym e))
+rule-read k (opOf o) e = refl
 
 -- A SEARCH from h, which is at i
 abbrev pub Searched : (Tagged → Bool) → List Tagged → ℕ → ℕ → ℕ → Type 0

@@ -9,7 +9,7 @@ use lib.ListN.{getD}
 use Rattle.graph.specs.Tasks.{ruleOf}
 use Rattle.flat.specs.Inner.FlatSteps.{noOp}
 use Rattle.state.specs.Inner.State.{flatIn}
-use Rattle.headsteps.proofs.Parts.{rule-of}
+use Rattle.headsteps.proofs.Parts.{rule-read}
 use borrow.Author.Needs.{needs}
 use Rattle.headsteps.proofs.rule_at.Statement.{statement}
 use Rattle.headsteps.proofs.rule_at.Tie as tie
@@ -28,7 +28,7 @@ returns c =
     let s = c .before .before .before .before in
     let k = s .args .k in
     c .rule-of .ensures ∙ ap₂ (λ (f : Bool) (ts : List ℕ). ruleOf f ts k (eqb k 1)) (c .before .before .is-fold-at .ensures) (c .before .targets-at .ensures .is)
-    ∙ rule-of k (getD (flatIn (s .args .image .now) .queue) (s .args .i) noOp .call) (s .pre .2)
+    ∙ rule-read k (getD (flatIn (s .args .image .now) .queue) (s .args .i) noOp .call) (s .pre .2)
 
 pub rule-at-spec : {M : Type 1} → statement M
 rule-at-spec = tie.close (tie.spec is-fold-at-requires targets-at-requires rule-of-requires returns)

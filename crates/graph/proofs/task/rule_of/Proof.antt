@@ -5,7 +5,7 @@ use mathlib.Core.Bool.{true≢false}
 use mathlib.Core.Logic.{⊎-elim}
 use borrow.Author.Needs.{needs}
 use Rattle.graph.specs.Packed.{listed}
-use Rattle.graph.proofs.Tasks.{is-map, is-fold, is-complete, is-last, is-propagate, nil-none, nil-some}
+use Rattle.graph.proofs.Tasks.{gives-map, gives-fold, gives-complete, gives-last, gives-propagate, nil-none, nil-some}
 use Rattle.graph.proofs.task.rule_of.Statement.{statement}
 use Rattle.graph.proofs.task.rule_of.Tie as tie
 
@@ -19,14 +19,14 @@ returns : tie.Need-returns
 returns c =
     let a = c .before .before in
     let s = a .before .before .args in
-    is-map (s .is-fold) (listed (s .targets)) (s .key) (s .is-last) (sym (a .before .contains .ensures) ∙ c .before .if1 .taken) (c .if2 .taken)
+    gives-map (s .is-fold) (listed (s .targets)) (s .key) (s .is-last) (sym (a .before .contains .ensures) ∙ c .before .if1 .taken) (c .if2 .taken)
 
 -- it targets the node, and is no map
 returns-2 : tie.Need-returns-2
 returns-2 c =
     let a = c .before .before in
     let s = a .before .before .args in
-    is-fold (s .is-fold) (listed (s .targets)) (s .key) (s .is-last) (sym (a .before .contains .ensures) ∙ c .if3 .taken)
+    gives-fold (s .is-fold) (listed (s .targets)) (s .key) (s .is-last) (sym (a .before .contains .ensures) ∙ c .if3 .taken)
     (⊎-elim (λ w. w .1 .left) (λ w. absurd (true≢false (sym (c .if3 .taken) ∙ w .left))) (c .before .if1 .came))
 
 returns-3 : tie.Need-returns-3
@@ -34,14 +34,14 @@ returns-3 c =
     let a = c .before .before .before in
     let s = a .before .before .args in
     let none : a .len .result ≡ 0 = c .if4 .taken in
-    is-complete (s .is-fold) (listed (s .targets)) (s .key) (s .is-last) (sym (a .before .contains .ensures) ∙ c .before .if3 .left)
+    gives-complete (s .is-fold) (listed (s .targets)) (s .key) (s .is-last) (sym (a .before .contains .ensures) ∙ c .before .if3 .left)
     (nil-none (listed (s .targets)) (sym (a .len .ensures) ∙ none))
 
 returns-4 : tie.Need-returns-4
 returns-4 c =
     let a = c .before .before .before .before in
     let s = a .before .before .args in
-    is-last (s .is-fold) (listed (s .targets)) (s .key) (s .is-last) (sym (a .before .contains .ensures) ∙ c .before .before .if3 .left)
+    gives-last (s .is-fold) (listed (s .targets)) (s .key) (s .is-last) (sym (a .before .contains .ensures) ∙ c .before .before .if3 .left)
     (nil-some (listed (s .targets)) (λ e. c .before .if4 .left (a .len .ensures ∙ e)))
     (c .if5 .taken)
 
@@ -49,7 +49,7 @@ returns-5 : tie.Need-returns-5
 returns-5 c =
     let a = c .before .before .before .before in
     let s = a .before .before .args in
-    is-propagate (s .is-fold) (listed (s .targets)) (s .key) (s .is-last) (sym (a .before .contains .ensures) ∙ c .before .before .if3 .left)
+    gives-propagate (s .is-fold) (listed (s .targets)) (s .key) (s .is-last) (sym (a .before .contains .ensures) ∙ c .before .before .if3 .left)
     (nil-some (listed (s .targets)) (λ e. c .before .if4 .left (a .len .ensures ∙ e)))
     (c .if5 .left)
 
