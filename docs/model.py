@@ -82,7 +82,7 @@ class Session:
         return self.printed + self.listing()
 
     def store(self, op):
-        value = op.held if op.kind in FOLDS + ("link",) else 0
+        value = 0 if op.kind == "map" else op.held
         self.results.update({label: (value, op.targets) for label in op.labels})
 
     def admit(self):
@@ -153,6 +153,7 @@ def act(op, node):
     elif op.kind == "link":
         op.held += 1
     elif op.kind == "unlink":
+        op.held += node.links.count(op.key)
         node.links = [key for key in node.links if key != op.key]
     elif op.kind == "top":
         op.held = max(op.held, node.value)

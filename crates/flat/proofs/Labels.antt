@@ -9,7 +9,8 @@ use lib.ListN.{length, length-append}
 use Rattle.graph.specs.Nodes.{Op}
 use Rattle.graph.specs.OneAtATime.{Labelled, addOf, opOf}
 use Rattle.graph.specs.Sessions.{Station, Session, labelsOfUnit, labelsOfUnits, labelsOfStations, labelsOfCalls, labelsOfResults, pending, live, addsIn}
-use Rattle.graph.specs.Valid.{Each, ValidCall, count}
+use Rattle.graph.specs.KeyLists.{count}
+use Rattle.graph.specs.Valid.{Each, ValidCall}
 use Rattle.graph.proofs.Labels.{total, is, one, total-append, total-is, total-one}
 use Rattle.flat.specs.Flat.{Tagged, tagUnit, tagUnits, queueOf, waiting, flat}
 use Rattle.flat.specs.Inner.Queues.{labelsIn, queued, addsQueued, liveIn}

@@ -12,7 +12,7 @@ use lib.Dec.{eqb}
 use lib.ListN.{length, length-append}
 use borrow.Author.Tests.{eqb-true, eqb-false, ne-eqb, eq-eqb}
 use Rattle.graph.specs.Refusals.{Answer, refused, done}
-use Rattle.graph.specs.KeyLists.{contains, sameKeys}
+use Rattle.graph.specs.KeyLists.{contains, count, sameKeys}
 use Rattle.graph.specs.Calls.{Call, targetsOf}
 use Rattle.graph.specs.Nodes.{Node, Op, Result, visitOp, stored}
 use Rattle.graph.specs.OneAtATime.{Labelled, labelled, World, passOp, process, processFrom, oneAtATime}
@@ -20,7 +20,7 @@ use Rattle.graph.specs.Sessions.{Station, Session, graphOf, labelsOfResu
 use Rattle.graph.specs.Steps.{Step, step}
 use Rattle.graph.specs.Acceptance.{accepted, accept, Claimed, claim}
 use Rattle.graph.specs.Drain.{backmost, drain}
-use Rattle.graph.specs.Valid.{Each, Valid, count}
+use Rattle.graph.specs.Valid.{Each, Valid}
 use Rattle.graph.specs.EventRuns.{Event, calls, steps, drains, claims, EventRun, onCall, onStep, onDrain, onClaim, events, start, run, SameSessionResult, SessionDemand3, SameOutcome}
 use Rattle.graph.specs.Counts.{quotedSteps, resultOfLabel}
 use Rattle.graph.proofs.Answers.{Holds, holds, holds-at, and-left, and-right, eqb-same}
@@ -72,7 +72,7 @@ process-last : (l : ℕ) (cs : List Call) (c : Call) (x : World) → processFrom
 process-last l [] c x = rw (add-zero l)
 process-last l (d ∷ cs) c x = process-last (suc l) cs c (process (labelled d l) x) ∙ ap (λ (k : ℕ). process (labelled c k) (processFrom (suc l) cs (process (labelled d l) x))) (suc-add l (length cs) ∙ sym (add-suc l (length cs)))
 
-oneAtATime-last : (cs : List Call) (c : Call) → oneAtATime (cs ++ (c ∷ [])) ≡ process (labelled c (suc (length cs))) (oneAtATime cs)
+pub oneAtATime-last : (cs : List Call) (c : Call) → oneAtATime (cs ++ (c ∷ [])) ≡ process (labelled c (suc (length cs))) (oneAtATime cs)
 oneAtATime-last cs c = process-last 1 cs c _ ∙ ap (λ (k : ℕ). process (labelled c k) (oneAtATime cs)) (add-comm 1 (length cs) ∙ add-one (length cs))
 
 -- "A call names 0 to 8 target keys"
@@ -202,24 +202,24 @@ same-result r q e =
       left = same-eq (r .left) (q .left) (and-right (eqb (r .value) (q .value)) _ f) i;
     }
 
-copies : Result → Result → ℕ
-copies r q = cond (sameResult r q) 1 0
+matches : Result → Result → ℕ
+matches r q = cond (sameResult r q) 1 0
 
-copies-self : (r : Result) → copies r r ≡ 1
-unfolding copies
-copies-self r = rw (same-self r)
+matches-self : (r : Result) → matches r r ≡ 1
+unfolding matches
+matches-self r = rw (same-self r)
 
 -- a result that one-at-a-time processing has is the one that its label finds there
 record Finds (i : ℕ) (r : Result) (rs : List Result) : Type 0 where
   finds : resultOfLabel (r .label) rs ≡ some r
   low : i ≤ r .label
 
-finds-counted : (i : ℕ) (r : Result) (rs : List Result) → Labelling i rs → 1 ≤ sum (copies r) rs → Finds i r rs
-unfolding copies
+finds-counted : (i : ℕ) (r : Result) (rs : List Result) → Labelling i rs → 1 ≤ sum (matches r) rs → Finds i r rs
+unfolding matches
 finds-counted i r [] d h = absurd (omega arith)
 finds-counted i r (q ∷ rs) d h = go (sameResult r q) refl (finds-counted (suc i) r rs (d .1)) h
   where
-    go : (b : Bool) → sameResult r q ≡ b → (1 ≤ sum (copies r) rs → Finds (suc i) r rs) → 1 ≤ cond b 1 0 + sum (copies r) rs → Finds i r (q ∷ rs)
+    go : (b : Bool) → sameResult r q ≡ b → (1 ≤ sum (matches r) rs → Finds (suc i) r rs) → 1 ≤ cond b 1 0 + sum (matches r) rs → Finds i r (q ∷ rs)
     go true e ih h =
         let k : q ≡ r = same-result r q e in
         record { finds = rw (ap (λ (x : Result). eqb (x .label) (r .label)) k ∙ eqb-same (r .label)) (ap {B = Option Result} some k); low = omega (arith, d .0, ap (λ (x : Result). x .label) k) }
@@ -228,9 +228,9 @@ finds-counted i r (q ∷ rs) d h = go (sameResult r q) refl (finds-counted (suc 
         record { finds = rw (ne-eqb (q .label) (r .label) (λ (k : q .label ≡ r .label). omega (arith, f .low, d .0))) (f .finds); low = omega (arith, f .low) }
 
 -- what was claimed or is stored is a result of one-at-a-time processing
-result-right : (x : EventRun) → Good x → (r : Result) → 1 ≤ sum (copies r) (x .claimed ++ x .now .results) → resultOfLabel (r .label) ((oneAtATime (x .accepted)) .results) ≡ some r
+result-right : (x : EventRun) → Good x → (r : Result) → 1 ≤ sum (matches r) (x .claimed ++ x .now .results) → resultOfLabel (r .label) ((oneAtATime (x .accepted)) .results) ≡ some r
 result-right x g r h =
-    finds-counted 1 r ((oneAtATime (x .accepted)) .results) (g .plain .labelling) (omega (arith, h, sum-append (copies r) (x .claimed) (x .now .results), ap (λ (y : Seen). y .total) (g .balance (copies r)))) .finds
+    finds-counted 1 r ((oneAtATime (x .accepted)) .results) (g .plain .labelling) (omega (arith, h, sum-append (matches r) (x .claimed) (x .now .results), ap (λ (y : Seen). y .total) (g .balance (matches r)))) .finds
 
 -- each label from i on stands once among them
 label-none : (i l : ℕ) (rs : List Result) → Labelling i rs → l < i → sum (byLabel (is l)) rs ≡ 0
@@ -258,7 +258,7 @@ label-most i l (r ∷ rs) d = go (eqb l (r .label)) refl (label-most (suc i) l r
 -- a label that stands among results finds one there
 record Has (l : ℕ) (rs : List Result) : Type 0 where
   which : Result
-  among : 1 ≤ sum (copies which) rs
+  among : 1 ≤ sum (matches which) rs
   names : which .label ≡ l
   found : resultOfLabel l rs ≡ some which
 
@@ -267,7 +267,7 @@ has-counted l [] h = absurd (omega arith)
 has-counted l (r ∷ rs) h = go (eqb l (r .label)) refl (has-counted l rs) h
   where
     go : (b : Bool) → eqb l (r .label) ≡ b → (1 ≤ sum (byLabel (is l)) rs → Has l rs) → 1 ≤ cond b 1 0 + sum (byLabel (is l)) rs → Has l (r ∷ rs)
-    go true e ih h = record { which = r; among = omega (arith, copies-self r); names = sym (eqb-true l (r .label) e); found = rw (eq-eqb (r .label) l (sym (eqb-true l (r .label) e))) }
+    go true e ih h = record { which = r; among = omega (arith, matches-self r); names = sym (eqb-true l (r .label) e); found = rw (eq-eqb (r .label) l (sym (eqb-true l (r .label) e))) }
     go false e ih h =
         let f = ih (omega arith) in
         record { which = f .which; among = omega (arith, f .among); names = f .names; found = rw (ne-eqb (r .label) l (λ (q : r .label ≡ l). eqb-false l (r .label) e (sym q))) (f .found) }
@@ -295,7 +295,7 @@ results-same x g l h k e =
 
 claims-right : (x : EventRun) → Good x → (pre post : List Result) (r : Result) → x .claimed ≡ pre ++ (r ∷ post) → resultOfLabel (r .label) ((oneAtATime (x .accepted)) .results) ≡ some r
 claims-right x g pre post r e =
-    result-right x g r (omega (arith, sum-append (copies r) (x .claimed) (x .now .results), ap (sum (copies r)) e, sum-append (copies r) pre (r ∷ post), copies-self r))
+    result-right x g r (omega (arith, sum-append (matches r) (x .claimed) (x .now .results), ap (sum (matches r)) e, sum-append (matches r) pre (r ∷ post), matches-self r))
 
 -- GRAPH
 resting-graph : (w : Result → ℕ) (ss : List Station) → backmost ss ≡ none → (through w ss []) .nodes ≡ graphOf ss
@@ -332,14 +332,14 @@ pub few-targets : (es : List Event) → Each FewTargets ((run es) .accepted)
 few-targets es = good-events es start good-start .few
 
 -- a result that was claimed or is stored is that of one-at-a-time processing
-found-counted : (l : ℕ) (r : Result) (rs : List Result) → resultOfLabel l rs ≡ some r → (r .label ≡ l) × (1 ≤ sum (copies r) rs)
+found-counted : (l : ℕ) (r : Result) (rs : List Result) → resultOfLabel l rs ≡ some r → (r .label ≡ l) × (1 ≤ sum (matches r) rs)
 found-counted l r [] e = absurd (none-some e)
 found-counted l r (q ∷ rs) e = go (eqb (q .label) l) refl e (found-counted l r rs)
   where
-    go : (b : Bool) → eqb (q .label) l ≡ b → cond b (some q) (resultOfLabel l rs) ≡ some r → (resultOfLabel l rs ≡ some r → (r .label ≡ l) × (1 ≤ sum (copies r) rs)) → (r .label ≡ l) × (1 ≤ sum (copies r) (q ∷ rs))
+    go : (b : Bool) → eqb (q .label) l ≡ b → cond b (some q) (resultOfLabel l rs) ≡ some r → (resultOfLabel l rs ≡ some r → (r .label ≡ l) × (1 ≤ sum (matches r) rs)) → (r .label ≡ l) × (1 ≤ sum (matches r) (q ∷ rs))
     go true f e ih =
         let k : q ≡ r = some-same e in
-        (ap (λ (x : Result). x .label) (sym k) ∙ eqb-true (q .label) l f, omega (arith, copies-self r, ap (copies r) k))
+        (ap (λ (x : Result). x .label) (sym k) ∙ eqb-true (q .label) l f, omega (arith, matches-self r, ap (matches r) k))
     go false f e ih = (ih e .0, omega (arith, ih e .1))
 
 pub found-right : (es : List Event) (l : ℕ) (r : Result) → resultOfLabel l ((run es) .claimed ++ (run es) .now .results) ≡ some r → resultOfLabel l ((oneAtATime ((run es) .accepted)) .results) ≡ some r

@@ -9,13 +9,13 @@ use lib.Dec.{eqb, leb, ltb}
 use lib.ListN.{length}
 use borrow.Author.Tests.{leb-true, le-leb, ltb-false, lt-ltb, eq-eqb}
 use Rattle.graph.specs.Refusals.{Answer, refused, done}
-use Rattle.graph.specs.KeyLists.{contains, above, rising}
+use Rattle.graph.specs.KeyLists.{contains, count, above, rising}
 use Rattle.graph.specs.Acts.{resultValue}
 use Rattle.graph.specs.Nodes.{Node, Op, Result, hits, actBy, visitNode, visitOp, resultsFor, newNode}
 use Rattle.graph.specs.OneAtATime.{Labelled, addOf, opOf}
 use Rattle.graph.specs.Sessions.{Station, station, Session, insert, store, labelsOfUnit, labelsOfUnits, labelsOfStations, labelsOfCalls, labelsOfResults, pending, live}
 use Rattle.graph.specs.Steps.{Step, step, enter}
-use Rattle.graph.specs.Valid.{Each, count, Given}
+use Rattle.graph.specs.Valid.{Each, Given}
 use Rattle.graph.proofs.Answers.{Holds, refuses, holds, holds-at, and-left, and-right, and-both, eqb-same}
 use Rattle.graph.proofs.Outcome.{flat, flowOps, Seen, sumOf, sum-append, sum, sumOps, through, admitting, outcome, sum-store}
 use Rattle.graph.proofs.OutcomeKept.{Same, step-same}

@@ -14,7 +14,7 @@ use Rattle.graph.specs.declared.act.Act.{Act}
 use Rattle.graph.specs.declared.act.Act.the-variants.{Map, Link, Unlink, Sum, Top, Pick, Near}
 use Rattle.graph.specs.Words.{modulus}
 use Rattle.graph.specs.Affine.{plus}
-use Rattle.graph.specs.KeyLists.{isKey, areKeys, contains, strike, above, rising, isFull, sameKeys}
+use Rattle.graph.specs.KeyLists.{isKey, areKeys, contains, count, strike, above, rising, isFull, sameKeys}
 use Rattle.graph.specs.Acts.{isMap, affineOf, newValue, newLinks, newHeld, resultValue}
 use Rattle.graph.specs.Nodes.{Node, Op, actOn, actBy, resultsFor, stored, newNode, addResult}
 use Rattle.graph.specs.Sessions.{Station}
@@ -92,13 +92,17 @@ record ValidLinks (ls : List ℕ) : Type 0 where
   few : length ls ≤ 8
   keys : areKeys ls ≡ true
 
-valid-linked : (k : ℕ) (ls : List ℕ) (b : Bool) → isFull ls ≡ b → isKey k ≡ true → ValidLinks ls → ValidLinks (cond b ls (ls ++ (k ∷ [])))
-valid-linked k ls true e g h = h
-valid-linked k ls false e g h = record { few = omega (arith, leb-false 8 (length ls) e, length-append ls (k ∷ [])); keys = areKeys-snoc ls k ∙ and-both (h .keys) g }
+pub short-linked : (k : ℕ) (ls : List ℕ) (b : Bool) → isFull ls ≡ b → length ls ≤ 8 → length (cond b ls (ls ++ (k ∷ []))) ≤ 8
+short-linked k ls true e h = h
+short-linked k ls false e h = omega (arith, leb-false 8 (length ls) e, length-append ls (k ∷ []))
+
+areKeys-linked : (k : ℕ) (ls : List ℕ) (b : Bool) → isKey k ≡ true → areKeys ls ≡ true → areKeys (cond b ls (ls ++ (k ∷ []))) ≡ true
+areKeys-linked k ls true g h = h
+areKeys-linked k ls false g h = areKeys-snoc ls k ∙ and-both h g
 
 valid-links : (a : Act) (ls : List ℕ) → ValidAct a → ValidLinks ls → ValidLinks (newLinks a ls)
 valid-links (Map m) ls g h = h
-valid-links (Link k) ls g h = valid-linked k ls (isFull ls) refl g h
+valid-links (Link k) ls g h = record { few = short-linked k ls (isFull ls) refl (h .few); keys = areKeys-linked k ls (isFull ls) g (h .keys) }
 valid-links (Unlink k) ls g h = record { few = omega (arith, strike-le k ls, h .few); keys = areKeys-strike k ls (h .keys) }
 valid-links Sum ls g h = h
 valid-links Top ls g h = h
@@ -108,7 +112,7 @@ valid-links (Near k) ls g h = h
 valid-held : (a : Act) (h v : ℕ) (ls : List ℕ) → v < modulus → ValidHeld a h → ValidHeld a (newHeld a h v ls)
 valid-held (Map m) h v ls g k = k
 valid-held (Link j) h v ls g k = cond-lt (isFull ls) (plus h 1) h modulus (mod-lt (1 * h + 1) positive) k
-valid-held (Unlink j) h v ls g k = k
+valid-held (Unlink j) h v ls g k = mod-lt (1 * h + count j ls) positive
 valid-held Sum h v ls g k = mod-lt (1 * h + v) positive
 valid-held Top h v ls g k = omega arith
 valid-held Pick h v ls g k = g
@@ -117,7 +121,7 @@ valid-held (Near j) h v ls g k = cond-lt (contains j ls) (plus h v) h modulus (m
 valid-result-value : (a : Act) (h : ℕ) → ValidHeld a h → resultValue a h < modulus
 valid-result-value (Map m) h k = positive
 valid-result-value (Link j) h k = k
-valid-result-value (Unlink j) h k = positive
+valid-result-value (Unlink j) h k = k
 valid-result-value Sum h k = k
 valid-result-value Top h k = k
 valid-result-value Pick h k = k

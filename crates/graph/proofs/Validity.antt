@@ -11,14 +11,14 @@ use borrow.Author.Tests.{leb-true, leb-false, le-leb, ltb-true, ne-eqb, eqb-true
 use Rattle.graph.specs.declared.act.Act.{Act}
 use Rattle.graph.specs.Refusals.{Answer, refused, done, mapDone, Test, unless}
 use Rattle.graph.specs.Words.{modulus, areWords}
-use Rattle.graph.specs.KeyLists.{isKey, areKeys, above, rising, contains}
+use Rattle.graph.specs.KeyLists.{isKey, areKeys, above, rising, contains, count}
 use Rattle.graph.specs.Calls.{Call, add, map, link, unlink, sum, top, pick, near, numbersOf, operandsOf, targetsOf}
 use Rattle.graph.specs.OneAtATime.{isAdd, Labelled, addOf, opOf, operation, labelled}
 use Rattle.graph.specs.Nodes.{Op, Result, addResult}
 use Rattle.graph.specs.Sessions.{Station, Session, fresh, insert, store, labelsOfStations, labelsOfCalls, labelsOfResults, pending, live, addsIn}
 use Rattle.graph.specs.Steps.{Step, Change, enter, admitted, changed, admitHead, stepAt, step}
 use Rattle.graph.specs.Acceptance.{callTests, accepted, accept, Claimed, takeResult, claim, keeping}
-use Rattle.graph.specs.Valid.{Each, ValidAct, ValidHeld, mostLabels, ValidOp, ValidUnit, ValidStation, ValidCall, ValidResult, KeysFall, count, Given, Valid}
+use Rattle.graph.specs.Valid.{Each, ValidAct, ValidHeld, mostLabels, ValidOp, ValidUnit, ValidStation, ValidCall, ValidResult, KeysFall, Given, Valid}
 use Rattle.graph.proofs.Answers.{Holds, refuses, holds, holds-map, holds-cond, by-bool, and-left, and-right, and-both, test-most}
 use Rattle.graph.proofs.Effects.{Effect, realised, moved, finished, reshaped, further, effect-at, effect-size, by-station}
 use Rattle.graph.proofs.Limits.{each-append, above-lower, rising-above, ValidChange, valid-effect, valid-stored, valid-newNode, valid-addResult}
@@ -299,7 +299,7 @@ pub valid-labelled : (c : Call) (s : Session) (l : ℕ) → Fits c s → ValidCa
 valid-labelled (add v) s l f = word v [] (f .words)
 valid-labelled (map a b ts) s l f = valid-operation _ 0 ts l (word a (b ∷ ts) (f .words), word b ts (and-right (ltb a modulus) _ (f .words))) refl (omega arith) (f .keys) (f .few) (f .rise)
 valid-labelled (link k ts) s l f = valid-operation _ 0 ts l (and-left _ _ (f .keys)) (lit≤ tt) (omega arith) (and-right (isKey k) _ (f .keys)) (f .few) (f .rise)
-valid-labelled (unlink k ts) s l f = valid-operation _ 0 ts l (and-left _ _ (f .keys)) refl (omega arith) (and-right (isKey k) _ (f .keys)) (f .few) (f .rise)
+valid-labelled (unlink k ts) s l f = valid-operation _ 0 ts l (and-left _ _ (f .keys)) (lit≤ tt) (omega arith) (and-right (isKey k) _ (f .keys)) (f .few) (f .rise)
 valid-labelled (sum x ts) s l f = valid-operation _ x ts l tt (word x ts (f .words)) (omega arith) (f .keys) (f .few) (f .rise)
 valid-labelled (top x ts) s l f = valid-operation _ x ts l tt (word x ts (f .words)) (omega arith) (f .keys) (f .few) (f .rise)
 valid-labelled (pick x ts) s l f = valid-operation _ x ts l tt (word x ts (f .words)) (omega arith) (f .keys) (f .few) (f .rise)

@@ -2,13 +2,12 @@
 -- Assumes nothing.
 use Prim.Native.Nat.{ℕ, suc, _+_, _≤_, _<_}
 use mathlib.Core.Path.{_≡_}
-use mathlib.Core.Bool.{true, cond}
+use mathlib.Core.Bool.{true}
 use mathlib.Core.List.{List, [], _∷_}
-use lib.Dec.{eqb}
 use lib.ListN.{length}
 use Rattle.graph.specs.declared.act.Act.{Act}
 use Rattle.graph.specs.declared.act.Act.the-variants.{Map, Link, Unlink, Sum, Top, Pick, Near}
-use Rattle.graph.specs.KeyLists.{isKey, areKeys, rising}
+use Rattle.graph.specs.KeyLists.{isKey, areKeys, count, rising}
 use Rattle.graph.specs.Words.{modulus}
 use Rattle.graph.specs.Nodes.{Node, Op, Result}
 use Rattle.graph.specs.OneAtATime.{Labelled, addOf, opOf}
@@ -40,11 +39,11 @@ ValidAct Top = Unit {0}
 ValidAct Pick = Unit {0}
 ValidAct (Near k) = isKey k ≡ true
 
--- a held value is any 32-bit number; map and unlink hold none, so theirs is zero
+-- a held value is any 32-bit number, a link's and an unlink's count too; a map holds none, so its is zero
 abbrev pub ValidHeld : Act → ℕ → Type 0
 ValidHeld (Map m) h = h ≡ 0
 ValidHeld (Link k) h = h < modulus
-ValidHeld (Unlink k) h = h ≡ 0
+ValidHeld (Unlink k) h = h < modulus
 ValidHeld Sum h = h < modulus
 ValidHeld Top h = h < modulus
 ValidHeld Pick h = h < modulus
@@ -89,11 +88,6 @@ pub record ValidResult (r : Result) : Type 0 where
 abbrev pub KeysFall : List Station → Type 0
 KeysFall [] = Unit {0}
 KeysFall (s ∷ ss) = (s .node .key ≡ suc (length ss)) × KeysFall ss
-
--- how often a label stands in a list
-abbrev pub count : ℕ → List ℕ → ℕ
-count l [] = 0
-count l (x ∷ xs) = cond (eqb l x) 1 0 + count l xs
 
 abbrev pub Given : ℕ → ℕ → Type 0
 Given last l = (1 ≤ l) × (l ≤ last)

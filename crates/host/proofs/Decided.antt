@@ -74,7 +74,7 @@ act (Near k) = by-test (isKey k)
 held : (a : Act) (h : ℕ) → Decision (ValidHeld a h)
 held (Map m) h = equal h 0
 held (Link k) h = below h modulus
-held (Unlink k) h = equal h 0
+held (Unlink k) h = below h modulus
 held Sum h = below h modulus
 held Top h = below h modulus
 held Pick h = below h modulus

@@ -12,7 +12,7 @@ use Rattle.text.specs.Text.{texts}
 use Rattle.text.proofs.CommaLists.{texts-append}
 use Rattle.records.specs.Bytes.{bytes16}
 use Rattle.records.specs.Inner.Numbers.{chunk, tab}
-use Rattle.records.specs.Records.{encodeHead, encodeNode, encodeOp, encodeResult}
+use Rattle.records.specs.Records.{imageVersion, encodeHead, encodeNode, encodeOp, encodeResult}
 use Rattle.records.specs.declared.head.Head.{Head}
 use Rattle.records.proofs.Tables.{tab-snoc, tab-is}
 use Rattle.records.proofs.Codecs.{Bytes, FitNode, FitOp, FitResult, node-back, op-back, result-back, node-there, op-there, result-there, node-size, op-size, result-size, back16, there16}
@@ -153,7 +153,7 @@ ten-zeros k = go (decLt k 10)
     go (yes h) = getD-replicate 10 k 0 0 h
     go (no h) = List·getD-eq-default (replicate 10 0) 0 {n = k} (omega (arith, length-replicate {A = ℕ} 10 0))
 
-head-byte : (h : Head) (s : List ℕ) → getD s 0 0 ≡ 1 → getD s 1 0 ≡ h .nodes → getD s 2 0 ≡ h .ops → getD s 3 0 ≡ h .results → bytes16 (h .last) ≡ getD s 4 0 ∷ getD s 5 0 ∷ [] → Zeros s 6 16
+head-byte : (h : Head) (s : List ℕ) → getD s 0 0 ≡ imageVersion → getD s 1 0 ≡ h .nodes → getD s 2 0 ≡ h .ops → getD s 3 0 ≡ h .results → bytes16 (h .last) ≡ getD s 4 0 ∷ getD s 5 0 ∷ [] → Zeros s 6 16
     → (k : ℕ) → k < 16 → getD s k 0 ≡ getD (encodeHead h) k 0
 unfolding encodeHead
 head-byte h s v n o r l z zero d = v

@@ -10,10 +10,14 @@ use Rattle.records.specs.declared.op.OpRecord.{OpRecord}
 use Rattle.records.specs.declared.result.ResultRecord.{ResultRecord}
 use Rattle.records.specs.Bytes.{bytes16, bytes32, encodeKeys}
 
--- the head: the layout's version, three counts, the last label given, ten zeros
+-- the version, of which docs/IMAGE.md has a table
+abbrev pub imageVersion : ℕ
+imageVersion = 2
+
+-- the head: the version, three counts, the last label given, ten zeros
 unfoldable pub encodeHead : Head → List ℕ
 encodeHead h =
-    (1 ∷ h .nodes ∷ h .ops ∷ h .results ∷ []) ++ bytes16 (h .last) ++ (0 ∷ 0 ∷ 0 ∷ 0 ∷ 0 ∷ 0 ∷ 0 ∷ 0 ∷ 0 ∷ 0 ∷ [])
+    (imageVersion ∷ h .nodes ∷ h .ops ∷ h .results ∷ []) ++ bytes16 (h .last) ++ (0 ∷ 0 ∷ 0 ∷ 0 ∷ 0 ∷ 0 ∷ 0 ∷ 0 ∷ 0 ∷ 0 ∷ [])
 
 -- a list of labels, 9 bytes
 abbrev pub encodeLabels : Labels → List ℕ

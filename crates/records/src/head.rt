@@ -2,6 +2,9 @@
 ghost use mathlib.Core.Path.{_≡_};
 ghost use Rattle.records.specs.Records.{encodeHead};
 
+// The image's version: docs/IMAGE.md says what each changed.
+pub const VERSION: u8 = 2;
+
 // How many nodes, operations and results there are, and the last label given.
 pub struct Head {
     pub nodes: u8,
@@ -15,7 +18,7 @@ pub fn head_bytes(h: Head) -> [u8; 16]
 {
     let last = h.last;
     [
-        1,
+        VERSION,
         h.nodes,
         h.ops,
         h.results,

@@ -9,7 +9,7 @@ use mathlib.Core.Option.{none, some}
 use lib.Dec.{eqb, ltb}
 use lib.ListN.{length}
 use borrow.Author.Tests.{eqb-true, eqb-false, eq-eqb, ltb-true}
-use Rattle.graph.specs.KeyLists.{above, rising, contains}
+use Rattle.graph.specs.KeyLists.{above, rising, contains, count}
 use Rattle.graph.specs.Calls.{Call}
 use Rattle.graph.specs.Nodes.{Node, Result}
 use Rattle.graph.specs.OneAtATime.{oneAtATime}
@@ -17,7 +17,7 @@ use Rattle.graph.specs.Sessions.{Station, Session, graphOf, labelsOfResults, pe
 use Rattle.graph.specs.Drain.{backmost}
 use Rattle.graph.specs.EventRuns.{EventRun}
 use Rattle.graph.specs.Counts.{resultOfLabel}
-use Rattle.graph.specs.Valid.{Each, Given, count}
+use Rattle.graph.specs.Valid.{Each, Given}
 use Rattle.graph.proofs.Answers.{and-left, and-right}
 use Rattle.graph.proofs.Drains.{Resting, no-units, pending-resting}
 use Rattle.graph.proofs.Limits.{rising-above, each-right}

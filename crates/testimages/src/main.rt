@@ -7,137 +7,143 @@ use valid::session::open;
 ghost use mathlib.Core.Path.{_≡_};
 ghost use lib.ListN.{length};
 
-// Up to three bytes of the session below, each with its place and its new value. Cases 1 to 56 are refused, the others pass.
-const CASES: [[u16; 6]; 65] = [
-    // 1 version 2
-    [0, 2, 0, 2, 0, 2],
-    // 2 a byte of the head that is not used
+// Up to three bytes of the session below, each with its place and its new value. Cases 1 to 57 are refused, the others pass.
+const CASES: [[u16; 6]; 68] = [
+    // 1 version 1
+    [0, 1, 0, 1, 0, 1],
+    // 2 version 3
+    [0, 3, 0, 3, 0, 3],
+    // 3 a byte of the head that is not used
     [15, 1, 15, 1, 15, 1],
-    // 3 65 nodes
+    // 4 65 nodes
     [1, 65, 1, 65, 1, 65],
-    // 4 65 operations
+    // 5 65 operations
     [2, 65, 2, 65, 2, 65],
-    // 5 65 results
+    // 6 65 results
     [3, 65, 3, 65, 3, 65],
-    // 6 node keys out of order
+    // 7 node keys out of order
     [20, 2, 36, 1, 36, 1],
-    // 7 a node key twice
+    // 8 a node key twice
     [36, 1, 36, 1, 36, 1],
-    // 8 a link to 65
+    // 9 a link to 65
     [22, 65, 22, 65, 22, 65],
-    // 9 a link to 0
+    // 10 a link to 0
     [22, 0, 22, 0, 22, 0],
-    // 10 nine links
+    // 11 nine links
     [21, 9, 21, 9, 21, 9],
-    // 11 a link place that is not used
+    // 12 a link place that is not used
     [24, 1, 24, 1, 24, 1],
-    // 12 a node's last byte
+    // 13 a node's last byte
     [31, 1, 31, 1, 31, 1],
-    // 13 a node record that is not used
+    // 14 a node record that is not used
     [48, 1, 48, 1, 48, 1],
-    // 14 a station above the node count
+    // 15 a station above the node count
     [1104, 3, 1104, 3, 1104, 3],
-    // 15 station 0
+    // 16 station 0
     [1040, 0, 1040, 0, 1040, 0],
-    // 16 station 66
+    // 17 station 66
     [1136, 66, 1136, 66, 1136, 66],
-    // 17 stations that fall
+    // 18 stations that fall
     [1040, 2, 1040, 2, 1040, 2],
-    // 18 a first operation that opens no unit
+    // 19 a first operation that opens no unit
     [1041, 0, 1041, 0, 1041, 0],
-    // 19 a station's first operation that opens no unit
+    // 20 a station's first operation that opens no unit
     [1105, 0, 1105, 0, 1105, 0],
-    // 20 a waiting call that opens no unit
+    // 21 a waiting call that opens no unit
     [1137, 0, 1137, 0, 1137, 0],
-    // 21 opens 2
+    // 22 opens 2
     [1073, 2, 1073, 2, 1073, 2],
-    // 22 an add at a station
+    // 23 an add at a station
     [1074, 0, 1084, 0, 1085, 0],
-    // 23 kind 8
+    // 24 kind 8
     [1074, 8, 1074, 8, 1074, 8],
-    // 24 operand key 65
+    // 25 operand key 65
     [1107, 65, 1107, 65, 1107, 65],
-    // 25 near with no key
+    // 26 near with no key
     [1107, 0, 1107, 0, 1107, 0],
-    // 26 a sum with an operand key
+    // 27 a sum with an operand key
     [1075, 1, 1075, 1, 1075, 1],
-    // 27 a sum with an a
+    // 28 a sum with an a
     [1076, 1, 1076, 1, 1076, 1],
-    // 28 an add with an a
+    // 29 an add with an a
     [1140, 1, 1140, 1, 1140, 1],
-    // 29 an unlink that holds 1
-    [1106, 3, 1106, 3, 1106, 3],
-    // 30 targets that do not rise
+    // 30 an unlink with an a
+    [1106, 3, 1108, 1, 1108, 1],
+    // 31 targets that do not rise
     [1053, 2, 1053, 2, 1053, 2],
-    // 31 targets that fall
+    // 32 targets that fall
     [1053, 3, 1053, 3, 1053, 3],
-    // 32 target 65
+    // 33 target 65
     [1054, 65, 1054, 65, 1054, 65],
-    // 33 target 0
+    // 34 target 0
     [1053, 0, 1053, 0, 1053, 0],
-    // 34 nine targets
+    // 35 nine targets
     [1052, 9, 1052, 9, 1052, 9],
-    // 35 a target place that is not used
+    // 36 a target place that is not used
     [1055, 3, 1055, 3, 1055, 3],
-    // 36 an add with a target
+    // 37 an add with a target
     [1148, 1, 1149, 1, 1149, 1],
-    // 37 an operation's last byte
+    // 38 an operation's last byte
     [1071, 1, 1071, 1, 1071, 1],
-    // 38 an operation record that is not used
+    // 39 an operation record that is not used
     [1168, 1, 1168, 1, 1168, 1],
-    // 39 no label
+    // 40 no label
     [1093, 0, 1094, 0, 1094, 0],
-    // 40 a sum with two labels
+    // 41 a sum with two labels
     [1093, 2, 1096, 9, 1096, 9],
-    // 41 an add with two labels
+    // 42 an add with two labels
     [1157, 2, 1160, 9, 1160, 9],
-    // 42 five labels
+    // 43 five labels
     [1061, 5, 1061, 5, 1061, 5],
-    // 43 a label place that is not used
+    // 44 a label place that is not used
     [1066, 4, 1066, 4, 1066, 4],
-    // 44 label 0
+    // 45 label 0
     [1094, 0, 1094, 0, 1094, 0],
-    // 45 a label above the last given
+    // 46 a label above the last given
     [4, 7, 4, 7, 4, 7],
-    // 46 a label in two operations
+    // 47 a label in two operations
     [1094, 3, 1094, 3, 1094, 3],
-    // 47 a label twice in one operation
+    // 48 a label twice in one operation
     [1064, 3, 1064, 3, 1064, 3],
-    // 48 a label in an operation and a result
+    // 49 a label in an operation and a result
     [3088, 2, 3088, 2, 3088, 2],
-    // 49 results out of label order
+    // 50 results out of label order
     [3088, 7, 3104, 1, 3104, 1],
-    // 50 two results of one label
+    // 51 two results of one label
     [3104, 1, 3104, 1, 3104, 1],
-    // 51 a result of label 0
+    // 52 a result of label 0
     [3088, 0, 3088, 0, 3088, 0],
-    // 52 a left key 65
+    // 53 a left key 65
     [3111, 65, 3111, 65, 3111, 65],
-    // 53 left keys that do not rise
+    // 54 left keys that do not rise
     [3110, 2, 3112, 9, 3112, 9],
-    // 54 a left place that is not used
+    // 55 a left place that is not used
     [3112, 1, 3112, 1, 3112, 1],
-    // 55 a result's last byte
+    // 56 a result's last byte
     [3103, 1, 3103, 1, 3103, 1],
-    // 56 a result record that is not used
+    // 57 a result record that is not used
     [3120, 1, 3120, 1, 3120, 1],
-    // 57 the session
+    // 58 the session
     [16, 7, 16, 7, 16, 7],
-    // 58 a target that was passed already
+    // 59 a target that was passed already
     [1085, 1, 1085, 1, 1085, 1],
-    // 59 a top stream in any label order
+    // 60 a top stream in any label order
     [1136, 65, 1158, 4, 1158, 4],
-    // 60 a map that waits with two labels
+    // 61 a map that waits with two labels
     [1158, 9, 1158, 9, 1158, 9],
-    // 61 a value held at a start
+    // 62 a value held at a start
     [1080, 255, 1080, 255, 1080, 255],
-    // 62 a linked key that no node has
+    // 63 an unlink that removed a copy
+    [1106, 3, 1106, 3, 1106, 3],
+    // 64 an unlink's count above what lists hold
+    [1106, 3, 1112, 255, 1115, 255],
+    // 65 a linked key that no node has
     [22, 64, 23, 64, 23, 64],
-    // 63 a last label far above
+    // 66 a last label far above
     [5, 255, 5, 255, 5, 255],
-    // 64 two units at one station
+    // 67 two units at one station
     [1073, 1, 1073, 1, 1073, 1],
-    // 65 a map with b alone
+    // 68 a map with b alone
     [1044, 0, 1048, 255, 1048, 255],
 ];
 
@@ -307,7 +313,7 @@ fn case(n: u32, row: [u16; 6]) {
 
 fn cases() {
     let mut i: usize = 0;
-    while i < 65 {
+    while i < 68 {
         let row = CASES[i];
         case(i as u32 + 1, row);
         i += 1;
@@ -348,12 +354,12 @@ fn nodes_and_add(n: u32, nodes: u8) {
 fn main() {
     cases();
     // 68 and 64 live labels
-    crowd(66, 17);
-    crowd(67, 16);
+    crowd(69, 17);
+    crowd(70, 16);
     // the opened image
-    crowd(68, 0);
+    crowd(71, 0);
     // 65 and 64 nodes and waiting adds
-    nodes_and_add(69, 64);
-    nodes_and_add(70, 63);
-    crowd_of_nodes(71, 64);
+    nodes_and_add(72, 64);
+    nodes_and_add(73, 63);
+    crowd_of_nodes(74, 64);
 }

@@ -7,8 +7,8 @@ use mathlib.Core.Bool.{Bool, true, false, cond, not}
 use mathlib.Core.List.{List, [], _∷_}
 use lib.Dec.{eqb, leb, ltb}
 use borrow.Author.Tests.{eqb-true, leb-true, le-leb, not-true}
-use Rattle.graph.specs.KeyLists.{contains}
-use Rattle.graph.specs.Valid.{Each, count, Given}
+use Rattle.graph.specs.KeyLists.{contains, count}
+use Rattle.graph.specs.Valid.{Each, Given}
 use Rattle.graph.proofs.Answers.{and-left, and-right, eqb-same}
 use Rattle.graph.proofs.Labels.{contains-count, count-out}
 use Rattle.valid.specs.Inner.Tests.{givenOnce}

@@ -24,7 +24,7 @@ use Rattle.records.specs.declared.result.ResultRecord.{ResultRecord}
 use Rattle.records.proofs.Codecs.{FitLabels, FitNode, FitOp, FitResult}
 use Rattle.valid.specs.Inner.Decoded.{decodedNode, decodedResult, labelsOf, actOf, heldOf, decodedCall, taggedOf}
 use Rattle.valid.specs.Values.{nodeRecord, resultRecord, packedLabels, Fields, fields, fieldsOf, opRecord, callRecord, taggedRecord}
-use Rattle.valid.specs.Inner.Tests.{keysOk, labelsOk, nodeOk, operandOk, numbersOk, mostOf, targetsOk, opOk, resultOk}
+use Rattle.valid.specs.Inner.Tests.{keysOk, labelsOk, nodeOk, operandOk, factorOk, mostOf, targetsOk, opOk, resultOk}
 use Rattle.valid.proofs.Packing.{KeysGood, keys-good, keys-packed, packed-ok, packed-fit, LabelsGood, labels-length, labels-good, labels-packed, packed-labels-ok, labels-of-packed}
 
 -- NODES
@@ -105,21 +105,21 @@ record ActGood (kind key a b : ℕ) : Type 0 where
   most : mostOf kind ≡ mostLabels (actOf kind key a b)
 
 -- kinds with no operand key, and with one, that hold b
-plain : (kind key a b : ℕ) → eqb key 0 ≡ true → eqb a 0 && true ≡ true → fields kind 0 0 b ≡ fields kind key a b
-plain kind key a b k e = λ i. fields kind (sym (eqb-true key 0 k) i) (sym (eqb-true a 0 (and-left _ _ e)) i) b
+plain : (kind key a b : ℕ) → eqb key 0 ≡ true → eqb a 0 ≡ true → fields kind 0 0 b ≡ fields kind key a b
+plain kind key a b k e = λ i. fields kind (sym (eqb-true key 0 k) i) (sym (eqb-true a 0 e) i) b
 
 keyed : (kind key a b : ℕ) → eqb a 0 ≡ true → fields kind key 0 b ≡ fields kind key a b
 keyed kind key a b e = λ i. fields kind key (sym (eqb-true a 0 e) i) b
 
-act-good : (kind key a b : ℕ) → a < modulus → b < modulus → (kind ≡ 0 → ⊥) → leb kind 7 ≡ true → operandOk kind key ≡ true → numbersOk kind a b ≡ true → ActGood kind key a b
+act-good : (kind key a b : ℕ) → a < modulus → b < modulus → (kind ≡ 0 → ⊥) → leb kind 7 ≡ true → operandOk kind key ≡ true → factorOk kind a ≡ true → ActGood kind key a b
 act-good zero key a b ha hb nz l o n = absurd (nz refl)
 act-good (suc zero) key a b ha hb nz l o n = record { act = (ha, hb); held = refl; same = λ i. fields 1 (sym (eqb-true key 0 o) i) a b; most = refl }
-act-good (suc (suc zero)) key a b ha hb nz l o n = record { act = o; held = hb; same = keyed 2 key a b (and-left _ _ n); most = refl }
-act-good (suc (suc (suc zero))) key a b ha hb nz l o n = record { act = o; held = eqb-true b 0 (and-right (eqb a 0) _ n); same = keyed 3 key a b (and-left _ _ n); most = refl }
+act-good (suc (suc zero)) key a b ha hb nz l o n = record { act = o; held = hb; same = keyed 2 key a b n; most = refl }
+act-good (suc (suc (suc zero))) key a b ha hb nz l o n = record { act = o; held = hb; same = keyed 3 key a b n; most = refl }
 act-good (suc (suc (suc (suc zero)))) key a b ha hb nz l o n = record { act = tt; held = hb; same = plain 4 key a b o n; most = refl }
 act-good (suc (suc (suc (suc (suc zero))))) key a b ha hb nz l o n = record { act = tt; held = hb; same = plain 5 key a b o n; most = refl }
 act-good (suc (suc (suc (suc (suc (suc zero)))))) key a b ha hb nz l o n = record { act = tt; held = hb; same = plain 6 key a b o n; most = refl }
-act-good (suc (suc (suc (suc (suc (suc (suc zero))))))) key a b ha hb nz l o n = record { act = o; held = hb; same = keyed 7 key a b (and-left _ _ n); most = refl }
+act-good (suc (suc (suc (suc (suc (suc (suc zero))))))) key a b ha hb nz l o n = record { act = o; held = hb; same = keyed 7 key a b n; most = refl }
 act-good (suc (suc (suc (suc (suc (suc (suc (suc k)))))))) key a b ha hb nz l o n = absurd (omega (arith, leb-true (suc (suc (suc (suc (suc (suc (suc (suc k)))))))) 7 l))
 
 most-four : (kind : ℕ) → mostOf kind ≤ 4
@@ -135,7 +135,7 @@ pub record OpFacts (n prev : ℕ) (o : OpRecord) : Type 0 where
   pub next : follows prev (taggedOf o) ≡ true
   pub kind : leb (o .kind) 7 ≡ true
   pub operand : operandOk (o .kind) (o .key) ≡ true
-  pub numbers : numbersOk (o .kind) (o .a) (o .b) ≡ true
+  pub factor : factorOk (o .kind) (o .a) ≡ true
   pub none : targetsOk (o .kind) (o .targets .count) ≡ true
   pub targets : keysOk true (o .targets) ≡ true
   pub labels : labelsOk (mostOf (o .kind)) (o .labels) ≡ true
@@ -149,7 +149,7 @@ op-facts n prev o e =
     let e2 = and-right (follows prev (taggedOf o)) _ e1 in
     let e3 = and-right (leb (o .kind) 7) _ e2 in
     let e4 = and-right (operandOk (o .kind) (o .key)) _ e3 in
-    let e5 = and-right (numbersOk (o .kind) (o .a) (o .b)) _ e4 in
+    let e5 = and-right (factorOk (o .kind) (o .a)) _ e4 in
     let e6 = and-right (targetsOk (o .kind) (o .targets .count)) _ e5 in
     let e7 = and-right (keysOk true (o .targets)) _ e6 in
     let e8 = and-right (labelsOk (mostOf (o .kind)) (o .labels)) _ e7 in
@@ -158,7 +158,7 @@ op-facts n prev o e =
       next = and-left _ _ e1;
       kind = and-left _ _ e2;
       operand = and-left _ _ e3;
-      numbers = and-left _ _ e4;
+      factor = and-left _ _ e4;
       none = and-left _ _ e5;
       targets = and-left _ _ e6;
       labels = and-left _ _ e7;
@@ -168,7 +168,7 @@ op-facts n prev o e =
 
 pub op-passes : (n prev : ℕ) (o : OpRecord) → OpFacts n prev o → opOk n prev o ≡ true
 unfolding opOk
-op-passes n prev o f = rw (f .place, f .next, f .kind, f .operand, f .numbers, f .none, f .targets, f .labels, f .opens) (f .spare)
+op-passes n prev o f = rw (f .place, f .next, f .kind, f .operand, f .factor, f .none, f .targets, f .labels, f .opens) (f .spare)
 
 pub flag-kept : (x : ℕ) → x ≤ 1 → cond (eqb x 1) 1 0 ≡ x
 flag-kept zero h = refl
@@ -193,7 +193,7 @@ module _ (n prev : ℕ) (o : OpRecord) (fit : FitOp o) (e : opOk n prev o ≡ tr
   lgood = labels-good (mostOf (o .kind)) (most-four (o .kind)) (o .labels) (fit .labels) (facts .labels)
 
   agood : (o .kind ≡ 0 → ⊥) → ActGood (o .kind) (o .key) (o .a) (o .b)
-  agood nz = act-good (o .kind) (o .key) (o .a) (o .b) (fit .a) (fit .b) nz (facts .kind) (facts .operand) (facts .numbers)
+  agood nz = act-good (o .kind) (o .key) (o .a) (o .b) (fit .a) (fit .b) nz (facts .kind) (facts .operand) (facts .factor)
 
   pub call-valid : ValidCall (decodedCall o)
   call-valid = by-bool (eqb (o .kind) 0) (λ q. rw q (fit .b)) (λ q. rw q (valid (agood (eqb-false (o .kind) 0 q))))
@@ -234,10 +234,10 @@ module _ (n prev : ℕ) (o : OpRecord) (fit : FitOp o) (e : opOk n prev o ≡ tr
   add-parts q =
       let kind : o .kind ≡ 0 = eqb-true (o .kind) 0 q in
       let op : operandOk 0 (o .key) ≡ true = subst (λ (k : ℕ). operandOk k (o .key) ≡ true) kind (facts .operand) in
-      let nu : numbersOk 0 (o .a) (o .b) ≡ true = subst (λ (k : ℕ). numbersOk k (o .a) (o .b) ≡ true) kind (facts .numbers) in
+      let factor : factorOk 0 (o .a) ≡ true = subst (λ (k : ℕ). factorOk k (o .a) ≡ true) kind (facts .factor) in
       let none : targetsOk 0 (o .targets .count) ≡ true = subst (λ (k : ℕ). targetsOk k (o .targets .count) ≡ true) kind (facts .none) in
       made (fields 0 0 0 (o .b)) [] (getD (o .labels .label) 0 0 ∷ [])
-      (λ i. fields (sym kind i) (sym (eqb-true (o .key) 0 op) i) (sym (eqb-true (o .a) 0 (and-left _ _ nu)) i) (o .b))
+      (λ i. fields (sym kind i) (sym (eqb-true (o .key) 0 op) i) (sym (eqb-true (o .a) 0 factor) i) (o .b))
       (ap packed (no-keys (o .targets .key) (o .targets .count) (eqb-true (o .targets .count) 0 none)) ∙ keys-packed true (o .targets) (fit .targets) (facts .targets))
       (ap packedLabels (one-label (o .labels .label) (o .labels .count) (one-count q) (omega (arith, fit .labels .places)))
       ∙ labels-packed (mostOf (o .kind)) (most-four (o .kind)) (o .labels) (fit .labels) (facts .labels))
@@ -255,7 +255,7 @@ record FieldsGood (a : Act) (h : ℕ) (f : Fields) : Type 0 where
   kind : leb (f .kind) 7 ≡ true
   other : eqb (f .kind) 0 ≡ false
   operand : operandOk (f .kind) (f .key) ≡ true
-  numbers : numbersOk (f .kind) (f .a) (f .b) ≡ true
+  factor : factorOk (f .kind) (f .a) ≡ true
   act : actOf (f .kind) (f .key) (f .a) (f .b) ≡ a
   held : heldOf (f .kind) (f .b) ≡ h
   most : mostLabels a ≡ mostOf (f .kind)
@@ -263,13 +263,13 @@ record FieldsGood (a : Act) (h : ℕ) (f : Fields) : Type 0 where
   small-b : f .b < modulus
 
 fields-good : (a : Act) (h : ℕ) → ValidAct a → ValidHeld a h → FieldsGood a h (fieldsOf a h)
-fields-good (Map m) h v w = record { kind = refl; other = refl; operand = refl; numbers = refl; act = refl; held = sym w; most = refl; small-a = v .0; small-b = v .1 }
-fields-good (Link k) h v w = record { kind = refl; other = refl; operand = v; numbers = refl; act = refl; held = refl; most = refl; small-a = omega arith; small-b = w }
-fields-good (Unlink k) h v w = record { kind = refl; other = refl; operand = v; numbers = eq-eqb h 0 w; act = refl; held = refl; most = refl; small-a = omega arith; small-b = omega arith }
-fields-good Sum h v w = record { kind = refl; other = refl; operand = refl; numbers = refl; act = refl; held = refl; most = refl; small-a = omega arith; small-b = w }
-fields-good Top h v w = record { kind = refl; other = refl; operand = refl; numbers = refl; act = refl; held = refl; most = refl; small-a = omega arith; small-b = w }
-fields-good Pick h v w = record { kind = refl; other = refl; operand = refl; numbers = refl; act = refl; held = refl; most = refl; small-a = omega arith; small-b = w }
-fields-good (Near k) h v w = record { kind = refl; other = refl; operand = v; numbers = refl; act = refl; held = refl; most = refl; small-a = omega arith; small-b = w }
+fields-good (Map m) h v w = record { kind = refl; other = refl; operand = refl; factor = refl; act = refl; held = sym w; most = refl; small-a = v .0; small-b = v .1 }
+fields-good (Link k) h v w = record { kind = refl; other = refl; operand = v; factor = refl; act = refl; held = refl; most = refl; small-a = omega arith; small-b = w }
+fields-good (Unlink k) h v w = record { kind = refl; other = refl; operand = v; factor = refl; act = refl; held = refl; most = refl; small-a = omega arith; small-b = w }
+fields-good Sum h v w = record { kind = refl; other = refl; operand = refl; factor = refl; act = refl; held = refl; most = refl; small-a = omega arith; small-b = w }
+fields-good Top h v w = record { kind = refl; other = refl; operand = refl; factor = refl; act = refl; held = refl; most = refl; small-a = omega arith; small-b = w }
+fields-good Pick h v w = record { kind = refl; other = refl; operand = refl; factor = refl; act = refl; held = refl; most = refl; small-a = omega arith; small-b = w }
+fields-good (Near k) h v w = record { kind = refl; other = refl; operand = v; factor = refl; act = refl; held = refl; most = refl; small-a = omega arith; small-b = w }
 
 -- the labels of a call fit two bytes
 abbrev pub Small : List ℕ → Type 0
@@ -321,7 +321,7 @@ record-good p b (addOf l v) h =
             next = y;
             kind = refl;
             operand = refl;
-            numbers = refl;
+            factor = refl;
             none = refl;
             targets = packed-ok true [] no-targets;
             labels = packed-labels-ok 1 (omega arith) (l ∷ []) (one-good l);
@@ -349,7 +349,7 @@ record-good p b (opOf o) h = made (fields-good (o .act) (o .held) (h .act) (h .h
                 next = y;
                 kind = g .kind;
                 operand = g .operand;
-                numbers = g .numbers;
+                factor = g .factor;
                 none = rw (g .other);
                 targets = packed-ok true (o .targets) tg;
                 labels = packed-labels-ok (mostOf (f .kind)) (most-four (f .kind)) (o .labels) lg;

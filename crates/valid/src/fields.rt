@@ -6,7 +6,7 @@ ghost use Prim.Native.Nat.{_+_, _*_, _%_, _^_, _≤_};
 ghost use lib.ListN.{length};
 ghost use Rattle.records.specs.Inner.Numbers.{keysAt};
 ghost use Rattle.records.specs.Inner.Decoded.{labelsAt};
-ghost use Rattle.valid.specs.Inner.Tests.{keysOk, labelsOk, takesKey, operandOk, numbersOk, mostOf, targetsOk};
+ghost use Rattle.valid.specs.Inner.Tests.{keysOk, labelsOk, takesKey, operandOk, factorOk, mostOf, targetsOk};
 
 // The greatest number of n bytes.
 fn most_in(n: u8) -> u64
@@ -101,16 +101,11 @@ pub fn operand_ok(kind: u8, key: u8) -> bool
     }
 }
 
-pub fn numbers_ok(kind: u8, a: u32, b: u32) -> bool
-    ensures { λ r. ⌜ r ≡ numbersOk kind a b ⌝ }
+// Only a map has a factor, its `a`.
+pub fn factor_ok(kind: u8, a: u32) -> bool
+    ensures { λ r. ⌜ r ≡ factorOk kind a ⌝ }
 {
-    if kind == 1 {
-        return true;
-    }
-    if a != 0 {
-        return false;
-    }
-    if kind == 3 { b == 0 } else { true }
+    if kind == 1 { true } else { a == 0 }
 }
 
 pub fn most_of(kind: u8) -> u8

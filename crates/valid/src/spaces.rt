@@ -3,6 +3,7 @@ use image::read::node_count;
 use image::read::op_count;
 use image::read::result_count;
 use records::bytes::all_zero;
+use records::head::VERSION;
 ghost use Rattle.image.specs.Inner.Regions.{Sound, Canonical};
 ghost use Rattle.valid.specs.Inner.Exact.{Decides};
 
@@ -28,7 +29,7 @@ pub fn is_canonical(image: &[u8]) -> bool
     let n = 16 + 16 * node_count(image);
     let o = 1040 + 32 * op_count(image);
     let r = 3088 + 16 * result_count(image);
-    if image[0] != 1 {
+    if image[0] != VERSION {
         return false;
     }
     if !all_zero(&image[6..16]) {

@@ -177,11 +177,10 @@ fn noise(random: &mut Random, length: usize) -> Vec<u8> {
         false => 0,
     };
     let mut bytes: Vec<u8> = (0..length).map(&mut byte).collect();
-    let head: Vec<u8> = [1, 65, 65, 65, 255, 255]
-        .map(|bound| 1.max(random.below(bound)) as u8)
-        .into();
-    if length >= head.len() && random.once_in(2) {
-        bytes[..head.len()].copy_from_slice(&head);
+    let counts = [65, 65, 65, 255, 255].map(|bound| 1.max(random.below(bound)) as u8);
+    if length > counts.len() && random.once_in(2) {
+        bytes[0] = image(&Session::open())[0];
+        bytes[1..=counts.len()].copy_from_slice(&counts);
     }
     bytes
 }

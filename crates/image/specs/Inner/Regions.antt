@@ -7,6 +7,7 @@ use lib.ListN.{length, getD, take, drop}
 use Rattle.records.specs.declared.node.NodeRecord.{NodeRecord}
 use Rattle.records.specs.declared.op.OpRecord.{OpRecord}
 use Rattle.records.specs.declared.result.ResultRecord.{ResultRecord}
+use Rattle.records.specs.Records.{imageVersion}
 use Rattle.records.specs.Inner.Numbers.{le16, chunk, tab}
 use Rattle.records.specs.Inner.Decoded.{decodeNode, decodeOp, decodeResult}
 use Rattle.image.specs.Layout.{View}
@@ -56,9 +57,9 @@ pub record Sound (s : List ℕ) : Type 0 where
 abbrev pub Zeros : List ℕ → ℕ → ℕ → Type 0
 Zeros s a b = (i : ℕ) → a ≤ i → i < b → getD s i 0 ≡ 0
 
--- the version is 1, and whatever no record uses is zero
+-- the version is that of today, and whatever no record uses is zero
 pub record Canonical (s : List ℕ) : Type 0 where
-  pub version : getD s 0 0 ≡ 1
+  pub version : getD s 0 0 ≡ imageVersion
   pub head : Zeros s 6 16
   pub nodes : Zeros s (place nodeRegion (length (view s .nodes))) (place nodeRegion 64)
   pub ops : Zeros s (place opRegion (length (view s .ops))) (place opRegion 64)

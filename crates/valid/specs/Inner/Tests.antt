@@ -53,9 +53,9 @@ takesKey kind = eqb kind 2 || (eqb kind 3 || eqb kind 7)
 abbrev pub operandOk : ℕ → ℕ → Bool
 operandOk kind key = cond (takesKey kind) (isKey key) (eqb key 0)
 
--- only a map has an `a`; unlink holds nothing
-abbrev pub numbersOk : ℕ → ℕ → ℕ → Bool
-numbersOk kind a b = cond (eqb kind 1) true (eqb a 0 && cond (eqb kind 3) (eqb b 0) true)
+-- only a map has a factor, its `a`
+abbrev pub factorOk : ℕ → ℕ → Bool
+factorOk kind a = cond (eqb kind 1) true (eqb a 0)
 
 -- only maps have several labels
 abbrev pub mostOf : ℕ → ℕ
@@ -71,7 +71,7 @@ opOk n prev o =
     && (follows prev (taggedOf o)
     && (leb (o .kind) 7
     && (operandOk (o .kind) (o .key)
-    && (numbersOk (o .kind) (o .a) (o .b)
+    && (factorOk (o .kind) (o .a)
     && (targetsOk (o .kind) (o .targets .count)
     && (keysOk true (o .targets)
     && (labelsOk (mostOf (o .kind)) (o .labels)

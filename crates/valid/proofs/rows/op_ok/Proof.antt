@@ -11,20 +11,20 @@ use borrow.Author.Tests.{le-leb, lt-leb, not-true, not-false}
 use Rattle.flat.specs.Inner.Queues.{placed, follows}
 use Rattle.records.specs.Inner.Decoded.{decodeOp, labelsAt}
 use Rattle.valid.specs.Inner.Decoded.{taggedOf}
-use Rattle.valid.specs.Inner.Tests.{opOk, operandOk, numbersOk, targetsOk, keysOk, labelsOk, mostOf}
+use Rattle.valid.specs.Inner.Tests.{opOk, operandOk, factorOk, targetsOk, keysOk, labelsOk, mostOf}
 use Rattle.valid.proofs.Turns.{none-at, yes-test}
 use borrow.Author.Needs.{needs}
 use Rattle.valid.proofs.rows.op_ok.Statement.{statement}
 use Rattle.valid.proofs.rows.op_ok.Tie as tie
 
 abbrev start : tie.After-most-of → tie.Start
-start c = c .before .before .before .before .before .before .before .before .before .before .before .before .before .before .before .before .before .before .before .before
+start c = c .before .before .before .before .before .before .before .before .before .before .before .before .before .before .before .before .before .before .before
 
 -- the ten tests, in the order of `opOk`
 abbrev tests : tie.Start → List Bool
 tests s =
     let o = decodeOp (s .args .r .now) in
-    placed (s .args .n) (taggedOf o) ∷ follows (s .args .prev) (taggedOf o) ∷ leb (o .kind) 7 ∷ operandOk (o .kind) (o .key) ∷ numbersOk (o .kind) (o .a) (o .b) ∷ targetsOk (o .kind) (o .targets .count)
+    placed (s .args .n) (taggedOf o) ∷ follows (s .args .prev) (taggedOf o) ∷ leb (o .kind) 7 ∷ operandOk (o .kind) (o .key) ∷ factorOk (o .kind) (o .a) ∷ targetsOk (o .kind) (o .targets .count)
     ∷ keysOk true (o .targets) ∷ labelsOk (mostOf (o .kind)) (o .labels) ∷ leb (o .opens) 1 ∷ eqb (o .spare) 0 ∷ []
 
 fails : (s : tie.Start) (k : ℕ) → getD (tests s) k true ≡ false → false ≡ opOk (s .args .n) (s .args .prev) (decodeOp (s .args .r .now))
@@ -72,18 +72,15 @@ returns-4 c = fails (c .before .before .before .before .before .before .before .
 u32-at-requires : tie.Need-u32-at-requires
 u32-at-requires c κs = search needs
 
-u32-at-requires-2 : tie.Need-u32-at-requires-2
-u32-at-requires-2 c κs = search needs
-
-numbers-ok-requires : tie.Need-numbers-ok-requires
-numbers-ok-requires c κs = search needs
+factor-ok-requires : tie.Need-factor-ok-requires
+factor-ok-requires c κs = search needs
 
 returns-5 : tie.Need-returns-5
 unfolding decodeOp
 returns-5 c =
-    let s = c .before .before .before .before .before .before .before .before .before .before .before .before .before .before in
+    let s = c .before .before .before .before .before .before .before .before .before .before .before .before .before in
     let n = c .before in
-    fails s 4 (sym (n .numbers-ok .ensures ∙ (λ i. numbersOk (getD (s .args .r .now) 2 0) (n .before .before .u32-at .ensures i) (n .before .u32-at2 .ensures i))) ∙ not-true _ (c .if5 .taken))
+    fails s 4 (sym (n .factor-ok .ensures ∙ ap (factorOk (getD (s .args .r .now) 2 0)) (n .before .u32-at .ensures)) ∙ not-true _ (c .if5 .taken))
 
 shared-slice-read-targets-ok : tie.Need-shared-slice-read-targets-ok
 shared-slice-read-targets-ok c = search needs
@@ -93,14 +90,14 @@ targets-ok-requires c κs = search needs
 
 returns-6 : tie.Need-returns-6
 unfolding decodeOp
-returns-6 c = fails (c .before .before .before .before .before .before .before .before .before .before .before .before .before .before .before .before .before) 5 (sym (c .before .targets-ok .ensures) ∙ not-true _ (c .if6 .taken))
+returns-6 c = fails (c .before .before .before .before .before .before .before .before .before .before .before .before .before .before .before .before) 5 (sym (c .before .targets-ok .ensures) ∙ not-true _ (c .if6 .taken))
 
 keys-ok-requires : tie.Need-keys-ok-requires
 keys-ok-requires c κs = search needs
 
 returns-7 : tie.Need-returns-7
 unfolding decodeOp
-returns-7 c = fails (c .before .before .before .before .before .before .before .before .before .before .before .before .before .before .before .before .before .before .before) 6 (sym (c .before .keys-ok .ensures) ∙ not-true _ (c .if7 .taken))
+returns-7 c = fails (c .before .before .before .before .before .before .before .before .before .before .before .before .before .before .before .before .before .before) 6 (sym (c .before .keys-ok .ensures) ∙ not-true _ (c .if7 .taken))
 
 most-of-requires : tie.Need-most-of-requires
 most-of-requires c κs = search needs
@@ -111,7 +108,7 @@ labels-ok-requires c κs = (omega (arith, start c .pre), omega (arith, c .most-o
 returns-8 : tie.Need-returns-8
 unfolding decodeOp
 returns-8 c =
-    let s = c .before .before .before .before .before .before .before .before .before .before .before .before .before .before .before .before .before .before .before .before .before .before in
+    let s = c .before .before .before .before .before .before .before .before .before .before .before .before .before .before .before .before .before .before .before .before .before in
     let l = c .before in
     fails s 7 (sym (l .labels-ok .ensures ∙ ap (λ (m : ℕ). labelsOk m (labelsAt (s .args .r .now) 21)) (l .before .most-of .ensures)) ∙ not-true _ (c .if8 .taken))
 
@@ -120,7 +117,7 @@ shared-slice-read-if9 c = search needs
 
 returns-9 : tie.Need-returns-9
 unfolding decodeOp
-returns-9 c = fails (c .before .before .before .before .before .before .before .before .before .before .before .before .before .before .before .before .before .before .before .before .before .before .before .before) 8 (lt-leb _ 1 (c .if9 .taken))
+returns-9 c = fails (c .before .before .before .before .before .before .before .before .before .before .before .before .before .before .before .before .before .before .before .before .before .before .before) 8 (lt-leb _ 1 (c .if9 .taken))
 
 u16-at-requires : tie.Need-u16-at-requires
 u16-at-requires c κs = search needs
@@ -137,7 +134,7 @@ returns-10 c =
     let t = e6 .before in
     let e5 = t .before .before in
     let n = e5 .before in
-    let e4 = n .before .before .before in
+    let e4 = n .before .before in
     let o = e4 .before in
     let e3 = o .before .before in
     let e2 = e3 .before in
@@ -149,7 +146,7 @@ returns-10 c =
     (yes-test (sym (f .follows-ok .ensures) ∙ not-false _ (e2 .if2 .left))
     (yes-test (le-leb _ 7 (e3 .if3 .left))
     (yes-test (sym (o .operand-ok .ensures) ∙ not-false _ (e4 .if4 .left))
-    (yes-test (sym (n .numbers-ok .ensures ∙ (λ i. numbersOk (getD r 2 0) (n .before .before .u32-at .ensures i) (n .before .u32-at2 .ensures i))) ∙ not-false _ (e5 .if5 .left))
+    (yes-test (sym (n .factor-ok .ensures ∙ ap (factorOk (getD r 2 0)) (n .before .u32-at .ensures)) ∙ not-false _ (e5 .if5 .left))
     (yes-test (sym (t .targets-ok .ensures) ∙ not-false _ (e6 .if6 .left))
     (yes-test (sym (k .keys-ok .ensures) ∙ not-false _ (e7 .if7 .left))
     (yes-test (sym (l .labels-ok .ensures ∙ ap (λ (m : ℕ). labelsOk m (labelsAt r 21)) (l .before .most-of .ensures)) ∙ not-false _ (e8 .if8 .left))
@@ -169,8 +166,7 @@ op-ok-spec =
     operand-ok-requires
     returns-4
     u32-at-requires
-    u32-at-requires-2
-    numbers-ok-requires
+    factor-ok-requires
     returns-5
     shared-slice-read-targets-ok
     targets-ok-requires

@@ -1,0 +1,14 @@
+-- `fields::factor_ok` meets its contract.
+-- Assumes nothing.
+use borrow.Author.Tests.{eq-eqb, ne-eqb}
+use Rattle.valid.proofs.fields.factor_ok.Statement.{statement}
+use Rattle.valid.proofs.fields.factor_ok.Tie as tie
+
+returns : tie.Need-returns
+returns c = simp (eq-eqb _ _ (c .if1 .taken))
+
+returns-2 : tie.Need-returns-2
+returns-2 c = simp (ne-eqb _ _ (c .if1 .left))
+
+pub factor-ok-spec : {M : Type 1} → statement M
+factor-ok-spec = tie.close (tie.spec returns returns-2)
