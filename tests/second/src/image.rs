@@ -12,7 +12,7 @@ use crate::steps::LABELS;
 /// Every image has this length.
 pub const IMAGE_BYTES: usize = 4112;
 
-const VERSION: u8 = 1;
+const VERSION: u8 = 2;
 const NODES_AT: usize = 16;
 const NODE_BYTES: usize = 16;
 const OPERATIONS_AT: usize = 1040;
@@ -85,7 +85,7 @@ fn valid_operation(operation: &Operation) -> bool {
         _ => 1,
     };
     let operand = match operation.act {
-        Act::Link { key, .. } | Act::Unlink { key } | Act::Near { key, .. } => is_key(key),
+        Act::Link { key, .. } | Act::Unlink { key, .. } | Act::Near { key, .. } => is_key(key),
         _ => true,
     };
     (1..=most).contains(&operation.labels.len()) && operand && target_list(&operation.targets)
@@ -197,7 +197,7 @@ impl Record {
         let (kind, operand, a, b) = match operation.act {
             Act::Map { a, b } => (MAP, 0, a, b),
             Act::Link { key, full } => (LINK, key, 0, full),
-            Act::Unlink { key } => (UNLINK, key, 0, 0),
+            Act::Unlink { key, removed } => (UNLINK, key, 0, removed),
             Act::Sum { held } => (SUM, 0, 0, held),
             Act::Top { held } => (TOP, 0, 0, held),
             Act::Pick { held } => (PICK, 0, 0, held),
@@ -255,7 +255,7 @@ impl Record {
                 b: self.b,
             },
             LINK => Act::Link { key, full: held },
-            UNLINK => Act::Unlink { key },
+            UNLINK => Act::Unlink { key, removed: held },
             SUM => Act::Sum { held },
             TOP => Act::Top { held },
             PICK => Act::Pick { held },

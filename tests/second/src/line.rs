@@ -130,7 +130,10 @@ impl Verb {
                 key: key(number)?,
                 full: 0,
             },
-            Verb::Unlink { key: number } => Act::Unlink { key: key(number)? },
+            Verb::Unlink { key: number } => Act::Unlink {
+                key: key(number)?,
+                removed: 0,
+            },
             Verb::Sum { start } => Act::Sum { held: start },
             Verb::Top { start } => Act::Top { held: start },
             Verb::Pick { start } => Act::Pick { held: start },

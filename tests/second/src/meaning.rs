@@ -65,12 +65,15 @@ fn visit_all<'a>(act: &Act, targets: impl Iterator<Item = &'a mut Node>) -> u32 
             }
             full
         }
-        Act::Unlink { key } => {
+        Act::Unlink { key, .. } => {
+            let mut removed = 0;
             for node in targets {
-                let kept = node.links.iter().filter(|&&link| link != key);
-                node.links = kept.copied().collect();
+                let (copies, kept): (Vec<u8>, Vec<u8>) =
+                    node.links.iter().partition(|&&link| link == key);
+                node.links = kept;
+                removed += copies.len() as u64;
             }
-            0
+            modulo(removed)
         }
         Act::Sum { held } => sum(held, targets),
         Act::Near { key, held } => sum(held, targets.filter(|node| node.links.contains(&key))),

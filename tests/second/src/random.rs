@@ -45,10 +45,14 @@ pub struct Scribe {
     pub random: Random,
     /// One call in so many is an add.
     adds: u64,
+    /// From so many nodes on, adds are rare; calls get through few nodes without a drain.
+    nodes: usize,
     /// Out of about 40 lines so many are claims, more where results have piled up.
     claims: u64,
     /// One visiting call in so many is a link to the same two nodes, until lists are full.
     links: u64,
+    /// One other visiting call in so many is an unlink there, where lists hold something.
+    unlinks: u64,
 }
 
 impl Scribe {
@@ -56,8 +60,10 @@ impl Scribe {
         let mut random = Random::new(seed);
         Scribe {
             adds: random.choose(&[2, 6, 12, 40]),
+            nodes: random.choose(&[3, 6, 65]),
             claims: random.choose(&[1, 3, 9]),
-            links: random.choose(&[2, 20, 100]),
+            links: random.choose(&[2, 3, 20, 100]),
+            unlinks: random.choose(&[2, 4, 40]),
             random,
         }
     }
@@ -69,8 +75,8 @@ impl Scribe {
         let claims = if many { 4 * self.claims } else { self.claims };
         let mut line = match self.random.below(40 + claims) {
             0..=12 => self.call_line(session),
-            13..=27 => self.useful_step_line(session),
-            28..=38 => self.step_line(session),
+            13..=31 => self.useful_step_line(session),
+            32..=38 => self.step_line(session),
             39 if self.random.once_in(3) => String::from("step=drain"),
             39 => String::from("step=admit"),
             _ => self.claim_line(session),
@@ -85,12 +91,23 @@ impl Scribe {
     /// A call line of a good form.
     pub fn call_line(&mut self, session: &Session) -> String {
         let random = &mut self.random;
-        let few_nodes = session.stations.len() < 3;
-        if random.once_in(if few_nodes { 3 } else { self.adds }) {
+        let adds = match session.stations.len() {
+            0..=2 => 3,
+            nodes if nodes < self.nodes => self.adds,
+            _ => 100,
+        };
+        if random.once_in(adds) {
             return format!("call=add value={}", value(random));
         }
         if random.once_in(self.links) {
-            return format!("call=link key={} to=1,2", 1 + random.below(3));
+            return format!("call=link key={} to=1,2", few_key(random));
+        }
+        let enough = random.choose(&[1, 3, 8]);
+        let mut nodes = session.stations.iter().map(|station| &station.node);
+        let linked = nodes.any(|node| node.links.len() >= enough);
+        if linked && random.once_in(self.unlinks) {
+            let to = random.choose(&["1", "2", "1,2", "1,2", "1,2,64"]);
+            return format!("call=unlink key={} to={to}", few_key(random));
         }
         let last = last_targets(session).filter(|_| random.once_in(3));
         if let Some(targets) = last {
@@ -100,13 +117,13 @@ impl Scribe {
         let to = target_text(random, session);
         match random.below(9) {
             0..=2 => format!("call=map a={} b={} to={to}", value(random), value(random)),
-            3 => format!("call=link key={} to={to}", key(random, session)),
-            4 => format!("call=unlink key={} to={to}", key(random, session)),
+            3 => format!("call=link key={} to={to}", link_key(random, session)),
+            4 => format!("call=unlink key={} to={to}", link_key(random, session)),
             5 => format!("call=sum start={} to={to}", value(random)),
             6 => format!("call=top start={} to={to}", value(random)),
             7 => format!("call=pick start={} to={to}", value(random)),
             _ => {
-                let key = key(random, session);
+                let key = link_key(random, session);
                 format!("call=near key={key} start={} to={to}", value(random))
             }
         }
@@ -124,7 +141,7 @@ impl Scribe {
         let station = random.choose(&busy);
         let at = station.node.key;
         let any = random.below(station.streamlet.len() as u64) as usize;
-        match random.below(10) {
+        match random.below(14) {
             0 => format!("step=join at={at} unit={}", any + 1),
             1 | 2 => {
                 let long = |unit: usize| station.streamlet[unit].len() > 1;
@@ -243,6 +260,20 @@ fn key(random: &mut Random, session: &Session) -> u64 {
         0 => random.choose(&[0, 65, 66, 256, 4_294_967_295]),
         1 | 2 => 1 + random.below(64),
         _ => 1 + random.below(session.stations.len() as u64 + 2),
+    }
+}
+
+/// One of three keys, so that a list gets copies of it.
+fn few_key(random: &mut Random) -> u64 {
+    random.choose(&[1, 1, 2, 3])
+}
+
+/// An operand key: every second one out of few, so that links, unlinks and nears meet.
+fn link_key(random: &mut Random, session: &Session) -> u64 {
+    if random.once_in(2) {
+        few_key(random)
+    } else {
+        key(random, session)
     }
 }
 

@@ -20,24 +20,27 @@ fn after(lines: &[&str]) -> Session {
     session
 }
 
-/// Nodes 1 to 3, two with links; at station 2 a unit of two operations, a fused map
-/// at station 3, two calls waiting, results 1 to 3.
+/// Nodes 1 to 3, two with links; at station 2 a unit of a sum and an unlink that has
+/// removed two copies, a fused map at station 3, two calls waiting, results 1 to 3.
 pub fn rich() -> Image {
     image(&after(&[
         "call=add value=5",
         "call=add value=7",
         "call=add value=258",
         "step=drain",
-        "call=link key=2 to=1,2",
+        "call=link key=2 to=1,2,3",
+        "call=link key=2 to=3",
         "call=link key=64 to=1,2",
         "step=drain",
         "claim=4",
         "claim=5",
+        "claim=6",
         "call=sum start=10 to=1,2,9",
-        "call=unlink key=2 to=1",
+        "call=unlink key=2 to=1,3",
         "step=admit",
         "step=admit",
         "step=join at=3 unit=1",
+        "step=realise at=3",
         "step=move at=3",
         "call=map a=3 b=4 to=1,3",
         "call=map a=2 b=1 to=1,3",
@@ -112,7 +115,12 @@ const fn operation(index: usize, place: usize) -> usize {
 /// Places and bytes of the rich image.
 const CHANGES: &[(&str, &[(usize, u8)])] = &[
     ("version", &[(0, 0)]),
-    ("version", &[(0, 2)]),
+    ("version", &[(0, 1)]),
+    ("version", &[(0, 3)]),
+    (
+        "version 1, whose unlinks hold 0",
+        &[(0, 1), (operation(1, 8), 0)],
+    ),
     ("a node fewer", &[(1, 2)]),
     ("a node more", &[(1, 4)]),
     ("65 nodes", &[(1, 65)]),
@@ -123,7 +131,7 @@ const CHANGES: &[(&str, &[(usize, u8)])] = &[
     ("a result fewer", &[(3, 2)]),
     ("a result more", &[(3, 4)]),
     ("65 results", &[(3, 65)]),
-    ("last label below a live one", &[(4, 10)]),
+    ("last label below a live one", &[(4, 11)]),
     ("key of another", &[(NODE + 4, 2)]),
     ("keys rise", &[(NODE + 4, 2), (NODE + 16 + 4, 1)]),
     ("key 0", &[(NODE + 4, 0)]),
@@ -155,9 +163,12 @@ const CHANGES: &[(&str, &[(usize, u8)])] = &[
     ("operand 65", &[(operation(3, 3), 65)]),
     ("a of a sum", &[(operation(0, 4), 1)]),
     ("a of an unlink", &[(operation(1, 7), 1)]),
+    (
+        "an unlink's count in a",
+        &[(operation(1, 4), 2), (operation(1, 8), 0)],
+    ),
     ("a of a near", &[(operation(3, 4), 1)]),
     ("a of an add", &[(operation(4, 4), 1)]),
-    ("b of an unlink", &[(operation(1, 8), 1)]),
     ("nine targets", &[(operation(0, 12), 9)]),
     ("a target too few", &[(operation(0, 12), 4)]),
     ("a target past the count", &[(operation(0, 12), 2)]),
@@ -179,20 +190,24 @@ const CHANGES: &[(&str, &[(usize, u8)])] = &[
         &[(operation(0, 21), 2), (operation(0, 24), 4)],
     ),
     (
+        "an unlink of two labels",
+        &[(operation(1, 21), 2), (operation(1, 24), 4)],
+    ),
+    (
         "an add of two labels",
         &[(operation(4, 21), 2), (operation(4, 24), 4)],
     ),
     ("five labels", &[(operation(2, 21), 5)]),
     ("label 0", &[(operation(0, 22), 0)]),
-    ("a label above the last", &[(operation(0, 22), 12)]),
+    ("a label above the last", &[(operation(0, 22), 13)]),
     ("a label far above the last", &[(operation(0, 23), 1)]),
-    ("a label twice in a map", &[(operation(2, 24), 8)]),
-    ("a label twice in operations", &[(operation(0, 22), 7)]),
+    ("a label twice in a map", &[(operation(2, 24), 9)]),
+    ("a label twice in operations", &[(operation(0, 22), 8)]),
     (
         "a label in an operation and a result",
         &[(operation(0, 22), 3)],
     ),
-    ("an add's label twice", &[(operation(4, 22), 10)]),
+    ("an add's label twice", &[(operation(4, 22), 11)]),
     ("a label past the count", &[(operation(0, 24), 4)]),
     ("zero after the labels", &[(operation(0, 30), 1)]),
     ("zero after the labels", &[(operation(4, 31), 1)]),
@@ -201,7 +216,7 @@ const CHANGES: &[(&str, &[(usize, u8)])] = &[
     ("label 0", &[(RESULT, 0)]),
     ("labels fall", &[(RESULT, 4)]),
     ("a label twice", &[(RESULT, 2)]),
-    ("a label above the last", &[(RESULT + 32, 12)]),
+    ("a label above the last", &[(RESULT + 32, 13)]),
     ("nine left", &[(RESULT + 6, 9)]),
     ("left 0", &[(RESULT + 6, 1)]),
     ("left 65", &[(RESULT + 6, 1), (RESULT + 7, 65)]),

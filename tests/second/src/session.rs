@@ -55,7 +55,7 @@ pub struct Operation {
 pub enum Act {
     Map { a: u32, b: u32 },
     Link { key: u8, full: u32 },
-    Unlink { key: u8 },
+    Unlink { key: u8, removed: u32 },
     Sum { held: u32 },
     Top { held: u32 },
     Pick { held: u32 },

@@ -331,7 +331,13 @@ impl Act {
                     *full = full.wrapping_add(1);
                 }
             }
-            Act::Unlink { key } => node.links.retain(|link| link != key),
+            Act::Unlink { key, removed } => {
+                let before = node.links.len();
+                node.links.retain(|link| link != key);
+                let copies = before - node.links.len();
+                // No run needs the wrapping, but an image may hold any count.
+                *removed = removed.wrapping_add(copies as u32);
+            }
             Act::Sum { held } => *held = held.wrapping_add(node.value),
             Act::Top { held } => *held = node.value.max(*held),
             Act::Pick { held } => *held = node.value,
@@ -346,8 +352,9 @@ impl Act {
     /// The result's value, should the operation finish now.
     fn result(&self) -> u32 {
         match self {
-            Act::Map { .. } | Act::Unlink { .. } => 0,
+            Act::Map { .. } => 0,
             Act::Link { full, .. } => *full,
+            Act::Unlink { removed, .. } => *removed,
             Act::Sum { held } | Act::Top { held } | Act::Pick { held } => *held,
             Act::Near { held, .. } => *held,
         }

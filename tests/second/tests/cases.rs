@@ -146,6 +146,122 @@ fn p_link_twice_and_unlink() {
     let link = "call=link key=2 to=1";
     let desk = drained(&["call=add value=5", link, link, "call=unlink key=2 to=1"]);
     assert!(desk.node(1).links.is_empty());
+    assert_eq!(desk.result(4), (2, &[][..]));
+}
+
+#[test]
+fn an_unlink_counts_the_copies_of_its_key() {
+    for copies in 0..=8 {
+        let mut lines = vec!["call=add value=5"];
+        lines.extend(vec!["call=link key=2 to=1"; copies]);
+        lines.extend(vec!["call=link key=9 to=1"; 8 - copies]);
+        lines.extend(["call=unlink key=2 to=1"; 2]);
+        let desk = drained(&lines);
+        assert_eq!(desk.result(10), (copies as u32, &[][..]));
+        assert_eq!(desk.result(11), (0, &[][..])); // none are left to remove
+        assert_eq!(desk.node(1).links, vec![9; 8 - copies]);
+    }
+}
+
+/// Three copies: two at node 3, one at node 1. Node 2 has none, node 9 is missing, and
+/// node 4 is no target.
+#[test]
+fn an_unlink_counts_over_all_its_targets() {
+    let mut lines = vec!["call=add value=5"; 4];
+    lines.push("call=link key=7 to=1,3,4");
+    lines.push("call=link key=8 to=1,2,3");
+    lines.push("call=link key=7 to=3,4");
+    lines.push("call=link key=7 to=4");
+    lines.push("call=unlink key=7 to=1,2,3,9");
+    let desk = drained(&lines);
+    assert_eq!(desk.result(9), (3, &[9][..]));
+    for key in 1..=3 {
+        assert_eq!(desk.node(key).links, [8]);
+    }
+    assert_eq!(desk.node(4).links, [7; 3]);
+}
+
+#[test]
+fn an_unlink_removes_64_copies_at_most() {
+    let mut lines = vec!["call=add value=5"; 9];
+    lines.extend(["call=link key=64 to=1,2,3,4,5,6,7,8"; 8]);
+    lines.push("call=unlink key=64 to=1,2,3,4,5,6,7,8");
+    assert_eq!(drained(&lines).result(18), (64, &[][..]));
+    lines.pop();
+    lines.push("call=unlink key=64 to=2,3,4,5,6,7,8,9"); // node 9 has no links
+    assert_eq!(drained(&lines).result(18), (56, &[][..]));
+}
+
+#[test]
+fn an_unlink_that_meets_no_node_removes_nothing() {
+    assert_eq!(
+        drained(&["call=unlink key=2 to=1"]).result(1),
+        (0, &[1][..])
+    );
+    assert_eq!(drained(&["call=unlink key=2 to="]).result(1), (0, &[][..]));
+    let link = "call=link key=2 to=1";
+    let desk = drained(&["call=add value=5", link, "call=unlink key=2 to=2"]);
+    assert_eq!(desk.result(3), (0, &[2][..]));
+    let desk = drained(&["call=add value=5", link, "call=unlink key=2 to="]);
+    assert_eq!(desk.result(3), (0, &[][..]));
+    assert_eq!(desk.node(1).links, [2]);
+}
+
+/// What a full list turned away was never there, and what is linked later isn't yet.
+#[test]
+fn an_unlink_counts_what_the_list_holds_then() {
+    let mut lines = vec!["call=add value=5"];
+    lines.extend(["call=link key=2 to=1"; 9]);
+    lines.push("call=unlink key=2 to=1");
+    lines.push("call=link key=2 to=1");
+    lines.push("call=unlink key=2 to=1");
+    lines.push("call=link key=2 to=1");
+    let desk = drained(&lines);
+    assert_eq!(desk.result(10), (1, &[][..])); // the ninth link
+    assert_eq!(desk.result(11), (8, &[][..]));
+    assert_eq!(desk.result(13), (1, &[][..]));
+    assert_eq!(desk.node(1).links, [2]);
+}
+
+#[test]
+fn an_unlink_holds_its_count_between_stations() {
+    let mut desk = Desk::after(&["call=add value=5", "call=add value=7"]);
+    desk.all(&["call=link key=7 to=1,2", "call=link key=7 to=2"]);
+    desk.all(&["step=drain", "call=unlink key=7 to=1,2,9", "step=admit"]);
+    let unlink = |removed| Act::Unlink { key: 7, removed };
+    assert_eq!(head_operation(&desk).act, unlink(0));
+    desk.all(&["step=realise at=2"]);
+    assert_eq!(head_operation(&desk).act, unlink(2));
+    desk.refuses(31, "claim=5");
+    desk.all(&["step=move at=2", "step=realise at=1"]);
+    assert_eq!(desk.session.stations[1].streamlet[0][0].act, unlink(3));
+    desk.all(&["step=finish at=1"]);
+    assert_eq!(desk.result(5), (3, &[9][..]));
+}
+
+/// Its last target struck, an unlink may finish before the last station.
+#[test]
+fn an_unlink_finishes_with_its_count() {
+    let mut desk = Desk::after(&["call=add value=5", "call=add value=7"]);
+    desk.all(&["call=link key=7 to=1,2", "call=link key=7 to=1,2"]);
+    desk.all(&["step=drain", "call=unlink key=7 to=2", "step=admit"]);
+    desk.all(&["step=realise at=2", "step=finish at=2"]);
+    assert_eq!(desk.result(5), (2, &[][..]));
+    assert_eq!(desk.node(1).links, [7, 7]);
+}
+
+/// In one unit each operation has a count of its own.
+#[test]
+fn unlinks_in_one_unit_count_apart() {
+    let mut desk = Desk::after(&["call=add value=5", "call=link key=2 to=1"]);
+    desk.all(&["call=link key=3 to=1", "call=link key=2 to=1", "step=drain"]);
+    desk.all(&["call=unlink key=2 to=1", "call=link key=3 to=1"]);
+    desk.all(&["call=unlink key=3 to=1", "call=unlink key=2 to=1"]);
+    desk.all(&["step=admit"; 4]);
+    desk.all(&["step=join at=1 unit=1"; 3]);
+    desk.all(&["step=drain"]);
+    let results = [5, 6, 7, 8].map(|label| desk.result(label).0);
+    assert_eq!(results, [2, 0, 2, 0]);
 }
 
 #[test]
@@ -279,6 +395,24 @@ fn trap_link_and_unlink_do_not_swap() {
         "step=admit",
     ]);
     desk.refuses(22, "step=swap at=1 unit=1");
+}
+
+/// Swapped where they share a target, the second would find what the first removed.
+#[test]
+fn trap_unlinks_of_one_key_do_not_swap() {
+    let mut desk = Desk::after(&["call=add value=5", "call=add value=7"]);
+    desk.all(&["call=link key=2 to=1,2", "step=drain"]);
+    let mut apart = desk.clone();
+    desk.all(&["call=unlink key=2 to=1", "call=unlink key=2 to=1,2"]);
+    desk.all(&["step=admit", "step=admit"]);
+    desk.refuses(22, "step=swap at=2 unit=1");
+    desk.all(&["step=drain"]);
+    assert_eq!((desk.result(4).0, desk.result(5).0), (1, 1));
+    apart.all(&["call=unlink key=2 to=1,9", "call=unlink key=2 to=2"]);
+    apart.all(&["step=admit", "step=admit", "step=swap at=2 unit=1"]);
+    apart.all(&["step=drain"]);
+    assert_eq!(apart.result(4), (1, &[9][..]));
+    assert_eq!(apart.result(5), (1, &[][..]));
 }
 
 #[test]

@@ -8,7 +8,7 @@ use common::Desk;
 use second::random::{session, Scribe};
 use second::samples::{broken, crowd, rich, sum};
 use second::{host, image, session_of, valid, IMAGE_BYTES};
-use second::{Act, Operation, Outcome, Session, Waiting};
+use second::{Act, Operation, Outcome, Session, Station, Waiting};
 
 const NODE: usize = 16;
 const OPERATION: usize = 1040;
@@ -19,7 +19,7 @@ fn records_stand_at_their_places() {
     let bytes = rich();
     assert_eq!(
         bytes[..16],
-        [1, 3, 5, 3, 11, 0, 0, 0, 0, 0, 0, 0, 0, 0, 0, 0]
+        [2, 3, 5, 3, 12, 0, 0, 0, 0, 0, 0, 0, 0, 0, 0, 0]
     );
     assert_eq!(
         bytes[NODE..][..16],
@@ -38,23 +38,23 @@ fn records_stand_at_their_places() {
     let z = 0;
     assert_eq!(
         operation(0),
-        record(&[2, 1, 4, 0, 0, 0, 0, 0, 10, 0, 0, 0, 3, 1, 2, 9, z, z, z, z, z, 1, 6])
+        record(&[2, 1, 4, 0, 0, 0, 0, 0, 10, 0, 0, 0, 3, 1, 2, 9, z, z, z, z, z, 1, 7])
     );
     assert_eq!(
         operation(1),
-        record(&[2, 0, 3, 2, 0, 0, 0, 0, 0, 0, 0, 0, 1, 1, z, z, z, z, z, z, z, 1, 7])
+        record(&[2, 0, 3, 2, 0, 0, 0, 0, 2, 0, 0, 0, 1, 1, z, z, z, z, z, z, z, 1, 8])
     );
     assert_eq!(
         operation(2),
-        record(&[3, 1, 1, 0, 6, 0, 0, 0, 9, 0, 0, 0, 2, 1, 3, z, z, z, z, z, z, 2, 8, 0, 9])
+        record(&[3, 1, 1, 0, 6, 0, 0, 0, 9, 0, 0, 0, 2, 1, 3, z, z, z, z, z, z, 2, 9, 0, 10])
     );
     assert_eq!(
         operation(3),
-        record(&[65, 1, 7, 2, 0, 0, 0, 0, 0, 0, 1, 0, 1, 2, z, z, z, z, z, z, z, 1, 10])
+        record(&[65, 1, 7, 2, 0, 0, 0, 0, 0, 0, 1, 0, 1, 2, z, z, z, z, z, z, z, 1, 11])
     );
     assert_eq!(
         operation(4),
-        record(&[65, 1, 0, 0, 0, 0, 0, 0, 9, 0, 0, 0, 0, z, z, z, z, z, z, z, z, 1, 11])
+        record(&[65, 1, 0, 0, 0, 0, 0, 0, 9, 0, 0, 0, 0, z, z, z, z, z, z, z, z, 1, 12])
     );
     assert!(bytes[OPERATION + 5 * 32..RESULT]
         .iter()
@@ -65,12 +65,41 @@ fn records_stand_at_their_places() {
     );
 }
 
+/// Row by row, and zeros elsewhere.
+#[test]
+fn the_example_of_the_layout() {
+    let mut desk = Desk::after(&["call=add value=5", "call=add value=7"]);
+    desk.all(&["step=admit", "step=admit", "call=map a=3 b=4 to=1,2"]);
+    desk.all(&["call=sum start=10 to=1,2,9", "step=admit"]);
+    let mut bytes = [0; IMAGE_BYTES];
+    let rows: [(usize, &[u8]); 9] = [
+        (0x0000, &[2, 2, 2, 2, 4]),
+        (0x0010, &[5, 0, 0, 0, 1]),
+        (0x0020, &[7, 0, 0, 0, 2]),
+        (0x0410, &[2, 1, 1, 0, 3, 0, 0, 0, 4, 0, 0, 0, 2, 1, 2]),
+        (0x0420, &[0, 0, 0, 0, 0, 1, 3]),
+        (0x0430, &[65, 1, 4, 0, 0, 0, 0, 0, 10, 0, 0, 0, 3, 1, 2, 9]),
+        (0x0440, &[0, 0, 0, 0, 0, 1, 4]),
+        (0x0c10, &[1, 0, 1]),
+        (0x0c20, &[2, 0, 2]),
+    ];
+    for (place, row) in rows {
+        bytes[place..][..row.len()].copy_from_slice(row);
+    }
+    assert_eq!(image(&desk.session), bytes);
+}
+
 #[test]
 fn fresh_images() {
     let mut fresh = [0; IMAGE_BYTES];
-    fresh[0] = 1;
+    fresh[0] = 2;
     assert_eq!(image(&Session::open()), fresh);
     assert_eq!(session_of(&fresh), Some(Session::open()));
+    for version in [1, 3, 255] {
+        let mut other = fresh;
+        other[0] = version;
+        assert_eq!(session_of(&other), None, "version {version}");
+    }
     assert_eq!(session_of(&[0; IMAGE_BYTES]), None);
     assert_eq!(session_of(&fresh[1..]), None);
     assert_eq!(session_of(&[]), None);
@@ -172,7 +201,7 @@ fn random_bytes() {
                 *byte = scribe.random.bits() as u8;
             }
         }
-        bytes[0] = 1;
+        bytes[0] = 2;
         assert_eq!(session_of(&bytes), None);
         assert_eq!(host::call(&mut bytes, b"call=add value=1", 0), -2);
     }
@@ -240,6 +269,142 @@ fn history_is_not_tested() {
     assert_eq!(session.step(b"step=realise at=1", &mut [0; 8]), 0);
     assert_eq!(session.step(b"step=finish at=1", &mut [0; 8]), 0);
     assert_eq!(session.results[&4].value, 0);
+}
+
+/// Four bytes of any value: the rich image's unlink, which meets one copy more.
+#[test]
+fn an_unlinks_count_stands_in_b() {
+    let count_at = OPERATION + 32 + 8;
+    for count in [0, 1, 64, 65, 0x0403_0201, u32::MAX - 1, u32::MAX] {
+        let mut bytes = rich();
+        bytes[count_at..][..4].copy_from_slice(&count.to_le_bytes());
+        let mut session = session_of(&bytes).expect("any count passes");
+        assert_eq!(image(&session), bytes);
+        let unlink = session.operations().find(|op| op.labels == [8]);
+        let (key, removed) = (2, count);
+        assert_eq!(
+            unlink.map(|op| &op.act),
+            Some(&Act::Unlink { key, removed })
+        );
+        assert_eq!(session.step(b"step=drain", &mut [0; 8]), 0);
+        assert_eq!(session.results[&8].value, count.wrapping_add(1));
+    }
+}
+
+/// An unlink of key 9 that has removed so many copies.
+fn unlink(removed: u32, targets: &[u8]) -> Operation {
+    Operation {
+        act: Act::Unlink { key: 9, removed },
+        targets: targets.to_vec(),
+        labels: vec![1],
+    }
+}
+
+/// Which no run comes near: a call removes at most 64 copies.
+#[test]
+fn an_unlinks_count_wraps() {
+    const MOST: u32 = u32::MAX;
+    for (held, copies, result) in [
+        (0, 8, 8),
+        (56, 8, 64),
+        (64, 8, 72),
+        (MOST - 1, 1, MOST),
+        (MOST - 8, 8, MOST),
+        (MOST, 0, MOST),
+        (MOST, 1, 0),
+        (MOST - 7, 8, 0),
+        (MOST, 8, 7),
+    ] {
+        let mut session = crowd(1, 0, 0, 0);
+        session.last = 1;
+        session.stations[0].node.links = vec![9; copies];
+        let unit = vec![unlink(held, &[1, 64])];
+        session.stations[0].streamlet.push_back(unit);
+        let mut bytes = image(&session);
+        let (mut tally, mut out) = ([0; 8], [0; 64]);
+        assert_eq!(
+            host::step(&mut bytes, b"step=realise at=1", 0, &mut tally),
+            0
+        );
+        let after = bytes[OPERATION + 8..][..4].to_vec();
+        assert_eq!(after, result.to_le_bytes(), "{held} and {copies}");
+        assert_eq!(
+            host::step(&mut bytes, b"step=finish at=1", 0, &mut tally),
+            0
+        );
+        let length = host::claim(&mut bytes, b"claim=1", 0, &mut out);
+        let line = format!("label=1 value={result} left=64\n");
+        assert_eq!(&out[..length as usize], line.as_bytes());
+    }
+}
+
+/// An unlink that waits may hold a count too, here 5; what it removes comes on top.
+#[test]
+fn a_waiting_unlink_with_a_count() {
+    let cases: [(u8, &[u8], u32, &[u8]); 6] = [
+        (0, &[], 5, &[]),
+        (0, &[1], 5, &[1]),
+        (1, &[], 5, &[]),
+        (1, &[1], 7, &[]),
+        (1, &[64], 5, &[64]),
+        (1, &[1, 64], 7, &[64]),
+    ];
+    for (nodes, targets, value, left) in cases {
+        let mut session = crowd(nodes, 0, 0, 0);
+        session.last = 1;
+        for station in &mut session.stations {
+            station.node.links = vec![9, 7, 9];
+        }
+        session.top.push_back(Waiting::Visit(unlink(5, targets)));
+        assert_eq!(session_of(&image(&session)).as_ref(), Some(&session));
+        assert_eq!(session.step(b"step=drain", &mut [0; 8]), 0);
+        let left = left.to_vec();
+        assert_eq!(session.results[&1], Outcome { value, left });
+    }
+}
+
+/// The first operation of the head unit that targets the node.
+fn next_to_act(station: &Station) -> Option<&Operation> {
+    let mut head = station.streamlet.front()?.iter();
+    head.find(|op| op.targets.contains(&station.node.key))
+}
+
+/// Unlinks of random sessions add what they remove to any count, often at its limit.
+#[test]
+fn unlinks_without_a_history() {
+    let mut scribe = Scribe::new(9);
+    let (mut none, mut several, mut at_limit, mut wrapped) = (0, 0, 0, 0);
+    for _ in 0..3000 {
+        let session = session::any(&mut scribe.random);
+        for station in &session.stations {
+            let Some(operation) = next_to_act(station) else {
+                continue;
+            };
+            let Act::Unlink { key, removed } = operation.act else {
+                continue;
+            };
+            let links = station.node.links.iter();
+            let copies = links.filter(|&&link| link == key).count() as u64;
+            let count = u64::from(removed) + copies;
+            let mut after = session.clone();
+            let line = format!("step=realise at={}", station.node.key);
+            assert_eq!(after.step(line.as_bytes(), &mut [0; 8]), 0);
+            let mut same = after
+                .operations()
+                .filter(|op| op.labels == operation.labels);
+            let removed = (count % 4_294_967_296) as u32;
+            assert_eq!(
+                same.next().map(|op| &op.act),
+                Some(&Act::Unlink { key, removed })
+            );
+            none += u32::from(copies == 0);
+            several += u32::from(copies > 1);
+            at_limit += u32::from(copies > 0 && count == 4_294_967_295);
+            wrapped += u32::from(count > 4_294_967_295);
+        }
+    }
+    assert!(none > 100 && several > 100, "{none}, {several}");
+    assert!(at_limit > 10 && wrapped > 50, "{at_limit}, {wrapped}");
 }
 
 /// A waiting map of several labels finishes for all of them.

@@ -60,6 +60,25 @@ fn the_last_newline_is_optional() {
     assert_eq!(transcript(b" "), one);
 }
 
+#[test]
+fn an_unlinks_count_is_printed() {
+    let script = "call=add value=5\n\
+                  call=link key=2 to=1\n\
+                  call=link key=2 to=1\n\
+                  call=unlink key=2 to=1,9\n\
+                  call=unlink key=2 to=1\n\
+                  step=drain\n\
+                  claim=4\n";
+    let output = "label=4 value=2 left=9\n\
+                  nodes=1 results=4 pending=0\n\
+                  key=1 value=5 links=\n\
+                  label=1 value=1 left=\n\
+                  label=2 value=0 left=\n\
+                  label=3 value=0 left=\n\
+                  label=5 value=0 left=\n";
+    assert_eq!(transcript(script.as_bytes()), output.as_bytes());
+}
+
 /// Counts the bytes that were written and not flushed yet.
 struct Held(usize);
 

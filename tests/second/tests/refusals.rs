@@ -358,14 +358,14 @@ fn hosts_1_and_2() {
     assert_eq!(host::list(&short, &mut out), -1);
     assert_eq!(host::open(&mut [1; IMAGE_BYTES + 1]), -1);
     assert_eq!(short, image[..IMAGE_BYTES - 1]);
-    image[0] = 2;
+    image[0] = 1;
     let damaged = image;
     assert_eq!(host::call(&mut image, frame, 0), -2);
     assert_eq!(host::step(&mut image, frame, 23, &mut tally), -2);
     assert_eq!(host::claim(&mut image, frame, 38, &mut out), -2);
     assert_eq!(host::list(&image, &mut out), -2);
     assert_eq!((image, tally, out), (damaged, [3; 8], [b'#'; 8]));
-    image[0] = 1;
+    image[0] = 2;
     assert_eq!(host::call(&mut image, frame, 0), -11);
     assert_eq!(host::step(&mut image, frame, 23, &mut tally), -20);
     assert_eq!(host::claim(&mut image, frame, 38, &mut out), -30);

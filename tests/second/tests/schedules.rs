@@ -4,7 +4,7 @@ mod common;
 
 use common::Desk;
 use second::random::Scribe;
-use second::{meaning, read_call, Call, Node, Outcome, Session, Tally};
+use second::{meaning, read_call, Act, Call, Node, Outcome, Session, Tally};
 
 /// A call takes at most one admit, 63 moves, 8 realises and one finish.
 const BOUND: usize = 73;
@@ -183,4 +183,50 @@ fn random_lines_meet_every_refusal() {
     }
     let all = [0, 10, 11, 12, 13, 14, 20, 21, 22, 30, 31, 32];
     assert_eq!(met.into_iter().collect::<Vec<i64>>(), all);
+}
+
+/// Whether a pending unlink has removed copies and has a node yet to meet.
+fn an_unlink_is_under_way(session: &Session) -> bool {
+    let mut places = session.stations.iter().flat_map(|station| {
+        let units = station.streamlet.iter().flatten();
+        units.map(|operation| (station.node.key, operation))
+    });
+    places.any(|(at, operation)| {
+        let counts = matches!(operation.act, Act::Unlink { removed: 1.., .. });
+        counts && operation.targets.iter().any(|&key| key <= at)
+    })
+}
+
+/// The generator has unlinks that remove no copy, one, several of one list, and more than
+/// one list has, and it lets them stop on the way, so that comparing by it compares counts.
+#[test]
+fn random_lines_remove_copies() {
+    let (mut under_way, mut none, mut one, mut several, mut most) = (0, 0, 0, 0, 0);
+    for seed in 0..40 {
+        let mut scribe = Scribe::new(seed);
+        let mut run = Run::new();
+        for _ in 0..1000 {
+            let line = scribe.line(&run.desk.session);
+            run.serve(&line);
+            under_way += u32::from(an_unlink_is_under_way(&run.desk.session));
+        }
+        let (_, results) = meaning(&run.accepted);
+        for (call, result) in run.accepted.iter().zip(results) {
+            if let Call::Visit {
+                act: Act::Unlink { .. },
+                ..
+            } = call
+            {
+                match result.value {
+                    0 => none += 1,
+                    1 => one += 1,
+                    2..=8 => several += 1,
+                    _ => most += 1,
+                }
+            }
+        }
+    }
+    assert!(under_way > 300, "{under_way}");
+    assert!(none > 200 && one > 50, "{none}, {one}");
+    assert!(several > 100 && most > 10, "{several}, {most}");
 }

@@ -1,12 +1,12 @@
 //! Random sessions that no run need lead to, and damaged images.
 //!
 //! Refusal 2 tests no history, so a session may have targets that were passed, labels
-//! in any order and any held value. What an entry does is owed for these too.
+//! in any order, any held value and any count. What an entry does is owed for these too.
 
 use super::{value, Random};
 use crate::image::IMAGE_BYTES;
 use crate::line::{KEYS, LIST};
-use crate::session::{Act, Operation, Outcome, Session, Station, Unit, Waiting, LIVE};
+use crate::session::{Act, Node, Operation, Outcome, Session, Station, Unit, Waiting, LIVE};
 
 /// Any valid session: full ones and small ones, all kinds, all places.
 pub fn any(random: &mut Random) -> Session {
@@ -78,9 +78,29 @@ fn labels(random: &mut Random, session: &mut Session) -> Vec<u16> {
     labels
 }
 
+/// A list of few keys or of any, so that an unlink removes none, some or all of it.
 fn links(random: &mut Random) -> Vec<u8> {
     let count = random.choose(&[0, 0, 1, 7, 8, 8]);
-    (0..count).map(|_| key(random)).collect()
+    let most = random.choose(&[1, 2, 4, u64::from(KEYS)]);
+    (0..count).map(|_| 1 + random.below(most) as u8).collect()
+}
+
+/// The operand key of a link, an unlink or a near: mostly one that lists hold.
+fn link_key(random: &mut Random) -> u8 {
+    if random.once_in(3) {
+        1 + random.below(2) as u8
+    } else {
+        key(random)
+    }
+}
+
+/// The count of a link or an unlink: often as near the limit as one list can bring it.
+fn count(random: &mut Random) -> u32 {
+    if random.once_in(2) {
+        u32::MAX - random.below(LIST as u64 + 1) as u32
+    } else {
+        value(random)
+    }
 }
 
 fn key(random: &mut Random) -> u8 {
@@ -118,38 +138,58 @@ fn put_operation(random: &mut Random, session: &mut Session, label: u16, more: &
     if session.stations.is_empty() {
         return put_waiting(random, session, label, more);
     }
-    let operation = operation(random, label, more);
+    let mut operation = operation(random, label, more);
     let stations = session.stations.len() as u64;
     let near = random.choose(&[1, stations.min(2), stations]);
     let place = match random.below(2) {
         0 => random.below(near),
         _ => stations - 1 - random.below(near),
     };
-    let streamlet = &mut session.stations[place as usize].streamlet;
+    let Station { node, streamlet } = &mut session.stations[place as usize];
+    if random.once_in(3) {
+        aim(random, &mut operation, node);
+    }
     match streamlet.back_mut() {
         Some(unit) if random.once_in(4) => unit.push(operation),
         _ => streamlet.push_back(Unit::from([operation])),
     }
 }
 
+/// Lets an operation find work at this node: it is a target, and its list has the key.
+fn aim(random: &mut Random, operation: &mut Operation, node: &Node) {
+    let targets = &mut operation.targets;
+    if targets.len() < LIST && !targets.contains(&node.key) {
+        targets.push(node.key);
+        targets.sort_unstable();
+    }
+    if let Act::Unlink { key, .. } | Act::Near { key, .. } = &mut operation.act {
+        if !node.links.is_empty() {
+            *key = random.choose(&node.links);
+        }
+    }
+}
+
 /// An operation of this label; a map may take more of them.
 fn operation(random: &mut Random, label: u16, more: &mut Vec<u16>) -> Operation {
     let held = value(random);
-    let act = match random.below(10) {
+    let act = match random.below(11) {
         0..=3 => Act::Map {
             a: value(random),
             b: held,
         },
         4 => Act::Link {
-            key: key(random),
-            full: held,
+            key: link_key(random),
+            full: count(random),
         },
-        5 => Act::Unlink { key: key(random) },
-        6 => Act::Sum { held },
-        7 => Act::Top { held },
-        8 => Act::Pick { held },
+        5 | 6 => Act::Unlink {
+            key: link_key(random),
+            removed: count(random),
+        },
+        7 => Act::Sum { held },
+        8 => Act::Top { held },
+        9 => Act::Pick { held },
         _ => Act::Near {
-            key: key(random),
+            key: link_key(random),
             held,
         },
     };
