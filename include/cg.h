@@ -20,7 +20,7 @@ extern "C" {
 
 enum {
     CG_IMAGE_LENGTH = 1,   /* an image of another length */
-    CG_NOT_A_SESSION = 2,  /* bytes that are not the image of a session */
+    CG_NOT_A_SESSION = 2,  /* not the image of a session, or an image of another version */
     CG_BAD_LINE = 10,      /* not one of the entry's forms, or 256 bytes or more */
     CG_BAD_KEY = 11,       /* a key outside 1 to 64 */
     CG_BAD_TARGETS = 12,   /* more than eight targets, or not strictly rising */

@@ -32,7 +32,6 @@ use Rattle.graph.proofs.OutcomeKept.{Same, step-same}
 use Rattle.graph.proofs.Labels.{byLabel, is, total, total-append, total-is, total-results, count-out, visit-labels, live-total}
 use Rattle.graph.proofs.Weights.{weightOfCall, weightOfCalls, weightOf, Lighter, step-lighter}
 use Rattle.graph.proofs.Validity.{valid-fresh, Stepped, step-valid, claim-valid, ValidClaim, Accepts, accept-valid, Fits, Sort, adds, operates, sort}
-use Rattle.graph.proofs.Found.{none-some, some-same}
 use Rattle.graph.proofs.Drains.{no-units, pending-resting, valid-progress, work-cons, work-append, drain-drains, drain-ends}
 
 -- ONE-AT-A-TIME RESULTS have the labels i, i + 1, i + 2, ..
@@ -68,12 +67,16 @@ plain-process c n x h = go (sort c (suc n))
         let o : Op = record { act = a; held = v; targets = targetsOf c; labels = suc n ∷ [] } in
         rw e (one o (passOp o (x .nodes)) _ (pass-labels o (x .nodes)))
 
-process-last : (l : ℕ) (cs : List Call) (c : Call) (x : World) → processFrom l (cs ++ (c ∷ [])) x ≡ process (labelled c (l + length cs)) (processFrom l cs x)
-process-last l [] c x = rw (add-zero l)
-process-last l (d ∷ cs) c x = process-last (suc l) cs c (process (labelled d l) x) ∙ ap (λ (k : ℕ). process (labelled c k) (processFrom (suc l) cs (process (labelled d l) x))) (suc-add l (length cs) ∙ sym (add-suc l (length cs)))
+process-append : (l : ℕ) (bs cs : List Call) (x : World) → processFrom l (bs ++ cs) x ≡ processFrom (l + length bs) cs (processFrom l bs x)
+process-append l [] cs x = ap (λ (m : ℕ). processFrom m cs x) (sym (add-zero l))
+process-append l (b ∷ bs) cs x =
+    process-append (suc l) bs cs (process (labelled b l) x) ∙ ap (λ (m : ℕ). processFrom m cs (processFrom (suc l) bs (process (labelled b l) x))) (suc-add l (length bs) ∙ sym (add-suc l (length bs)))
+
+pub oneAtATime-append : (bs cs : List Call) → oneAtATime (bs ++ cs) ≡ processFrom (suc (length bs)) cs (oneAtATime bs)
+oneAtATime-append bs cs = process-append 1 bs cs _ ∙ ap (λ (m : ℕ). processFrom m cs (oneAtATime bs)) (add-comm 1 (length bs) ∙ add-one (length bs))
 
 pub oneAtATime-last : (cs : List Call) (c : Call) → oneAtATime (cs ++ (c ∷ [])) ≡ process (labelled c (suc (length cs))) (oneAtATime cs)
-oneAtATime-last cs c = process-last 1 cs c _ ∙ ap (λ (k : ℕ). process (labelled c k) (oneAtATime cs)) (add-comm 1 (length cs) ∙ add-one (length cs))
+oneAtATime-last cs c = oneAtATime-append cs (c ∷ [])
 
 -- "A call names 0 to 8 target keys"
 abbrev pub FewTargets : Call → Type 0
@@ -330,23 +333,6 @@ demand3 es =
 -- each call accepted has at most eight targets
 pub few-targets : (es : List Event) → Each FewTargets ((run es) .accepted)
 few-targets es = good-events es start good-start .few
-
--- a result that was claimed or is stored is that of one-at-a-time processing
-found-counted : (l : ℕ) (r : Result) (rs : List Result) → resultOfLabel l rs ≡ some r → (r .label ≡ l) × (1 ≤ sum (matches r) rs)
-found-counted l r [] e = absurd (none-some e)
-found-counted l r (q ∷ rs) e = go (eqb (q .label) l) refl e (found-counted l r rs)
-  where
-    go : (b : Bool) → eqb (q .label) l ≡ b → cond b (some q) (resultOfLabel l rs) ≡ some r → (resultOfLabel l rs ≡ some r → (r .label ≡ l) × (1 ≤ sum (matches r) rs)) → (r .label ≡ l) × (1 ≤ sum (matches r) (q ∷ rs))
-    go true f e ih =
-        let k : q ≡ r = some-same e in
-        (ap (λ (x : Result). x .label) (sym k) ∙ eqb-true (q .label) l f, omega (arith, matches-self r, ap (matches r) k))
-    go false f e ih = (ih e .0, omega (arith, ih e .1))
-
-pub found-right : (es : List Event) (l : ℕ) (r : Result) → resultOfLabel l ((run es) .claimed ++ (run es) .now .results) ≡ some r → resultOfLabel l ((oneAtATime ((run es) .accepted)) .results) ≡ some r
-found-right es l r e =
-    let x = run es in
-    let f = found-counted l r (x .claimed ++ x .now .results) e in
-    ap (λ (j : ℕ). resultOfLabel j ((oneAtATime (x .accepted)) .results)) (sym (f .0)) ∙ result-right x (good-events es start good-start) r (f .1)
 
 -- a label stands once: among the results that were claimed, or in the session
 pub label-once : (es : List Event) (l : ℕ) → count l (labelsOfResults ((run es) .claimed)) + count l (live ((run es) .now)) ≤ 1

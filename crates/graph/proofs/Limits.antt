@@ -88,26 +88,31 @@ valid-value Top v h = h
 valid-value Pick v h = h
 valid-value (Near k) v h = h
 
-record ValidLinks (ls : List ℕ) : Type 0 where
-  few : length ls ≤ 8
-  keys : areKeys ls ≡ true
-
-pub short-linked : (k : ℕ) (ls : List ℕ) (b : Bool) → isFull ls ≡ b → length ls ≤ 8 → length (cond b ls (ls ++ (k ∷ []))) ≤ 8
+short-linked : (k : ℕ) (ls : List ℕ) (b : Bool) → isFull ls ≡ b → length ls ≤ 8 → length (cond b ls (ls ++ (k ∷ []))) ≤ 8
 short-linked k ls true e h = h
 short-linked k ls false e h = omega (arith, leb-false 8 (length ls) e, length-append ls (k ∷ []))
+
+pub short-links : (a : Act) (ls : List ℕ) → length ls ≤ 8 → length (newLinks a ls) ≤ 8
+short-links (Map m) ls h = h
+short-links (Link k) ls h = short-linked k ls (isFull ls) refl h
+short-links (Unlink k) ls h = omega (arith, strike-le k ls, h)
+short-links Sum ls h = h
+short-links Top ls h = h
+short-links Pick ls h = h
+short-links (Near k) ls h = h
 
 areKeys-linked : (k : ℕ) (ls : List ℕ) (b : Bool) → isKey k ≡ true → areKeys ls ≡ true → areKeys (cond b ls (ls ++ (k ∷ []))) ≡ true
 areKeys-linked k ls true g h = h
 areKeys-linked k ls false g h = areKeys-snoc ls k ∙ and-both h g
 
-valid-links : (a : Act) (ls : List ℕ) → ValidAct a → ValidLinks ls → ValidLinks (newLinks a ls)
-valid-links (Map m) ls g h = h
-valid-links (Link k) ls g h = record { few = short-linked k ls (isFull ls) refl (h .few); keys = areKeys-linked k ls (isFull ls) g (h .keys) }
-valid-links (Unlink k) ls g h = record { few = omega (arith, strike-le k ls, h .few); keys = areKeys-strike k ls (h .keys) }
-valid-links Sum ls g h = h
-valid-links Top ls g h = h
-valid-links Pick ls g h = h
-valid-links (Near k) ls g h = h
+keys-links : (a : Act) (ls : List ℕ) → ValidAct a → areKeys ls ≡ true → areKeys (newLinks a ls) ≡ true
+keys-links (Map m) ls g h = h
+keys-links (Link k) ls g h = areKeys-linked k ls (isFull ls) g h
+keys-links (Unlink k) ls g h = areKeys-strike k ls h
+keys-links Sum ls g h = h
+keys-links Top ls g h = h
+keys-links Pick ls g h = h
+keys-links (Near k) ls g h = h
 
 valid-held : (a : Act) (h v : ℕ) (ls : List ℕ) → v < modulus → ValidHeld a h → ValidHeld a (newHeld a h v ls)
 valid-held (Map m) h v ls g k = k
@@ -128,9 +133,7 @@ valid-result-value Pick h k = k
 valid-result-value (Near j) h k = k
 
 valid-actOn : (o : Op) (n : Node) → ValidOp o → ValidNode n → ValidNode (actOn o n)
-valid-actOn o n g h =
-    let l = valid-links (o .act) (n .links) (g .act) (record { few = h .few; keys = h .keys }) in
-    record { value = valid-value (o .act) (n .value) (h .value); few = l .few; keys = l .keys }
+valid-actOn o n g h = record { value = valid-value (o .act) (n .value) (h .value); few = short-links (o .act) (n .links) (h .few); keys = keys-links (o .act) (n .links) (g .act) (h .keys) }
 
 valid-actBy : (o : Op) (n : Node) → ValidOp o → ValidNode n → ValidOp (actBy o n)
 valid-actBy o n g h = record {

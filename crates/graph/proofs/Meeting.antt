@@ -148,7 +148,7 @@ cond-act : (b : Bool) (p o : Op) → p .act ≡ o .act → (cond b p o) .act ≡
 cond-act true p o e = e
 cond-act false p o e = refl
 
-visit-act : (o : Op) (n : Node) → (visitOp o n) .act ≡ o .act
+pub visit-act : (o : Op) (n : Node) → (visitOp o n) .act ≡ o .act
 visit-act o n = cond-act (hits o n) (actBy o n) o refl
 
 pub commute-visited : (o q : Op) (n m : Node) → Commute o q → Commute (visitOp o n) (visitOp q m)

@@ -39,7 +39,7 @@ ValidAct Top = Unit {0}
 ValidAct Pick = Unit {0}
 ValidAct (Near k) = isKey k ≡ true
 
--- a held value is any 32-bit number, a link's and an unlink's count too; a map holds none, so its is zero
+-- a held value is any 32-bit number, a link's and an unlink's count too; a map holds none: zero
 abbrev pub ValidHeld : Act → ℕ → Type 0
 ValidHeld (Map m) h = h ≡ 0
 ValidHeld (Link k) h = h < modulus

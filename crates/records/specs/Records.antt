@@ -10,7 +10,7 @@ use Rattle.records.specs.declared.op.OpRecord.{OpRecord}
 use Rattle.records.specs.declared.result.ResultRecord.{ResultRecord}
 use Rattle.records.specs.Bytes.{bytes16, bytes32, encodeKeys}
 
--- the version, of which docs/IMAGE.md has a table
+-- the image's version: docs/IMAGE.md says what each changed
 abbrev pub imageVersion : ℕ
 imageVersion = 2
 

@@ -1,14 +1,15 @@
 -- A label has one result: what a claim of it wrote, or would write, is determined.
 -- Assumes nothing.
-use mathlib.Core.Path.{_≡_, sym, ap, subst, _∙_}
-use Prim.Native.Nat.{ℕ, zero, _+_, _≤_}
+use mathlib.Core.Path.{_≡_, refl, sym, ap, _∙_}
+use Prim.Native.Nat.{ℕ, zero}
 use native.Mathlib.Omega.{arith}
-use mathlib.Core.Bool.{true}
+use mathlib.Core.Bool.{true, cond}
 use mathlib.Core.List.{List, [], _∷_, _++_}
 use mathlib.Core.Option.{some}
 use lib.IntN.{ℤ, pos, negsuc}
 use lib.ListN.{length, take, replicate, length-replicate}
 use lib.Seq.{take-append-seam}
+use Rattle.graph.specs.Calls.{Call}
 use Rattle.graph.specs.Nodes.{Result}
 use Rattle.graph.specs.OneAtATime.{oneAtATime}
 use Rattle.graph.specs.Counts.{resultOfLabel}
@@ -18,11 +19,12 @@ use Rattle.lines.proofs.Claims.{claim-unique}
 use Rattle.print.specs.Printed.{resultText}
 use Rattle.print.proofs.ReadBack.{result-inj}
 use Rattle.host.specs.Entries.{ClaimMade, Claims}
-use Rattle.host.proofs.Determined.{claim-forms, claim-once}
-use Rattle.runs.specs.Runs.{Sent, callSent, stepSent, claimSent, Runs, opening, after, isServed, Wrote, ClaimedIn, here, there, WouldWrite}
+use Rattle.host.proofs.Determined.{claim-forms}
+use Rattle.runs.specs.Runs.{Sent, callSent, stepSent, claimSent, Runs, opening, after, isServed, acceptedLines, Wrote, ClaimedIn, here, there}
 use Rattle.runs.specs.Demand.{ResultOf, claimed, unclaimed, GaveMeant, ClaimsMeant}
 use Rattle.graph.proofs.Found.{some-same}
 use Rattle.runs.proofs.Demand3.{demand3}
+use Rattle.runs.proofs.SameEnd.{texts-same}
 
 -- what was written is read back
 written : (out text : List ℕ) → take (length text) (pasted out 0 text) ≡ text
@@ -59,9 +61,11 @@ module _ (line out : List ℕ) (r : ClaimMade) where
   more-runs image (stepSent l t a ∷ es) h c = (h .0, more-runs (a .image) es (h .1) c)
   more-runs image (claimSent l o a ∷ es) h c = (h .0, more-runs (a .image) es (h .1) c)
 
-  more-claimed : {l : ℕ} {q : Result} {es : List Sent} → ClaimedIn l q es → ClaimedIn l q (more es)
-  more-claimed (here i w) = here i w
-  more-claimed (there c) = there (more-claimed c)
+  more-accepted : (es : List Sent) → acceptedLines (more es) ≡ acceptedLines es
+  more-accepted [] = refl
+  more-accepted (callSent l a ∷ es) = ap (λ (ls : List (List ℕ)). cond (isServed (a .answer)) (l ∷ ls) ls) (more-accepted es)
+  more-accepted (stepSent l t a ∷ es) = more-accepted es
+  more-accepted (claimSent l o a ∷ es) = more-accepted es
 
   last-meant : (meant : List Result) (es : List Sent) → ClaimsMeant meant (more es) → isServed (r .answer) ≡ true → GaveMeant meant line out r
   last-meant meant [] m e = m .0 e
@@ -69,35 +73,19 @@ module _ (line out : List ℕ) (r : ClaimMade) where
   last-meant meant (stepSent l t a ∷ es) m e = last-meant meant es m e
   last-meant meant (claimSent l o a ∷ es) m e = last-meant meant es (m .1) e
 
-both-claimed : (es : List Sent) → Runs opening es → (l : ℕ) (p q : Result) → ClaimedIn l p es → ClaimedIn l q es → p ≡ q
-both-claimed es h l p q c d =
-    let m = demand3 es h .claims in
-    some-same (sym (claimed-meant _ l p m c) ∙ claimed-meant _ l q m d)
-
 module _ (es : List Sent) (h : Runs opening es) (l : ℕ) where
-  abbrev room : Result → Result → List ℕ
-  room p q = replicate (length (resultText p) + length (resultText q)) 0
-
-  fits : (p q : Result) → (length (resultText p) ≤ length (room p q)) × (length (resultText q) ≤ length (room p q))
-  fits p q = let n = length-replicate {A = ℕ} (length (resultText p) + length (resultText q)) 0 in (omega (arith, n), omega (arith, n))
-
-  -- a claim in the list, and one more after it
-  later : (p q : Result) {out : List ℕ} → ClaimedIn l p es → WouldWrite (after opening es) out l q → p ≡ q
-  later p q {out} c w =
+  -- it is that of one-at-a-time processing
+  pub result-meant : (q : Result) → ResultOf es l q → resultOfLabel l ((oneAtATime (demand3 es h .calls)) .results) ≡ some q
+  result-meant q (claimed c) = claimed-meant _ l q (demand3 es h .claims) c
+  result-meant q (unclaimed f) =
+      let out : List ℕ = replicate (length (resultText q)) 0 in
+      let w = f out (omega (arith, length-replicate {A = ℕ} (length (resultText q)) 0)) in
       let r : ClaimMade = w .gives in
       let t = demand3 (more (claimText l) out r es) (more-runs (claimText l) out r opening es h (w .claims)) in
-      let meant : List Result = (oneAtATime (t .calls)) .results in
-      let g = last-meant (claimText l) out r meant es (t .claims) (ap isServed (w .wrote .answer)) in
-      some-same
-      (sym (claimed-meant meant l p (t .claims) (more-claimed (claimText l) out r c))
-      ∙ ap (λ (k : ℕ). resultOfLabel k meant) (claim-unique l (g .label) (g .text .same)) ∙ g .same ∙ ap some (wrote-same (g .wrote) (w .wrote)))
+      let g = last-meant (claimText l) out r ((oneAtATime (t .calls)) .results) es (t .claims) (ap isServed (w .wrote .answer)) in
+      let same : t .calls ≡ demand3 es h .calls = texts-same (more-accepted (claimText l) out r es) (t .texts) (demand3 es h .texts) in
+      ap (λ (cs : List Call). resultOfLabel l ((oneAtATime cs) .results)) (sym same)
+      ∙ ap (λ (k : ℕ). resultOfLabel k ((oneAtATime (t .calls)) .results)) (claim-unique l (g .label) (g .text .same)) ∙ g .same ∙ ap some (wrote-same (g .wrote) (w .wrote))
 
   pub result-same : (p q : Result) → ResultOf es l p → ResultOf es l q → p ≡ q
-  result-same p q (claimed c) (claimed d) = both-claimed es h l p q c d
-  result-same p q (claimed c) (unclaimed g) = later p q c (g (room p q) (fits p q .1))
-  result-same p q (unclaimed f) (claimed d) = sym (later q p d (f (room p q) (fits p q .0)))
-  result-same p q (unclaimed f) (unclaimed g) =
-      let a = f (room p q) (fits p q .0) in
-      let b = g (room p q) (fits p q .1) in
-      let e : b .gives ≡ a .gives = claim-once (b .claims) (a .claims) in
-      wrote-same (a .wrote) (subst (Wrote (room p q) q) e (b .wrote))
+  result-same p q a b = some-same (sym (result-meant p a) ∙ result-meant q b)

@@ -3,7 +3,7 @@
 use mathlib.Core.Path.{_≡_, refl, sym, ap, subst, _∙_}
 use Prim.Native.Nat.{ℕ, zero, suc, _+_, _-_, _≤_, _<_, _^_}
 use native.Mathlib.Omega.{arith}
-use mathlib.Core.Bool.{Bool, true, false, cond, _&&_, true≢false}
+use mathlib.Core.Bool.{Bool, true, false, cond, true≢false}
 use mathlib.Core.List.{List, [], _∷_, _++_}
 use lib.Dec.{eqb, leb, ltb}
 use lib.ListN.{length, getD, take, replicate, length-append, length-replicate}
@@ -24,7 +24,7 @@ use Rattle.records.specs.declared.result.ResultRecord.{ResultRecord}
 use Rattle.records.proofs.Codecs.{FitLabels, FitNode, FitOp, FitResult}
 use Rattle.valid.specs.Inner.Decoded.{decodedNode, decodedResult, labelsOf, actOf, heldOf, decodedCall, taggedOf}
 use Rattle.valid.specs.Values.{nodeRecord, resultRecord, packedLabels, Fields, fields, fieldsOf, opRecord, callRecord, taggedRecord}
-use Rattle.valid.specs.Inner.Tests.{keysOk, labelsOk, nodeOk, operandOk, factorOk, mostOf, targetsOk, opOk, resultOk}
+use Rattle.valid.specs.Inner.Tests.{keysOk, labelsOk, nodeOk, operandOk, multiplierOk, mostOf, targetsOk, opOk, resultOk}
 use Rattle.valid.proofs.Packing.{KeysGood, keys-good, keys-packed, packed-ok, packed-fit, LabelsGood, labels-length, labels-good, labels-packed, packed-labels-ok, labels-of-packed}
 
 -- NODES
@@ -111,7 +111,7 @@ plain kind key a b k e = λ i. fields kind (sym (eqb-true key 0 k) i) (sym (eqb-
 keyed : (kind key a b : ℕ) → eqb a 0 ≡ true → fields kind key 0 b ≡ fields kind key a b
 keyed kind key a b e = λ i. fields kind key (sym (eqb-true a 0 e) i) b
 
-act-good : (kind key a b : ℕ) → a < modulus → b < modulus → (kind ≡ 0 → ⊥) → leb kind 7 ≡ true → operandOk kind key ≡ true → factorOk kind a ≡ true → ActGood kind key a b
+act-good : (kind key a b : ℕ) → a < modulus → b < modulus → (kind ≡ 0 → ⊥) → leb kind 7 ≡ true → operandOk kind key ≡ true → multiplierOk kind a ≡ true → ActGood kind key a b
 act-good zero key a b ha hb nz l o n = absurd (nz refl)
 act-good (suc zero) key a b ha hb nz l o n = record { act = (ha, hb); held = refl; same = λ i. fields 1 (sym (eqb-true key 0 o) i) a b; most = refl }
 act-good (suc (suc zero)) key a b ha hb nz l o n = record { act = o; held = hb; same = keyed 2 key a b n; most = refl }
@@ -135,7 +135,7 @@ pub record OpFacts (n prev : ℕ) (o : OpRecord) : Type 0 where
   pub next : follows prev (taggedOf o) ≡ true
   pub kind : leb (o .kind) 7 ≡ true
   pub operand : operandOk (o .kind) (o .key) ≡ true
-  pub factor : factorOk (o .kind) (o .a) ≡ true
+  pub multiplier : multiplierOk (o .kind) (o .a) ≡ true
   pub none : targetsOk (o .kind) (o .targets .count) ≡ true
   pub targets : keysOk true (o .targets) ≡ true
   pub labels : labelsOk (mostOf (o .kind)) (o .labels) ≡ true
@@ -149,7 +149,7 @@ op-facts n prev o e =
     let e2 = and-right (follows prev (taggedOf o)) _ e1 in
     let e3 = and-right (leb (o .kind) 7) _ e2 in
     let e4 = and-right (operandOk (o .kind) (o .key)) _ e3 in
-    let e5 = and-right (factorOk (o .kind) (o .a)) _ e4 in
+    let e5 = and-right (multiplierOk (o .kind) (o .a)) _ e4 in
     let e6 = and-right (targetsOk (o .kind) (o .targets .count)) _ e5 in
     let e7 = and-right (keysOk true (o .targets)) _ e6 in
     let e8 = and-right (labelsOk (mostOf (o .kind)) (o .labels)) _ e7 in
@@ -158,7 +158,7 @@ op-facts n prev o e =
       next = and-left _ _ e1;
       kind = and-left _ _ e2;
       operand = and-left _ _ e3;
-      factor = and-left _ _ e4;
+      multiplier = and-left _ _ e4;
       none = and-left _ _ e5;
       targets = and-left _ _ e6;
       labels = and-left _ _ e7;
@@ -168,7 +168,7 @@ op-facts n prev o e =
 
 pub op-passes : (n prev : ℕ) (o : OpRecord) → OpFacts n prev o → opOk n prev o ≡ true
 unfolding opOk
-op-passes n prev o f = rw (f .place, f .next, f .kind, f .operand, f .factor, f .none, f .targets, f .labels, f .opens) (f .spare)
+op-passes n prev o f = rw (f .place, f .next, f .kind, f .operand, f .multiplier, f .none, f .targets, f .labels, f .opens) (f .spare)
 
 pub flag-kept : (x : ℕ) → x ≤ 1 → cond (eqb x 1) 1 0 ≡ x
 flag-kept zero h = refl
@@ -193,7 +193,7 @@ module _ (n prev : ℕ) (o : OpRecord) (fit : FitOp o) (e : opOk n prev o ≡ tr
   lgood = labels-good (mostOf (o .kind)) (most-four (o .kind)) (o .labels) (fit .labels) (facts .labels)
 
   agood : (o .kind ≡ 0 → ⊥) → ActGood (o .kind) (o .key) (o .a) (o .b)
-  agood nz = act-good (o .kind) (o .key) (o .a) (o .b) (fit .a) (fit .b) nz (facts .kind) (facts .operand) (facts .factor)
+  agood nz = act-good (o .kind) (o .key) (o .a) (o .b) (fit .a) (fit .b) nz (facts .kind) (facts .operand) (facts .multiplier)
 
   pub call-valid : ValidCall (decodedCall o)
   call-valid = by-bool (eqb (o .kind) 0) (λ q. rw q (fit .b)) (λ q. rw q (valid (agood (eqb-false (o .kind) 0 q))))
@@ -234,10 +234,10 @@ module _ (n prev : ℕ) (o : OpRecord) (fit : FitOp o) (e : opOk n prev o ≡ tr
   add-parts q =
       let kind : o .kind ≡ 0 = eqb-true (o .kind) 0 q in
       let op : operandOk 0 (o .key) ≡ true = subst (λ (k : ℕ). operandOk k (o .key) ≡ true) kind (facts .operand) in
-      let factor : factorOk 0 (o .a) ≡ true = subst (λ (k : ℕ). factorOk k (o .a) ≡ true) kind (facts .factor) in
+      let multiplier : multiplierOk 0 (o .a) ≡ true = subst (λ (k : ℕ). multiplierOk k (o .a) ≡ true) kind (facts .multiplier) in
       let none : targetsOk 0 (o .targets .count) ≡ true = subst (λ (k : ℕ). targetsOk k (o .targets .count) ≡ true) kind (facts .none) in
       made (fields 0 0 0 (o .b)) [] (getD (o .labels .label) 0 0 ∷ [])
-      (λ i. fields (sym kind i) (sym (eqb-true (o .key) 0 op) i) (sym (eqb-true (o .a) 0 factor) i) (o .b))
+      (λ i. fields (sym kind i) (sym (eqb-true (o .key) 0 op) i) (sym (eqb-true (o .a) 0 multiplier) i) (o .b))
       (ap packed (no-keys (o .targets .key) (o .targets .count) (eqb-true (o .targets .count) 0 none)) ∙ keys-packed true (o .targets) (fit .targets) (facts .targets))
       (ap packedLabels (one-label (o .labels .label) (o .labels .count) (one-count q) (omega (arith, fit .labels .places)))
       ∙ labels-packed (mostOf (o .kind)) (most-four (o .kind)) (o .labels) (fit .labels) (facts .labels))
@@ -255,7 +255,7 @@ record FieldsGood (a : Act) (h : ℕ) (f : Fields) : Type 0 where
   kind : leb (f .kind) 7 ≡ true
   other : eqb (f .kind) 0 ≡ false
   operand : operandOk (f .kind) (f .key) ≡ true
-  factor : factorOk (f .kind) (f .a) ≡ true
+  multiplier : multiplierOk (f .kind) (f .a) ≡ true
   act : actOf (f .kind) (f .key) (f .a) (f .b) ≡ a
   held : heldOf (f .kind) (f .b) ≡ h
   most : mostLabels a ≡ mostOf (f .kind)
@@ -263,13 +263,13 @@ record FieldsGood (a : Act) (h : ℕ) (f : Fields) : Type 0 where
   small-b : f .b < modulus
 
 fields-good : (a : Act) (h : ℕ) → ValidAct a → ValidHeld a h → FieldsGood a h (fieldsOf a h)
-fields-good (Map m) h v w = record { kind = refl; other = refl; operand = refl; factor = refl; act = refl; held = sym w; most = refl; small-a = v .0; small-b = v .1 }
-fields-good (Link k) h v w = record { kind = refl; other = refl; operand = v; factor = refl; act = refl; held = refl; most = refl; small-a = omega arith; small-b = w }
-fields-good (Unlink k) h v w = record { kind = refl; other = refl; operand = v; factor = refl; act = refl; held = refl; most = refl; small-a = omega arith; small-b = w }
-fields-good Sum h v w = record { kind = refl; other = refl; operand = refl; factor = refl; act = refl; held = refl; most = refl; small-a = omega arith; small-b = w }
-fields-good Top h v w = record { kind = refl; other = refl; operand = refl; factor = refl; act = refl; held = refl; most = refl; small-a = omega arith; small-b = w }
-fields-good Pick h v w = record { kind = refl; other = refl; operand = refl; factor = refl; act = refl; held = refl; most = refl; small-a = omega arith; small-b = w }
-fields-good (Near k) h v w = record { kind = refl; other = refl; operand = v; factor = refl; act = refl; held = refl; most = refl; small-a = omega arith; small-b = w }
+fields-good (Map m) h v w = record { kind = refl; other = refl; operand = refl; multiplier = refl; act = refl; held = sym w; most = refl; small-a = v .0; small-b = v .1 }
+fields-good (Link k) h v w = record { kind = refl; other = refl; operand = v; multiplier = refl; act = refl; held = refl; most = refl; small-a = omega arith; small-b = w }
+fields-good (Unlink k) h v w = record { kind = refl; other = refl; operand = v; multiplier = refl; act = refl; held = refl; most = refl; small-a = omega arith; small-b = w }
+fields-good Sum h v w = record { kind = refl; other = refl; operand = refl; multiplier = refl; act = refl; held = refl; most = refl; small-a = omega arith; small-b = w }
+fields-good Top h v w = record { kind = refl; other = refl; operand = refl; multiplier = refl; act = refl; held = refl; most = refl; small-a = omega arith; small-b = w }
+fields-good Pick h v w = record { kind = refl; other = refl; operand = refl; multiplier = refl; act = refl; held = refl; most = refl; small-a = omega arith; small-b = w }
+fields-good (Near k) h v w = record { kind = refl; other = refl; operand = v; multiplier = refl; act = refl; held = refl; most = refl; small-a = omega arith; small-b = w }
 
 -- the labels of a call fit two bytes
 abbrev pub Small : List ℕ → Type 0
@@ -321,7 +321,7 @@ record-good p b (addOf l v) h =
             next = y;
             kind = refl;
             operand = refl;
-            factor = refl;
+            multiplier = refl;
             none = refl;
             targets = packed-ok true [] no-targets;
             labels = packed-labels-ok 1 (omega arith) (l ∷ []) (one-good l);
@@ -349,7 +349,7 @@ record-good p b (opOf o) h = made (fields-good (o .act) (o .held) (h .act) (h .h
                 next = y;
                 kind = g .kind;
                 operand = g .operand;
-                factor = g .factor;
+                multiplier = g .multiplier;
                 none = rw (g .other);
                 targets = packed-ok true (o .targets) tg;
                 labels = packed-labels-ok (mostOf (f .kind)) (most-four (f .kind)) (o .labels) lg;

@@ -6,7 +6,7 @@ ghost use Prim.Native.Nat.{_+_, _*_, _%_, _^_, _≤_};
 ghost use lib.ListN.{length};
 ghost use Rattle.records.specs.Inner.Numbers.{keysAt};
 ghost use Rattle.records.specs.Inner.Decoded.{labelsAt};
-ghost use Rattle.valid.specs.Inner.Tests.{keysOk, labelsOk, takesKey, operandOk, factorOk, mostOf, targetsOk};
+ghost use Rattle.valid.specs.Inner.Tests.{keysOk, labelsOk, takesKey, operandOk, multiplierOk, mostOf, targetsOk};
 
 // The greatest number of n bytes.
 fn most_in(n: u8) -> u64
@@ -101,9 +101,9 @@ pub fn operand_ok(kind: u8, key: u8) -> bool
     }
 }
 
-// Only a map has a factor, its `a`.
-pub fn factor_ok(kind: u8, a: u32) -> bool
-    ensures { λ r. ⌜ r ≡ factorOk kind a ⌝ }
+// Only a map has a multiplier, its `a`.
+pub fn multiplier_ok(kind: u8, a: u32) -> bool
+    ensures { λ r. ⌜ r ≡ multiplierOk kind a ⌝ }
 {
     if kind == 1 { true } else { a == 0 }
 }

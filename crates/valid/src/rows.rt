@@ -1,8 +1,8 @@
 // Tests of whole records, in place, and of every record of a region.
-use crate::fields::factor_ok;
 use crate::fields::keys_ok;
 use crate::fields::labels_ok;
 use crate::fields::most_of;
+use crate::fields::multiplier_ok;
 use crate::fields::operand_ok;
 use crate::fields::targets_ok;
 use image::read::kind_at;
@@ -108,7 +108,7 @@ fn op_ok(n: usize, prev: u8, r: &[u8]) -> bool
     if !operand_ok(kind, r[3]) {
         return false;
     }
-    if !factor_ok(kind, u32_at(r, 4)) {
+    if !multiplier_ok(kind, u32_at(r, 4)) {
         return false;
     }
     if !targets_ok(kind, r[12]) {

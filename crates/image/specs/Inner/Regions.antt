@@ -57,7 +57,7 @@ pub record Sound (s : List ℕ) : Type 0 where
 abbrev pub Zeros : List ℕ → ℕ → ℕ → Type 0
 Zeros s a b = (i : ℕ) → a ≤ i → i < b → getD s i 0 ≡ 0
 
--- the version is that of today, and whatever no record uses is zero
+-- the version is `imageVersion`, and whatever no record uses is zero
 pub record Canonical (s : List ℕ) : Type 0 where
   pub version : getD s 0 0 ≡ imageVersion
   pub head : Zeros s 6 16

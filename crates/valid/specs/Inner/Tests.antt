@@ -53,9 +53,9 @@ takesKey kind = eqb kind 2 || (eqb kind 3 || eqb kind 7)
 abbrev pub operandOk : ℕ → ℕ → Bool
 operandOk kind key = cond (takesKey kind) (isKey key) (eqb key 0)
 
--- only a map has a factor, its `a`
-abbrev pub factorOk : ℕ → ℕ → Bool
-factorOk kind a = cond (eqb kind 1) true (eqb a 0)
+-- only a map has a multiplier, its `a`
+abbrev pub multiplierOk : ℕ → ℕ → Bool
+multiplierOk kind a = cond (eqb kind 1) true (eqb a 0)
 
 -- only maps have several labels
 abbrev pub mostOf : ℕ → ℕ
@@ -71,7 +71,7 @@ opOk n prev o =
     && (follows prev (taggedOf o)
     && (leb (o .kind) 7
     && (operandOk (o .kind) (o .key)
-    && (factorOk (o .kind) (o .a)
+    && (multiplierOk (o .kind) (o .a)
     && (targetsOk (o .kind) (o .targets .count)
     && (keysOk true (o .targets)
     && (labelsOk (mostOf (o .kind)) (o .labels)

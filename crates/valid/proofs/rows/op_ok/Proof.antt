@@ -11,7 +11,7 @@ use borrow.Author.Tests.{le-leb, lt-leb, not-true, not-false}
 use Rattle.flat.specs.Inner.Queues.{placed, follows}
 use Rattle.records.specs.Inner.Decoded.{decodeOp, labelsAt}
 use Rattle.valid.specs.Inner.Decoded.{taggedOf}
-use Rattle.valid.specs.Inner.Tests.{opOk, operandOk, factorOk, targetsOk, keysOk, labelsOk, mostOf}
+use Rattle.valid.specs.Inner.Tests.{opOk, operandOk, multiplierOk, targetsOk, keysOk, labelsOk, mostOf}
 use Rattle.valid.proofs.Turns.{none-at, yes-test}
 use borrow.Author.Needs.{needs}
 use Rattle.valid.proofs.rows.op_ok.Statement.{statement}
@@ -24,7 +24,7 @@ start c = c .before .before .before .before .before .before .before .before .bef
 abbrev tests : tie.Start → List Bool
 tests s =
     let o = decodeOp (s .args .r .now) in
-    placed (s .args .n) (taggedOf o) ∷ follows (s .args .prev) (taggedOf o) ∷ leb (o .kind) 7 ∷ operandOk (o .kind) (o .key) ∷ factorOk (o .kind) (o .a) ∷ targetsOk (o .kind) (o .targets .count)
+    placed (s .args .n) (taggedOf o) ∷ follows (s .args .prev) (taggedOf o) ∷ leb (o .kind) 7 ∷ operandOk (o .kind) (o .key) ∷ multiplierOk (o .kind) (o .a) ∷ targetsOk (o .kind) (o .targets .count)
     ∷ keysOk true (o .targets) ∷ labelsOk (mostOf (o .kind)) (o .labels) ∷ leb (o .opens) 1 ∷ eqb (o .spare) 0 ∷ []
 
 fails : (s : tie.Start) (k : ℕ) → getD (tests s) k true ≡ false → false ≡ opOk (s .args .n) (s .args .prev) (decodeOp (s .args .r .now))
@@ -72,15 +72,15 @@ returns-4 c = fails (c .before .before .before .before .before .before .before .
 u32-at-requires : tie.Need-u32-at-requires
 u32-at-requires c κs = search needs
 
-factor-ok-requires : tie.Need-factor-ok-requires
-factor-ok-requires c κs = search needs
+multiplier-ok-requires : tie.Need-multiplier-ok-requires
+multiplier-ok-requires c κs = search needs
 
 returns-5 : tie.Need-returns-5
 unfolding decodeOp
 returns-5 c =
     let s = c .before .before .before .before .before .before .before .before .before .before .before .before .before in
     let n = c .before in
-    fails s 4 (sym (n .factor-ok .ensures ∙ ap (factorOk (getD (s .args .r .now) 2 0)) (n .before .u32-at .ensures)) ∙ not-true _ (c .if5 .taken))
+    fails s 4 (sym (n .multiplier-ok .ensures ∙ ap (multiplierOk (getD (s .args .r .now) 2 0)) (n .before .u32-at .ensures)) ∙ not-true _ (c .if5 .taken))
 
 shared-slice-read-targets-ok : tie.Need-shared-slice-read-targets-ok
 shared-slice-read-targets-ok c = search needs
@@ -146,7 +146,7 @@ returns-10 c =
     (yes-test (sym (f .follows-ok .ensures) ∙ not-false _ (e2 .if2 .left))
     (yes-test (le-leb _ 7 (e3 .if3 .left))
     (yes-test (sym (o .operand-ok .ensures) ∙ not-false _ (e4 .if4 .left))
-    (yes-test (sym (n .factor-ok .ensures ∙ ap (factorOk (getD r 2 0)) (n .before .u32-at .ensures)) ∙ not-false _ (e5 .if5 .left))
+    (yes-test (sym (n .multiplier-ok .ensures ∙ ap (multiplierOk (getD r 2 0)) (n .before .u32-at .ensures)) ∙ not-false _ (e5 .if5 .left))
     (yes-test (sym (t .targets-ok .ensures) ∙ not-false _ (e6 .if6 .left))
     (yes-test (sym (k .keys-ok .ensures) ∙ not-false _ (e7 .if7 .left))
     (yes-test (sym (l .labels-ok .ensures ∙ ap (λ (m : ℕ). labelsOk m (labelsAt r 21)) (l .before .most-of .ensures)) ∙ not-false _ (e8 .if8 .left))
@@ -166,7 +166,7 @@ op-ok-spec =
     operand-ok-requires
     returns-4
     u32-at-requires
-    factor-ok-requires
+    multiplier-ok-requires
     returns-5
     shared-slice-read-targets-ok
     targets-ok-requires

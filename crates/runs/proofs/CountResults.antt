@@ -1,0 +1,39 @@
+-- What a link and an unlink count, of every list of lines sent to a fresh session, whatever the schedule and the calls after it.
+-- Assumes nothing.
+use mathlib.Core.Path.{_≡_, refl, ap, subst, _∙_}
+use Prim.Native.Nat.{ℕ, suc, _≤_}
+use mathlib.Core.List.{List, _∷_, _++_}
+use mathlib.Core.Option.{some}
+use lib.ListN.{length}
+use Rattle.graph.specs.Calls.{Call, link, unlink, targetsOf}
+use Rattle.graph.specs.Nodes.{Result}
+use Rattle.graph.specs.OneAtATime.{oneAtATime}
+use Rattle.graph.specs.EventRuns.{EventRun}
+use Rattle.graph.specs.Counts.{resultOfLabel}
+use Rattle.graph.specs.CountResults.{LinkResult, UnlinkResult}
+use Rattle.graph.specs.Valid.{Each}
+use Rattle.graph.proofs.Limits.{each-right}
+use Rattle.graph.proofs.Demand3.{FewTargets, few-targets}
+use Rattle.graph.proofs.CountResults as graph
+use Rattle.runs.specs.Runs.{Sent, Runs, opening, acceptedLines, TextsOf}
+use Rattle.runs.specs.Demand.{ResultOf}
+use Rattle.runs.proofs.Demand3.{to, demand3}
+use Rattle.runs.proofs.SameEnd.{texts-same}
+use Rattle.runs.proofs.OneResult.{result-meant}
+
+-- the accepted lines are the texts of these calls, of which c is one; its label is one above the number of those before it
+module _ (es : List Sent) (h : Runs opening es) (before later : List Call) (c : Call) (t : TextsOf (acceptedLines es) (before ++ (c ∷ later))) where
+  few : length (targetsOf c) ≤ 8
+  few =
+      let all : Each FewTargets (to es h .calls) = subst (λ (x : EventRun). Each FewTargets (x .accepted)) (to es h .moved) (few-targets (to es h .made)) in
+      each-right FewTargets before (c ∷ later) (subst (Each FewTargets) (texts-same refl (to es h .texts) t) all) .0
+
+  meant : (r : Result) → ResultOf es (suc (length before)) r → resultOfLabel (suc (length before)) ((oneAtATime (before ++ (c ∷ later))) .results) ≡ some r
+  meant r g = ap (λ (cs : List Call). resultOfLabel (suc (length before)) ((oneAtATime cs) .results)) (texts-same refl t (demand3 es h .texts)) ∙ result-meant es h (suc (length before)) r g
+
+module _ (es : List Sent) (h : Runs opening es) (before later : List Call) (k : ℕ) (to : List ℕ) where
+  pub link-result : TextsOf (acceptedLines es) (before ++ (link k to ∷ later)) → (r : Result) → ResultOf es (suc (length before)) r → LinkResult before to r
+  link-result t r g = graph.link-result before later k to (few es h before later (link k to) t) r (meant es h before later (link k to) t r g)
+
+  pub unlink-result : TextsOf (acceptedLines es) (before ++ (unlink k to ∷ later)) → (r : Result) → ResultOf es (suc (length before)) r → UnlinkResult before k to r
+  unlink-result t r g = graph.unlink-result before later k to (few es h before later (unlink k to) t) r (meant es h before later (unlink k to) t r g)
