@@ -21,7 +21,7 @@ use Rattle.graph.specs.Counts.{resultOfLabel}
 use Rattle.graph.specs.CountResults.{nodesAfter, overTargets, oneIfFull, LinkResult, linksIn, UnlinkResult}
 use Rattle.graph.proofs.Found.{some-same, find-here, find-skip, find-after}
 use Rattle.graph.proofs.Striking.{strike-less, count-strike, strike-none, contains-strike}
-use Rattle.graph.proofs.Meeting.{visit-act}
+use Rattle.graph.proofs.Meeting.{visit-key, visit-act}
 use Rattle.graph.proofs.Limits.{short-links}
 use Rattle.graph.proofs.Validity.{Sort, adds, operates, sort}
 use Rattle.graph.proofs.Demand3.{pass-labels, oneAtATime-append, oneAtATime-last}
@@ -37,12 +37,8 @@ pass-length o (n ∷ ns) = ap suc (pass-length (visitOp o n) ns)
 
 made-pass : (o : Op) (ns : List Node) → Made ns → Made (passNodes o ns)
 made-pass o [] h = tt
-made-pass o (n ∷ ns) h = (key (hits o n) ∙ h .0 ∙ ap suc (sym (pass-length (visitOp o n) ns)), short (hits o n), made-pass (visitOp o n) ns (h .2))
+made-pass o (n ∷ ns) h = (visit-key o n ∙ h .0 ∙ ap suc (sym (pass-length (visitOp o n) ns)), short (hits o n), made-pass (visitOp o n) ns (h .2))
   where
-    key : (b : Bool) → (cond b (actOn o n) n) .key ≡ n .key
-    key true = refl
-    key false = refl
-
     short : (b : Bool) → length ((cond b (actOn o n) n) .links) ≤ 8
     short true = short-links (o .act) (n .links) (h .1)
     short false = h .1
@@ -86,7 +82,7 @@ link-counts k = record { grows = λ h v ls l. grown (isFull ls) h l; few = λ ls
 unlink-counts : (k : ℕ) → CountsBy (count k) 8 (Unlink k)
 unlink-counts k = record { grows = λ h v ls l. omega arith; few = λ ls l. omega (arith, count-strike k ls, l); result = λ h. refl }
 
--- a target more is `most` more
+-- with one target fewer there is room for `most`
 one-more : (most x y : ℕ) → x < y → most + most * x ≤ most * y
 one-more most x y h = omega (arith, mul-le-mul-left most h)
 

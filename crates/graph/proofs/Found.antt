@@ -54,6 +54,6 @@ pub find-append : (l : ℕ) (rs qs : List Result) → resultOfLabel l (rs ++ qs)
 find-append l [] qs = refl
 find-append l (r ∷ rs) qs = ap (cond (eqb (r .label) l) (some r)) (find-append l rs qs) ∙ or-cond (eqb (r .label) l) r (resultOfLabel l rs) (resultOfLabel l qs)
 
--- a list to which the second was appended
+-- the same where the two in a row are known as one list, and what the first holds is known
 pub find-after : (l : ℕ) {rs : List Result} (ps qs : List Result) (p : Option Result) → rs ≡ ps ++ qs → resultOfLabel l ps ≡ p → resultOfLabel l rs ≡ orThat p (resultOfLabel l qs)
 find-after l ps qs p e h = ap (resultOfLabel l) e ∙ find-append l ps qs ∙ ap (λ (r : Option Result). orThat r (resultOfLabel l qs)) h

@@ -31,9 +31,9 @@ module _ (es : List Sent) (h : Runs opening es) (before later : List Call) (c : 
   meant : (r : Result) → ResultOf es (suc (length before)) r → resultOfLabel (suc (length before)) ((oneAtATime (before ++ (c ∷ later))) .results) ≡ some r
   meant r g = ap (λ (cs : List Call). resultOfLabel (suc (length before)) ((oneAtATime cs) .results)) (texts-same refl t (demand3 es h .texts)) ∙ result-meant es h (suc (length before)) r g
 
-module _ (es : List Sent) (h : Runs opening es) (before later : List Call) (k : ℕ) (to : List ℕ) where
-  pub link-result : TextsOf (acceptedLines es) (before ++ (link k to ∷ later)) → (r : Result) → ResultOf es (suc (length before)) r → LinkResult before to r
-  link-result t r g = graph.link-result before later k to (few es h before later (link k to) t) r (meant es h before later (link k to) t r g)
+module _ (es : List Sent) (h : Runs opening es) (before later : List Call) (k : ℕ) (ts : List ℕ) where
+  pub link-result : TextsOf (acceptedLines es) (before ++ (link k ts ∷ later)) → (r : Result) → ResultOf es (suc (length before)) r → LinkResult before ts r
+  link-result t r g = graph.link-result before later k ts (few es h before later (link k ts) t) r (meant es h before later (link k ts) t r g)
 
-  pub unlink-result : TextsOf (acceptedLines es) (before ++ (unlink k to ∷ later)) → (r : Result) → ResultOf es (suc (length before)) r → UnlinkResult before k to r
-  unlink-result t r g = graph.unlink-result before later k to (few es h before later (unlink k to) t) r (meant es h before later (unlink k to) t r g)
+  pub unlink-result : TextsOf (acceptedLines es) (before ++ (unlink k ts ∷ later)) → (r : Result) → ResultOf es (suc (length before)) r → UnlinkResult before k ts r
+  unlink-result t r g = graph.unlink-result before later k ts (few es h before later (unlink k ts) t) r (meant es h before later (unlink k ts) t r g)

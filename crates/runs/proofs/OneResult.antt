@@ -1,4 +1,4 @@
--- A label has one result: what a claim of it wrote, or would write, is determined.
+-- A label has one result: what a claim of it wrote, or would write, is that of one-at-a-time processing.
 -- Assumes nothing.
 use mathlib.Core.Path.{_≡_, refl, sym, ap, _∙_}
 use Prim.Native.Nat.{ℕ, zero}
@@ -74,7 +74,6 @@ module _ (line out : List ℕ) (r : ClaimMade) where
   last-meant meant (claimSent l o a ∷ es) m e = last-meant meant es (m .1) e
 
 module _ (es : List Sent) (h : Runs opening es) (l : ℕ) where
-  -- it is that of one-at-a-time processing
   pub result-meant : (q : Result) → ResultOf es l q → resultOfLabel l ((oneAtATime (demand3 es h .calls)) .results) ≡ some q
   result-meant q (claimed c) = claimed-meant _ l q (demand3 es h .claims) c
   result-meant q (unclaimed f) =

@@ -42,7 +42,7 @@ shared-slice-read-if1 : tie.Need-shared-slice-read-if1
 shared-slice-read-if1 c = search needs
 
 returns : tie.Need-returns
-returns c = refuses (λ p. c .if1 .taken (p .version))
+returns c = refuses (λ p. omega (arith, p .version, c .if1 .taken))
 
 sub-all-zero : tie.Need-sub-all-zero
 sub-all-zero c = search needs
