@@ -8,11 +8,12 @@ use mathlib.Core.Bool.{Bool, true, false, cond, _&&_}
 use mathlib.Core.List.{List, [], _∷_, _++_}
 use lib.Dec.{eqb, ltb, lit≤}
 use lib.ListN.{length, getD, length-append}
+use lib.Signed.{ltZ}
 use borrow.Author.Tests.{leb-true, leb-false, ltb-true, lt-ltb}
 use Rattle.graph.specs.declared.affine.Affine.{Affine}
 use Rattle.graph.specs.declared.act.Act.{Act}
 use Rattle.graph.specs.declared.act.Act.the-variants.{Map, Link, Unlink, Sum, Top, Pick, Near}
-use Rattle.graph.specs.Words.{modulus}
+use Rattle.graph.specs.Words.{modulus, signed}
 use Rattle.graph.specs.Affine.{plus}
 use Rattle.graph.specs.KeyLists.{isKey, areKeys, contains, count, strike, above, rising, isFull, sameKeys}
 use Rattle.graph.specs.Acts.{isMap, affineOf, newValue, newLinks, newHeld, resultValue}
@@ -119,7 +120,7 @@ valid-held (Map m) h v ls g k = k
 valid-held (Link j) h v ls g k = cond-lt (isFull ls) (plus h 1) h modulus (mod-lt (1 * h + 1) positive) k
 valid-held (Unlink j) h v ls g k = mod-lt (1 * h + count j ls) positive
 valid-held Sum h v ls g k = mod-lt (1 * h + v) positive
-valid-held Top h v ls g k = omega arith
+valid-held Top h v ls g k = cond-lt (ltZ (signed h) (signed v)) v h modulus g k
 valid-held Pick h v ls g k = g
 valid-held (Near j) h v ls g k = cond-lt (contains j ls) (plus h v) h modulus (mod-lt (1 * h + v) positive) k
 

@@ -1,9 +1,10 @@
 -- Numbers of 32 bits: values, the numbers of a map, starts.
 -- Assumes nothing.
-use Prim.Native.Nat.{ℕ, _^_}
-use mathlib.Core.Bool.{Bool, true, _&&_}
+use Prim.Native.Nat.{ℕ, _-_, _^_}
+use mathlib.Core.Bool.{Bool, true, cond, _&&_}
 use mathlib.Core.List.{List, [], _∷_}
 use lib.Dec.{ltb}
+use lib.IntN.{ℤ, pos, negℤ}
 
 -- 4,294,967,296
 abbrev pub modulus : ℕ
@@ -13,3 +14,8 @@ modulus = 2 ^ 32
 abbrev pub areWords : List ℕ → Bool
 areWords [] = true
 areWords (v ∷ vs) = ltb v modulus && areWords vs
+
+-- the number that stands for itself below 2,147,483,648 and for itself less 4,294,967,296 from there on. S-5, 'Negative offsets
+-- in top': "4,294,967,295 counts as −1 and 2,147,483,648 as the least"
+abbrev pub signed : ℕ → ℤ
+signed v = cond (ltb v (2 ^ 31)) (pos v) (negℤ (pos (modulus - v)))
