@@ -6,7 +6,7 @@ use native.Mathlib.Nat.{mul-le-mul-left}
 use native.Mathlib.Omega.{arith}
 use mathlib.Core.Bool.{Bool, true, false, cond}
 use mathlib.Core.List.{List, [], _∷_, _++_}
-use mathlib.Core.Option.{none, some}
+use mathlib.Core.Option.{some}
 use lib.ListN.{length}
 use Rattle.graph.specs.declared.act.Act.{Act}
 use Rattle.graph.specs.declared.act.Act.the-variants.{Link, Unlink}
@@ -14,48 +14,15 @@ use Rattle.graph.specs.Affine.{plus}
 use Rattle.graph.specs.Words.{modulus}
 use Rattle.graph.specs.KeyLists.{contains, count, strike, isFull}
 use Rattle.graph.specs.Acts.{newHeld, resultValue}
-use Rattle.graph.specs.Calls.{Call, link, unlink, targetsOf}
-use Rattle.graph.specs.Nodes.{Node, Op, Result, hits, actOn, actBy, visitOp, addResult}
-use Rattle.graph.specs.OneAtATime.{World, operation, labelled, passNodes, passOp, process, processFrom, oneAtATime}
+use Rattle.graph.specs.Calls.{Call, link, unlink}
+use Rattle.graph.specs.Nodes.{Node, Result, actOn, actBy}
+use Rattle.graph.specs.OneAtATime.{World, operation, labelled, passNodes, passOp, oneAtATime}
 use Rattle.graph.specs.Counts.{resultOfLabel}
 use Rattle.graph.specs.CountResults.{nodesAfter, overTargets, oneIfFull, LinkResult, linksIn, UnlinkResult}
-use Rattle.graph.proofs.Found.{some-same, find-here, find-skip, find-after}
 use Rattle.graph.proofs.Striking.{strike-less, count-strike, strike-none, contains-strike}
-use Rattle.graph.proofs.Meeting.{visit-key, visit-act}
-use Rattle.graph.proofs.Limits.{short-links}
-use Rattle.graph.proofs.Validity.{Sort, adds, operates, sort}
-use Rattle.graph.proofs.Demand3.{pass-labels, oneAtATime-append, oneAtATime-last}
-
--- NODES FROM NOTHING: keys fall to 1, and no list has more than eight, whatever the calls
-abbrev Made : List Node → Type 0
-Made [] = Unit {0}
-Made (n ∷ ns) = (n .key ≡ suc (length ns)) × (length (n .links) ≤ 8) × Made ns
-
-pass-length : (o : Op) (ns : List Node) → length (passNodes o ns) ≡ length ns
-pass-length o [] = refl
-pass-length o (n ∷ ns) = ap suc (pass-length (visitOp o n) ns)
-
-made-pass : (o : Op) (ns : List Node) → Made ns → Made (passNodes o ns)
-made-pass o [] h = tt
-made-pass o (n ∷ ns) h = (visit-key o n ∙ h .0 ∙ ap suc (sym (pass-length (visitOp o n) ns)), short (hits o n), made-pass (visitOp o n) ns (h .2))
-  where
-    short : (b : Bool) → length ((cond b (actOn o n) n) .links) ≤ 8
-    short true = short-links (o .act) (n .links) (h .1)
-    short false = h .1
-
-made-process : (c : Call) (l : ℕ) (x : World) → Made (x .nodes) → Made ((process (labelled c l) x) .nodes)
-made-process c l x h = go (sort c l)
-  where
-    go : Sort c l → Made ((process (labelled c l) x) .nodes)
-    go (adds v i e) = rw e (refl, omega arith, h)
-    go (operates a v i e) = rw e (made-pass _ (x .nodes) h)
-
-made-from : (l : ℕ) (cs : List Call) (x : World) → Made (x .nodes) → Made ((processFrom l cs x) .nodes)
-made-from l [] x h = h
-made-from l (c ∷ cs) x h = made-from (suc l) cs (process (labelled c l) x) (made-process c l x h)
-
-made : (cs : List Call) → Made (nodesAfter cs)
-made cs = made-from 1 cs _ tt
+use Rattle.graph.proofs.Demand3.{oneAtATime-last}
+use Rattle.graph.proofs.MadeNodes.{Made, made}
+use Rattle.graph.proofs.OwnResult.{op, own-value}
 
 -- a struck key is that of no node behind it
 struck : (f : List ℕ → ℕ) (to : List ℕ) (k : ℕ) (ns : List Node) → length ns < k → Made ns → overTargets f (strike k to) ns ≡ overTargets f to ns
@@ -86,41 +53,6 @@ unlink-counts k = record { grows = λ h v ls l. omega arith; few = λ ls l. omeg
 one-more : (most x y : ℕ) → x < y → most + most * x ≤ most * y
 one-more most x y h = omega (arith, mul-le-mul-left most h)
 
-abbrev op : Act → ℕ → List ℕ → List ℕ → Op
-op a h to ls = record { act = a; held = h; targets = to; labels = ls }
-
-pass-act : (o : Op) (ns : List Node) → (passOp o ns) .act ≡ o .act
-pass-act o [] = refl
-pass-act o (n ∷ ns) = pass-act (visitOp o n) ns ∙ visit-act o n
-
--- THE RESULT OF A LABEL: each call adds one result, that of its own label
-record AddsOne (l : ℕ) (x y : World) : Type 0 where
-  result : Result
-  label : result .label ≡ l
-  more : y .results ≡ x .results ++ (result ∷ [])
-
-process-one : (c : Call) (l : ℕ) (x : World) → AddsOne l x (process (labelled c l) x)
-process-one c l x = go (sort c l)
-  where
-    go : Sort c l → AddsOne l x (process (labelled c l) x)
-    go (adds v i e) = rw e (record { result = addResult l (length (x .nodes)); label = refl; more = refl })
-    go (operates a h i e) =
-        let o : Op = record { act = a; held = h; targets = targetsOf c; labels = l ∷ [] } in
-        let q : Op = passOp o (x .nodes) in
-        rw e (record { result = record { label = l; value = resultValue (q .act) (q .held); left = q .targets }; label = refl; more = rw (pass-labels o (x .nodes)) })
-
-later-keep : (m l : ℕ) (cs : List Call) (x : World) (q : Result) → resultOfLabel m (x .results) ≡ some q → resultOfLabel m ((processFrom l cs x) .results) ≡ some q
-later-keep m l [] x q e = e
-later-keep m l (c ∷ cs) x q e =
-    let a = process-one c l x in
-    later-keep m (suc l) cs (process (labelled c l) x) q (find-after m (x .results) (a .result ∷ []) (some q) (a .more) e)
-
-earlier-miss : (m l : ℕ) (cs : List Call) (x : World) → l + length cs ≤ m → resultOfLabel m (x .results) ≡ none → resultOfLabel m ((processFrom l cs x) .results) ≡ none
-earlier-miss m l [] x h e = e
-earlier-miss m l (c ∷ cs) x h e =
-    let a = process-one c l x in
-    earlier-miss m (suc l) cs (process (labelled c l) x) (omega arith) (find-after m (x .results) (a .result ∷ []) none (a .more) e ∙ find-skip m (a .result) [] (λ q. omega (arith, a .label, q)))
-
 module _ (f : List ℕ → ℕ) (most : ℕ) (a : Act) (counts : CountsBy f most a) where
   over-few : (to : List ℕ) (ns : List Node) → Made ns → overTargets f to ns ≤ most * length to
   over-few to [] m = omega arith
@@ -149,16 +81,7 @@ module _ (f : List ℕ → ℕ) (most : ℕ) (a : Act) (counts : CountsBy f most
   result-counts : (before later : List Call) (c : Call) (to : List ℕ) → ((m : ℕ) → labelled c m ≡ operation a 0 to m) → most * length to ≤ 64 →
       (r : Result) → resultOfLabel (suc (length before)) ((oneAtATime (before ++ (c ∷ later))) .results) ≡ some r → r .value ≡ overTargets f to (nodesAfter before)
   result-counts before later c to is h r e =
-      let m : ℕ = suc (length before) in
-      let x : World = oneAtATime before in
-      let q : Op = passOp (op a 0 to (m ∷ [])) (x .nodes) in
-      let own : Result = record { label = m; value = resultValue (q .act) (q .held); left = q .targets } in
-      let new : (process (labelled c m) x) .results ≡ x .results ++ (own ∷ []) = rw (is m, pass-labels (op a 0 to (m ∷ [])) (x .nodes)) in
-      let none-yet : resultOfLabel m (x .results) ≡ none = earlier-miss m 1 before _ (omega arith) refl in
-      let found : resultOfLabel m ((process (labelled c m) x) .results) ≡ some own = find-after m (x .results) (own ∷ []) none new none-yet ∙ find-here m own [] refl in
-      let same : own ≡ r = some-same (sym (later-keep m (suc m) later (process (labelled c m) x) own found) ∙ sym (ap (λ (y : World). resultOfLabel m (y .results)) (oneAtATime-append before (c ∷ later))) ∙ e) in
-      let given : resultValue (q .act) (q .held) ≡ q .held = ap (λ (b : Act). resultValue b (q .held)) (pass-act (op a 0 to (m ∷ [])) (x .nodes)) ∙ counts .result (q .held) in
-      omega (arith, pass-held 0 to (m ∷ []) (x .nodes) (made before) (omega (arith, h)), given, ap (λ (y : Result). y .value) same)
+      omega (arith, own-value a 0 to before later c is r e ∙ counts .result _, pass-held 0 to (suc (length before) ∷ []) (nodesAfter before) (made before) (omega (arith, h)))
 
 -- "A call names 0 to 8 target keys"
 pub link-result : (before later : List Call) (k : ℕ) (to : List ℕ) → length to ≤ 8 →

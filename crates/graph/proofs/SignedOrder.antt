@@ -1,12 +1,13 @@
 -- The signed order is the unsigned order of the numbers with 2,147,483,648 added, modulo 4,294,967,296 (offset binary).
 -- Assumes nothing.
-use mathlib.Core.Path.{_≡_, refl, sym, _∙_, ap}
-use Prim.Native.Nat.{ℕ, suc, _+_, _-_, _^_, _<_, _≤_}
+use mathlib.Core.Path.{_≡_, refl, sym, _∙_, ap, subst}
+use Prim.Native.Nat.{ℕ, suc, _-_, _^_, _<_, _≤_, zero-le}
+use native.Mathlib.Nat.{le-of-lt}
 use native.Mathlib.Omega.{arith}
-use mathlib.Core.Bool.{Bool, true, false, cond}
-use lib.Dec.{ltb}
+use mathlib.Core.Bool.{Bool, true, false, cond, not}
+use lib.Dec.{T, ltb, ltb→lt, le→leb}
 use lib.IntN.{ℤ, pos, negsuc, negℤ}
-use lib.Signed.{ltZ}
+use lib.Signed.{ltZ, leZ, _≤ℤ_, ltZ-yes, ltZ-no, <ℤ-≤ℤ-trans, clashℤ}
 use borrow.Author.Tests.{lt-ltb, le-ltb, ltb-true, ltb-false}
 use Rattle.graph.specs.Words.{modulus, signed}
 use Rattle.graph.specs.Affine.{plus}
@@ -47,3 +48,22 @@ signed-order h v k l = go (ltb h (2 ^ 31)) refl (ltb v (2 ^ 31)) refl
         (λ i. ltZ (negative h (ltb-false h (2 ^ 31) e) k i) (negative v (ltb-false v (2 ^ 31) f) l i))
         ∙ same-test (4294967295 - v) (4294967295 - h) (biased h) (biased v)
         (λ o. omega (arith, o, ltb-false h (2 ^ 31) e, ltb-false v (2 ^ 31) f, k, l)) (λ o. omega (arith, o, ltb-false h (2 ^ 31) e, ltb-false v (2 ^ 31) f, k, l))
+
+pub signed-least : (v : ℕ) → v < modulus → signed 2147483648 ≤ℤ signed v
+signed-least v h =
+    let no : ltZ (signed v) (signed 2147483648) ≡ false = signed-order v 2147483648 h (omega arith) ∙ le-ltb (biased v) (biased 2147483648) zero-le in
+    ltZ-no (subst (λ (t : Bool). T (not t)) (sym no) tt)
+
+-- LAWS OF THE ORDER
+pub less-most : (a b : ℤ) → T (ltZ a b) → T (leZ a b)
+less-most (pos a) (pos b) t = le→leb a b (le-of-lt (ltb→lt a b t))
+less-most (pos a) (negsuc b) t = t
+less-most (negsuc a) (pos b) t = t
+less-most (negsuc a) (negsuc b) t = le→leb b a (le-of-lt (ltb→lt b a t))
+
+pub ≤ℤ-trans : {a b c : ℤ} → a ≤ℤ b → b ≤ℤ c → a ≤ℤ c
+≤ℤ-trans {a} {b} {c} h k = go (ltZ c a) refl
+  where
+    go : (t : Bool) → ltZ c a ≡ t → a ≤ℤ c
+    go true e = clashℤ (<ℤ-≤ℤ-trans (ltZ-yes (subst T (sym e) tt)) h) k
+    go false e = ltZ-no (subst (λ (t : Bool). T (not t)) (sym e) tt)

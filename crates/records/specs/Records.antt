@@ -12,7 +12,7 @@ use Rattle.records.specs.Bytes.{bytes16, bytes32, encodeKeys}
 
 -- the image's version: docs/IMAGE.md says what each changed
 abbrev pub imageVersion : ℕ
-imageVersion = 2
+imageVersion = 3
 
 -- the head: the version, three counts, the last label given, ten zeros
 unfoldable pub encodeHead : Head → List ℕ

@@ -3,7 +3,7 @@ ghost use mathlib.Core.Path.{_≡_};
 ghost use Rattle.records.specs.Records.{encodeHead};
 
 // The image's version: docs/IMAGE.md says what each changed.
-pub const VERSION: u8 = 2;
+pub const VERSION: u8 = 3;
 
 // How many nodes, operations and results there are, and the last label given.
 pub struct Head {

@@ -1,15 +1,12 @@
 -- What a link and an unlink count, of every list of lines sent to a fresh session, whatever the schedule and the calls after it.
 -- Assumes nothing.
-use mathlib.Core.Path.{_≡_, refl, ap, subst, _∙_}
+use mathlib.Core.Path.{refl, subst}
 use Prim.Native.Nat.{ℕ, suc, _≤_}
 use mathlib.Core.List.{List, _∷_, _++_}
-use mathlib.Core.Option.{some}
 use lib.ListN.{length}
 use Rattle.graph.specs.Calls.{Call, link, unlink, targetsOf}
 use Rattle.graph.specs.Nodes.{Result}
-use Rattle.graph.specs.OneAtATime.{oneAtATime}
 use Rattle.graph.specs.EventRuns.{EventRun}
-use Rattle.graph.specs.Counts.{resultOfLabel}
 use Rattle.graph.specs.CountResults.{LinkResult, UnlinkResult}
 use Rattle.graph.specs.Valid.{Each}
 use Rattle.graph.proofs.Limits.{each-right}
@@ -17,9 +14,9 @@ use Rattle.graph.proofs.Demand3.{FewTargets, few-targets}
 use Rattle.graph.proofs.CountResults as graph
 use Rattle.runs.specs.Runs.{Sent, Runs, opening, acceptedLines, TextsOf}
 use Rattle.runs.specs.Demand.{ResultOf}
-use Rattle.runs.proofs.Demand3.{to, demand3}
+use Rattle.runs.proofs.Demand3.{to}
 use Rattle.runs.proofs.SameEnd.{texts-same}
-use Rattle.runs.proofs.OneResult.{result-meant}
+use Rattle.runs.proofs.OneResult.{call-meant}
 
 -- the accepted lines are the texts of these calls, of which c is one; its label is one above the number of those before it
 module _ (es : List Sent) (h : Runs opening es) (before later : List Call) (c : Call) (t : TextsOf (acceptedLines es) (before ++ (c ∷ later))) where
@@ -28,12 +25,9 @@ module _ (es : List Sent) (h : Runs opening es) (before later : List Call) (c : 
       let all : Each FewTargets (to es h .calls) = subst (λ (x : EventRun). Each FewTargets (x .accepted)) (to es h .moved) (few-targets (to es h .made)) in
       each-right FewTargets before (c ∷ later) (subst (Each FewTargets) (texts-same refl (to es h .texts) t) all) .0
 
-  meant : (r : Result) → ResultOf es (suc (length before)) r → resultOfLabel (suc (length before)) ((oneAtATime (before ++ (c ∷ later))) .results) ≡ some r
-  meant r g = ap (λ (cs : List Call). resultOfLabel (suc (length before)) ((oneAtATime cs) .results)) (texts-same refl t (demand3 es h .texts)) ∙ result-meant es h (suc (length before)) r g
-
 module _ (es : List Sent) (h : Runs opening es) (before later : List Call) (k : ℕ) (ts : List ℕ) where
   pub link-result : TextsOf (acceptedLines es) (before ++ (link k ts ∷ later)) → (r : Result) → ResultOf es (suc (length before)) r → LinkResult before ts r
-  link-result t r g = graph.link-result before later k ts (few es h before later (link k ts) t) r (meant es h before later (link k ts) t r g)
+  link-result t r g = graph.link-result before later k ts (few es h before later (link k ts) t) r (call-meant es h (suc (length before)) _ t r g)
 
   pub unlink-result : TextsOf (acceptedLines es) (before ++ (unlink k ts ∷ later)) → (r : Result) → ResultOf es (suc (length before)) r → UnlinkResult before k ts r
-  unlink-result t r g = graph.unlink-result before later k ts (few es h before later (unlink k ts) t) r (meant es h before later (unlink k ts) t r g)
+  unlink-result t r g = graph.unlink-result before later k ts (few es h before later (unlink k ts) t) r (call-meant es h (suc (length before)) _ t r g)

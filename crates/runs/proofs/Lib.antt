@@ -9,4 +9,5 @@ pub mod SameImage
 pub mod EveryRun
 pub mod OneResult
 pub mod CountResults
+pub mod TopResult
 pub mod StepsTaken

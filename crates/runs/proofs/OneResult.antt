@@ -20,7 +20,7 @@ use Rattle.print.specs.Printed.{resultText}
 use Rattle.print.proofs.ReadBack.{result-inj}
 use Rattle.host.specs.Entries.{ClaimMade, Claims}
 use Rattle.host.proofs.Determined.{claim-forms}
-use Rattle.runs.specs.Runs.{Sent, callSent, stepSent, claimSent, Runs, opening, after, isServed, acceptedLines, Wrote, ClaimedIn, here, there}
+use Rattle.runs.specs.Runs.{Sent, callSent, stepSent, claimSent, Runs, opening, after, isServed, acceptedLines, TextsOf, Wrote, ClaimedIn, here, there}
 use Rattle.runs.specs.Demand.{ResultOf, claimed, unclaimed, GaveMeant, ClaimsMeant}
 use Rattle.graph.proofs.Found.{some-same}
 use Rattle.runs.proofs.Demand3.{demand3}
@@ -85,6 +85,10 @@ module _ (es : List Sent) (h : Runs opening es) (l : ℕ) where
       let same : t .calls ≡ demand3 es h .calls = texts-same (more-accepted (claimText l) out r es) (t .texts) (demand3 es h .texts) in
       ap (λ (cs : List Call). resultOfLabel l ((oneAtATime cs) .results)) (sym same)
       ∙ ap (λ (k : ℕ). resultOfLabel k ((oneAtATime (t .calls)) .results)) (claim-unique l (g .label) (g .text .same)) ∙ g .same ∙ ap some (wrote-same (g .wrote) (w .wrote))
+
+  -- the calls may be any that have the accepted lines as their texts
+  pub call-meant : (cs : List Call) → TextsOf (acceptedLines es) cs → (q : Result) → ResultOf es l q → resultOfLabel l ((oneAtATime cs) .results) ≡ some q
+  call-meant cs t q g = ap (λ (ds : List Call). resultOfLabel l ((oneAtATime ds) .results)) (texts-same refl t (demand3 es h .texts)) ∙ result-meant q g
 
   pub result-same : (p q : Result) → ResultOf es l p → ResultOf es l q → p ≡ q
   result-same p q a b = some-same (sym (result-meant p a) ∙ result-meant q b)

@@ -9,10 +9,10 @@ ghost use lib.ListN.{length};
 
 // Up to three bytes of the session below, each with its place and its new value. Cases 1 to 57 are refused, the others pass.
 const CASES: [[u16; 6]; 68] = [
-    // 1 version 1
-    [0, 1, 0, 1, 0, 1],
-    // 2 version 3
-    [0, 3, 0, 3, 0, 3],
+    // 1 version 2
+    [0, 2, 0, 2, 0, 2],
+    // 2 version 4
+    [0, 4, 0, 4, 0, 4],
     // 3 a byte of the head that is not used
     [15, 1, 15, 1, 15, 1],
     // 4 65 nodes
