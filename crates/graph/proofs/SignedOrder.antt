@@ -19,35 +19,34 @@ same-test a b c d f g = go (ltb a b) refl
     go true e = sym (lt-ltb c d (f (ltb-true a b e)))
     go false e = sym (le-ltb c d (g (ltb-false a b e)))
 
--- HALVES: the number that a value stands for, and the biased value
-negative : (v : ℕ) → 2 ^ 31 ≤ v → v < modulus → signed v ≡ negsuc (4294967295 - v)
-negative v h k =
-    let e : modulus - v ≡ suc (4294967295 - v) = omega arith in
-    ap (λ (t : Bool). cond t (pos v) (negℤ (pos (modulus - v)))) (le-ltb v (2 ^ 31) h) ∙ ap (λ (n : ℕ). negℤ (pos n)) e
+-- how a number is read: as itself, or as itself less 4,294,967,296
+data Reading (v : ℕ) : Type 0 where
+  plain : v < 2 ^ 31 → signed v ≡ pos v → Reading v
+  negative : 2 ^ 31 ≤ v → signed v ≡ negsuc (4294967295 - v) → Reading v
 
-positive : (v : ℕ) → v < 2 ^ 31 → signed v ≡ pos v
-positive v h = ap (λ (t : Bool). cond t (pos v) (negℤ (pos (modulus - v)))) (lt-ltb v (2 ^ 31) h)
+reading : (v : ℕ) → v < modulus → Reading v
+reading v h = go (ltb v (2 ^ 31)) refl
+  where
+    by : Bool → ℤ
+    by t = cond t (pos v) (negℤ (pos (modulus - v)))
+
+    go : (t : Bool) → ltb v (2 ^ 31) ≡ t → Reading v
+    go true e = plain (ltb-true v (2 ^ 31) e) (ap by e)
+    go false e =
+        let one-less : modulus - v ≡ suc (4294967295 - v) = omega arith in
+        negative (ltb-false v (2 ^ 31) e) (ap by e ∙ ap (λ (n : ℕ). negℤ (pos n)) one-less)
 
 abbrev biased : ℕ → ℕ
 biased v = plus v 2147483648
 
 pub signed-order : (h v : ℕ) → h < modulus → v < modulus → ltZ (signed h) (signed v) ≡ ltb (biased h) (biased v)
-signed-order h v k l = go (ltb h (2 ^ 31)) refl (ltb v (2 ^ 31)) refl
+signed-order h v k l = go (reading h k) (reading v l)
   where
-    go : (s : Bool) → ltb h (2 ^ 31) ≡ s → (t : Bool) → ltb v (2 ^ 31) ≡ t → ltZ (signed h) (signed v) ≡ ltb (biased h) (biased v)
-    go true e true f =
-        (λ i. ltZ (positive h (ltb-true h (2 ^ 31) e) i) (positive v (ltb-true v (2 ^ 31) f) i))
-        ∙ same-test h v (biased h) (biased v) (λ o. omega (arith, o, ltb-true h (2 ^ 31) e, ltb-true v (2 ^ 31) f)) (λ o. omega (arith, o, ltb-true h (2 ^ 31) e, ltb-true v (2 ^ 31) f))
-    go true e false f =
-        (λ i. ltZ (positive h (ltb-true h (2 ^ 31) e) i) (negative v (ltb-false v (2 ^ 31) f) l i))
-        ∙ sym (le-ltb (biased h) (biased v) (omega (arith, ltb-true h (2 ^ 31) e, ltb-false v (2 ^ 31) f, l)))
-    go false e true f =
-        (λ i. ltZ (negative h (ltb-false h (2 ^ 31) e) k i) (positive v (ltb-true v (2 ^ 31) f) i))
-        ∙ sym (lt-ltb (biased h) (biased v) (omega (arith, ltb-false h (2 ^ 31) e, ltb-true v (2 ^ 31) f, k)))
-    go false e false f =
-        (λ i. ltZ (negative h (ltb-false h (2 ^ 31) e) k i) (negative v (ltb-false v (2 ^ 31) f) l i))
-        ∙ same-test (4294967295 - v) (4294967295 - h) (biased h) (biased v)
-        (λ o. omega (arith, o, ltb-false h (2 ^ 31) e, ltb-false v (2 ^ 31) f, k, l)) (λ o. omega (arith, o, ltb-false h (2 ^ 31) e, ltb-false v (2 ^ 31) f, k, l))
+    go : Reading h → Reading v → ltZ (signed h) (signed v) ≡ ltb (biased h) (biased v)
+    go (plain e p) (plain f q) = (λ i. ltZ (p i) (q i)) ∙ same-test h v (biased h) (biased v) (λ o. omega arith) (λ o. omega arith)
+    go (plain e p) (negative f q) = (λ i. ltZ (p i) (q i)) ∙ sym (le-ltb (biased h) (biased v) (omega arith))
+    go (negative e p) (plain f q) = (λ i. ltZ (p i) (q i)) ∙ sym (lt-ltb (biased h) (biased v) (omega arith))
+    go (negative e p) (negative f q) = (λ i. ltZ (p i) (q i)) ∙ same-test (4294967295 - v) (4294967295 - h) (biased h) (biased v) (λ o. omega arith) (λ o. omega arith)
 
 pub signed-least : (v : ℕ) → v < modulus → signed 2147483648 ≤ℤ signed v
 signed-least v h =
