@@ -156,11 +156,15 @@ def act(op, node):
         op.held += node.links.count(op.key)
         node.links = [key for key in node.links if key != op.key]
     elif op.kind == "top":
-        op.held = max(op.held, node.value)
+        op.held = max(op.held, node.value, key=signed)
     elif op.kind == "pick":
         op.held = node.value
     elif op.kind == "sum" or op.key in node.links:
         op.held = (op.held + node.value) % WRAP
+
+
+def signed(number):
+    return number if number < WRAP // 2 else number - WRAP
 
 
 def may_swap(first, second):

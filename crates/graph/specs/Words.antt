@@ -15,7 +15,7 @@ abbrev pub areWords : List ℕ → Bool
 areWords [] = true
 areWords (v ∷ vs) = ltb v modulus && areWords vs
 
--- the number that stands for itself below 2,147,483,648 and for itself less 4,294,967,296 from there on. S-5, 'Negative offsets
--- in top': "4,294,967,295 counts as −1 and 2,147,483,648 as the least"
+-- the integer that a number counts as when it is signed: itself below 2,147,483,648, from there on itself less 4,294,967,296.
+-- S-5, 'Negative offsets in top': "4,294,967,295 counts as −1 and 2,147,483,648 as the least"
 abbrev pub signed : ℕ → ℤ
 signed v = cond (ltb v (2 ^ 31)) (pos v) (negℤ (pos (modulus - v)))

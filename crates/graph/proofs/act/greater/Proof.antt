@@ -2,6 +2,7 @@
 -- Assumes nothing.
 use mathlib.Core.Path.{_≡_, sym, _∙_, ap}
 use Prim.Native.Nat.{_<_, _≤_}
+use native.Mathlib.Omega.{arith}
 use mathlib.Core.Bool.{Bool, true, false, cond}
 use lib.Signed.{ltZ}
 use borrow.Author.Needs.{needs}
@@ -23,7 +24,7 @@ returns c =
     let a = c .before .before .before .args in
     let held-fits : a .held < modulus = search needs in
     let value-fits : a .value < modulus = search needs in
-    let less : plus (a .held) 2147483648 < plus (a .value) 2147483648 = rw (c .before .before .biased .ensures, c .before .biased2 .ensures) at (c .if1 .taken) in
+    let less : plus (a .held) 2147483648 < plus (a .value) 2147483648 = omega (arith, c .before .before .biased .ensures, c .before .biased2 .ensures, c .if1 .taken) in
     let yes : ltZ (signed (a .held)) (signed (a .value)) ≡ true = signed-order (a .held) (a .value) held-fits value-fits ∙ lt-ltb _ _ less in
     sym (ap (λ (t : Bool). cond t (a .value) (a .held)) yes)
 
@@ -32,7 +33,7 @@ returns-2 c =
     let a = c .before .before .before .args in
     let held-fits : a .held < modulus = search needs in
     let value-fits : a .value < modulus = search needs in
-    let most : plus (a .value) 2147483648 ≤ plus (a .held) 2147483648 = rw (c .before .before .biased .ensures, c .before .biased2 .ensures) at (c .if1 .left) in
+    let most : plus (a .value) 2147483648 ≤ plus (a .held) 2147483648 = omega (arith, c .before .before .biased .ensures, c .before .biased2 .ensures, c .if1 .left) in
     let no : ltZ (signed (a .held)) (signed (a .value)) ≡ false = signed-order (a .held) (a .value) held-fits value-fits ∙ le-ltb _ _ most in
     sym (ap (λ (t : Bool). cond t (a .value) (a .held)) no)
 
