@@ -154,8 +154,8 @@ pub fn full() -> Scene {
 }
 
 /// A session in which a step of every kind is allowed: a result that is left alone, sums at one station,
-/// maps at another, a unit of two at a third, a sum without targets at the front, and calls that wait. For an unlink's
-/// realise one with as many live calls: the unlink at its first target, and sums that wait.
+/// maps at another, a unit of two at a third, a sum without targets at the front, and calls that wait. For a realise of an
+/// unlink and of a top one each with as many live calls: the unlink or the top at its first target, and sums that wait.
 fn busy(nodes: u32, links: u32, targets: u32, stations: [u32; 3], counts: [u32; 3]) -> Vec<Row> {
     let [low, middle, high] = stations;
     let [sums, maps, waiting] = counts;
@@ -179,13 +179,18 @@ fn busy(nodes: u32, links: u32, targets: u32, stations: [u32; 3], counts: [u32; 
     }
     let mut with_a_place_free = desk.clone();
     with_a_place_free.serve("claim=1");
-    let mut cutting = Desk::open();
-    cutting.add_nodes(nodes, links);
-    cutting.bring(1, &format!("call=unlink key=1 to={to}"), nodes, targets);
-    for _ in 0..sums + maps + waiting + 3 {
-        cutting.serve(&sum);
-    }
-    let cut = format!("step=realise at={targets}");
+    let at_its_first_target = |call: String| {
+        let mut desk = Desk::open();
+        desk.add_nodes(nodes, links);
+        desk.bring(1, &call, nodes, targets);
+        for _ in 0..sums + maps + waiting + 3 {
+            desk.serve(&sum);
+        }
+        desk
+    };
+    let unlinking = at_its_first_target(format!("call=unlink key=1 to={to}"));
+    let topping = at_its_first_target(format!("call=top start=2147483648 to={to}"));
+    let realise = format!("step=realise at={targets}");
     let step = |name, line: String, refusal| desk.row(name, Entry::Step, &line, refusal);
     vec![
         desk.row("open", Entry::Open, "", 0),
@@ -193,7 +198,8 @@ fn busy(nodes: u32, links: u32, targets: u32, stations: [u32; 3], counts: [u32; 
         desk.row("call, 10", Entry::Call, &format!("{map},"), 10),
         step("step admit", "step=admit".into(), 0),
         step("step realise", format!("step=realise at={low}"), 0),
-        cutting.row("step realise, unlink", Entry::Step, &cut, 0),
+        unlinking.row("step realise, unlink", Entry::Step, &realise, 0),
+        topping.row("step realise, top", Entry::Step, &realise, 0),
         step("step move", format!("step=move at={middle}"), 0),
         step("step finish", format!("step=finish at={nodes}"), 0),
         step("step join", format!("step=join at={middle} unit=1"), 0),
