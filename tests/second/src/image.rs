@@ -12,7 +12,7 @@ use crate::steps::LABELS;
 /// Every image has this length.
 pub const IMAGE_BYTES: usize = 4112;
 
-const VERSION: u8 = 2;
+const VERSION: u8 = 3;
 const NODES_AT: usize = 16;
 const NODE_BYTES: usize = 16;
 const OPERATIONS_AT: usize = 1040;

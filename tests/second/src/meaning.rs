@@ -7,6 +7,8 @@ use crate::line::{Call, LIST};
 use crate::session::{Act, Node, Outcome};
 
 const MODULUS: u64 = 4_294_967_296;
+/// From here on a number counts as below zero, where tops compare it.
+const HALF: u32 = 2_147_483_648;
 
 fn modulo(number: u64) -> u32 {
     (number % MODULUS) as u32
@@ -77,8 +79,27 @@ fn visit_all<'a>(act: &Act, targets: impl Iterator<Item = &'a mut Node>) -> u32 
         }
         Act::Sum { held } => sum(held, targets),
         Act::Near { key, held } => sum(held, targets.filter(|node| node.links.contains(&key))),
-        Act::Top { held } => targets.map(|node| node.value).fold(held, u32::max),
+        Act::Top { held } => targets.map(|node| node.value).fold(held, greater),
         Act::Pick { held } => targets.map(|node| node.value).last().unwrap_or(held),
+    }
+}
+
+/// A number as a signed one: 4,294,967,295 is -1, and 2,147,483,648 the least.
+fn signed(number: u32) -> i64 {
+    let wide = i64::from(number);
+    if number < HALF {
+        wide
+    } else {
+        wide - MODULUS as i64
+    }
+}
+
+/// The greater of two signed numbers, as it was written.
+fn greater(first: u32, second: u32) -> u32 {
+    if signed(first) < signed(second) {
+        second
+    } else {
+        first
     }
 }
 

@@ -1,8 +1,13 @@
 //! Seeded random numbers and lines, for tests that compare.
 
-use crate::session::{Act, Session, Station, Waiting};
+use crate::session::{Act, Operation, Session, Station, Waiting};
 
 pub mod session;
+
+/// The least signed number. The greatest stands before it.
+const LEAST: u32 = 2_147_483_648;
+/// Where the signed order begins, passes zero and ends.
+const HEIGHTS: [u32; 4] = [LEAST, u32::MAX, 0, LEAST - 1];
 
 /// SplitMix64: small, seeded, and the same on every machine.
 #[derive(Clone, Debug)]
@@ -53,6 +58,8 @@ pub struct Scribe {
     links: u64,
     /// One other visiting call in so many is an unlink there, where lists hold something.
     unlinks: u64,
+    /// One other visiting call in so many sets a height or asks for a top.
+    heights: u64,
 }
 
 impl Scribe {
@@ -64,6 +71,7 @@ impl Scribe {
             claims: random.choose(&[1, 3, 9]),
             links: random.choose(&[2, 3, 20, 100]),
             unlinks: random.choose(&[2, 4, 40]),
+            heights: random.choose(&[2, 4, 20]),
             random,
         }
     }
@@ -109,19 +117,22 @@ impl Scribe {
             let to = random.choose(&["1", "2", "1,2", "1,2", "1,2,64"]);
             return format!("call=unlink key={} to={to}", few_key(random));
         }
-        let last = last_targets(session).filter(|_| random.once_in(3));
-        if let Some(targets) = last {
-            let (a, b, to) = (value(random), value(random), text(targets));
+        let last = last_operation(session);
+        if random.once_in(self.heights) {
+            return height_line(random, last);
+        }
+        if let Some(last) = last.filter(|_| random.once_in(3)) {
+            let (a, b, to) = (value(random), value(random), text(&last.targets));
             return format!("call=map a={a} b={b} to={to}");
         }
         let to = target_text(random, session);
-        match random.below(9) {
-            0..=2 => format!("call=map a={} b={} to={to}", value(random), value(random)),
-            3 => format!("call=link key={} to={to}", link_key(random, session)),
-            4 => format!("call=unlink key={} to={to}", link_key(random, session)),
-            5 => format!("call=sum start={} to={to}", value(random)),
-            6 => format!("call=top start={} to={to}", value(random)),
-            7 => format!("call=pick start={} to={to}", value(random)),
+        match random.below(8) {
+            0 | 1 => format!("call=map a={} b={} to={to}", value(random), value(random)),
+            2 => format!("call=link key={} to={to}", link_key(random, session)),
+            3 => format!("call=unlink key={} to={to}", link_key(random, session)),
+            4 => format!("call=sum start={} to={to}", value(random)),
+            5 => format!("call=top start={} to={to}", value(random)),
+            6 => format!("call=pick start={} to={to}", value(random)),
             _ => {
                 let key = link_key(random, session);
                 format!("call=near key={key} start={} to={to}", value(random))
@@ -187,15 +198,32 @@ impl Scribe {
     }
 }
 
-/// The targets of the call that was accepted last, if it stands where the next joins it.
-fn last_targets(session: &Session) -> Option<&[u8]> {
+/// The call that was accepted last, if it stands where the next joins it.
+fn last_operation(session: &Session) -> Option<&Operation> {
     match session.top.back() {
-        Some(Waiting::Visit(operation)) => Some(&operation.targets),
+        Some(Waiting::Visit(operation)) => Some(operation),
         Some(Waiting::Add { .. }) => None,
-        None => {
-            let unit = session.stations.first()?.streamlet.back()?;
-            unit.last().map(|operation| operation.targets.as_slice())
-        }
+        None => session.stations.first()?.streamlet.back()?.last(),
+    }
+}
+
+/// Asks for the top of what the last call set, mostly; else sets few nodes to a height, or
+/// asks for their top.
+fn height_line(random: &mut Random, last: Option<&Operation>) -> String {
+    let set = last.and_then(|last| match last.act {
+        Act::Map { a: 0, b } => Some((b, &last.targets)),
+        _ => None,
+    });
+    if let Some((height, targets)) = set.filter(|_| !random.once_in(3)) {
+        let start = rival(random, height);
+        return format!("call=top start={start} to={}", text(targets));
+    }
+    let to = random.choose(&["1", "2", "3", "1,2", "1,2,3", "1,2,3,64"]);
+    let height = height(random);
+    if random.once_in(2) {
+        format!("call=map a=0 b={height} to={to}")
+    } else {
+        format!("call=top start={height} to={to}")
     }
 }
 
@@ -243,14 +271,33 @@ pub fn damage(random: &mut Random, bytes: &mut Vec<u8>) {
     }
 }
 
-/// Small values are as likely as large ones, so that maps are sometimes the identity.
+/// Small values are as likely as large ones, so that maps are sometimes the identity; some
+/// stand where the sign changes, since tops compare signed numbers.
 fn value(random: &mut Random) -> u32 {
-    match random.below(6) {
+    match random.below(7) {
         0 => random.below(3) as u32,
         1 => u32::MAX - random.below(3) as u32,
         2 => 65_536,
         3 => random.bits() as u32,
+        4 => LEAST - 2 + random.below(4) as u32,
         _ => random.below(100) as u32,
+    }
+}
+
+/// A number to be compared with this one: the same or a neighbour, here or half the way
+/// round, where a difference of the two has the wrong sign.
+fn rival(random: &mut Random, value: u32) -> u32 {
+    let away = random.choose(&[0, LEAST]);
+    let beside = random.choose(&[u32::MAX, 0, 1]);
+    value.wrapping_add(away).wrapping_add(beside)
+}
+
+/// A number for tops to compare: mostly where orders part, else any.
+fn height(random: &mut Random) -> u32 {
+    if random.once_in(5) {
+        random.bits() as u32
+    } else {
+        random.choose(&HEIGHTS)
     }
 }
 

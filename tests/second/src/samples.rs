@@ -21,7 +21,8 @@ fn after(lines: &[&str]) -> Session {
 }
 
 /// Nodes 1 to 3, two with links; at station 2 a unit of a sum and an unlink that has
-/// removed two copies, a fused map at station 3, two calls waiting, results 1 to 3.
+/// removed two copies, and a top that has met a value above its start of -1; a fused map
+/// at station 3, two calls waiting, results 1 to 3.
 pub fn rich() -> Image {
     image(&after(&[
         "call=add value=5",
@@ -40,6 +41,10 @@ pub fn rich() -> Image {
         "step=admit",
         "step=admit",
         "step=join at=3 unit=1",
+        "step=realise at=3",
+        "step=move at=3",
+        "call=top start=4294967295 to=1,3",
+        "step=admit",
         "step=realise at=3",
         "step=move at=3",
         "call=map a=3 b=4 to=1,3",
@@ -82,6 +87,13 @@ pub fn crowd(nodes: u8, adds: u16, sums: u16, results: u16) -> Session {
     session
 }
 
+/// The fresh image as another version would write it.
+fn fresh_of(version: u8) -> Image {
+    let mut bytes = image(&Session::open());
+    bytes[0] = version;
+    bytes
+}
+
 /// Images that each break a fact of refusal 2, and what is broken.
 pub fn broken() -> Vec<(&'static str, Image)> {
     let mut images: Vec<(&str, Image)> = vec![
@@ -89,7 +101,9 @@ pub fn broken() -> Vec<(&'static str, Image)> {
         ("65 nodes and adds", image(&crowd(1, 64, 0, 0))),
         ("65 live", image(&crowd(0, 0, 64, 1))),
         ("65 live", image(&crowd(0, 0, 1, 64))),
-        ("no version", [0; IMAGE_BYTES]),
+        ("no version", fresh_of(0)),
+        ("version 1, which means the same here", fresh_of(1)),
+        ("version 2, which means the same here", fresh_of(2)),
     ];
     let mut change = |what, changes: &[(usize, u8)]| {
         let mut bytes = rich();
@@ -116,22 +130,33 @@ const fn operation(index: usize, place: usize) -> usize {
 const CHANGES: &[(&str, &[(usize, u8)])] = &[
     ("version", &[(0, 0)]),
     ("version", &[(0, 1)]),
-    ("version", &[(0, 3)]),
+    ("version", &[(0, 2)]),
+    ("version", &[(0, 4)]),
     (
         "version 1, whose unlinks hold 0",
         &[(0, 1), (operation(1, 8), 0)],
+    ),
+    (
+        "version 2, whose top would hold 4294967295",
+        &[
+            (0, 2),
+            (operation(2, 8), 255),
+            (operation(2, 9), 255),
+            (operation(2, 10), 255),
+            (operation(2, 11), 255),
+        ],
     ),
     ("a node fewer", &[(1, 2)]),
     ("a node more", &[(1, 4)]),
     ("65 nodes", &[(1, 65)]),
     ("255 nodes", &[(1, 255)]),
-    ("an operation fewer", &[(2, 4)]),
-    ("an operation more", &[(2, 6)]),
+    ("an operation fewer", &[(2, 5)]),
+    ("an operation more", &[(2, 7)]),
     ("65 operations", &[(2, 65)]),
     ("a result fewer", &[(3, 2)]),
     ("a result more", &[(3, 4)]),
     ("65 results", &[(3, 65)]),
-    ("last label below a live one", &[(4, 11)]),
+    ("last label below a live one", &[(4, 12)]),
     ("key of another", &[(NODE + 4, 2)]),
     ("keys rise", &[(NODE + 4, 2), (NODE + 16 + 4, 1)]),
     ("key 0", &[(NODE + 4, 0)]),
@@ -147,28 +172,31 @@ const CHANGES: &[(&str, &[(usize, u8)])] = &[
     ("an unused node", &[(NODE + 16 * 3, 1)]),
     ("an unused node", &[(OPERATION - 1, 1)]),
     ("station 0", &[(operation(0, 0), 0)]),
-    ("station of no node", &[(operation(4, 0), 4)]),
-    ("station 66", &[(operation(4, 0), 66)]),
-    ("not from the back forwards", &[(operation(2, 0), 1)]),
+    ("station of no node", &[(operation(5, 0), 4)]),
+    ("station 66", &[(operation(5, 0), 66)]),
+    ("not from the back forwards", &[(operation(3, 0), 1)]),
     ("top stream before a station", &[(operation(0, 0), 65)]),
     ("opens nothing", &[(operation(0, 1), 0)]),
-    ("opens nothing in the top stream", &[(operation(3, 1), 0)]),
+    ("opens nothing in the top stream", &[(operation(4, 1), 0)]),
     ("opens 2", &[(operation(0, 1), 2)]),
     ("kind 8", &[(operation(0, 2), 8)]),
-    ("an add at a station", &[(operation(4, 0), 3)]),
+    ("an add at a station", &[(operation(5, 0), 3)]),
     ("operand of a sum", &[(operation(0, 3), 1)]),
-    ("operand of a map", &[(operation(2, 3), 1)]),
-    ("operand of an add", &[(operation(4, 3), 1)]),
+    ("operand of a top", &[(operation(2, 3), 1)]),
+    ("operand of a map", &[(operation(3, 3), 1)]),
+    ("operand of an add", &[(operation(5, 3), 1)]),
     ("operand 0", &[(operation(1, 3), 0)]),
-    ("operand 65", &[(operation(3, 3), 65)]),
+    ("operand 65", &[(operation(4, 3), 65)]),
     ("a of a sum", &[(operation(0, 4), 1)]),
     ("a of an unlink", &[(operation(1, 7), 1)]),
     (
         "an unlink's count in a",
         &[(operation(1, 4), 2), (operation(1, 8), 0)],
     ),
-    ("a of a near", &[(operation(3, 4), 1)]),
-    ("a of an add", &[(operation(4, 4), 1)]),
+    ("a of a top", &[(operation(2, 4), 1)]),
+    ("a of a top", &[(operation(2, 7), 255)]),
+    ("a of a near", &[(operation(4, 4), 1)]),
+    ("a of an add", &[(operation(5, 4), 1)]),
     ("nine targets", &[(operation(0, 12), 9)]),
     ("a target too few", &[(operation(0, 12), 4)]),
     ("a target past the count", &[(operation(0, 12), 2)]),
@@ -178,12 +206,12 @@ const CHANGES: &[(&str, &[(usize, u8)])] = &[
     ("targets fall", &[(operation(0, 13), 3)]),
     (
         "an add with a target",
-        &[(operation(4, 12), 1), (operation(4, 13), 1)],
+        &[(operation(5, 12), 1), (operation(5, 13), 1)],
     ),
     ("no label", &[(operation(0, 21), 0), (operation(0, 22), 0)]),
     (
         "an add without a label",
-        &[(operation(4, 21), 0), (operation(4, 22), 0)],
+        &[(operation(5, 21), 0), (operation(5, 22), 0)],
     ),
     (
         "a sum of two labels",
@@ -194,29 +222,33 @@ const CHANGES: &[(&str, &[(usize, u8)])] = &[
         &[(operation(1, 21), 2), (operation(1, 24), 4)],
     ),
     (
-        "an add of two labels",
-        &[(operation(4, 21), 2), (operation(4, 24), 4)],
+        "a top of two labels",
+        &[(operation(2, 21), 2), (operation(2, 24), 4)],
     ),
-    ("five labels", &[(operation(2, 21), 5)]),
+    (
+        "an add of two labels",
+        &[(operation(5, 21), 2), (operation(5, 24), 4)],
+    ),
+    ("five labels", &[(operation(3, 21), 5)]),
     ("label 0", &[(operation(0, 22), 0)]),
-    ("a label above the last", &[(operation(0, 22), 13)]),
+    ("a label above the last", &[(operation(0, 22), 14)]),
     ("a label far above the last", &[(operation(0, 23), 1)]),
-    ("a label twice in a map", &[(operation(2, 24), 9)]),
+    ("a label twice in a map", &[(operation(3, 24), 10)]),
     ("a label twice in operations", &[(operation(0, 22), 8)]),
     (
         "a label in an operation and a result",
         &[(operation(0, 22), 3)],
     ),
-    ("an add's label twice", &[(operation(4, 22), 11)]),
+    ("an add's label twice", &[(operation(5, 22), 12)]),
     ("a label past the count", &[(operation(0, 24), 4)]),
     ("zero after the labels", &[(operation(0, 30), 1)]),
-    ("zero after the labels", &[(operation(4, 31), 1)]),
-    ("an unused operation", &[(operation(5, 0), 1)]),
+    ("zero after the labels", &[(operation(5, 31), 1)]),
+    ("an unused operation", &[(operation(6, 0), 1)]),
     ("an unused operation", &[(RESULT - 1, 1)]),
     ("label 0", &[(RESULT, 0)]),
     ("labels fall", &[(RESULT, 4)]),
     ("a label twice", &[(RESULT, 2)]),
-    ("a label above the last", &[(RESULT + 32, 13)]),
+    ("a label above the last", &[(RESULT + 32, 14)]),
     ("nine left", &[(RESULT + 6, 9)]),
     ("left 0", &[(RESULT + 6, 1)]),
     ("left 65", &[(RESULT + 6, 1), (RESULT + 7, 65)]),

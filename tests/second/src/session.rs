@@ -51,6 +51,7 @@ pub struct Operation {
 }
 
 /// What an operation does at a target, with the value that it holds so far.
+/// Numbers have no sign here; only where a top compares two do they count as signed.
 #[derive(Clone, Debug, PartialEq, Eq)]
 pub enum Act {
     Map { a: u32, b: u32 },

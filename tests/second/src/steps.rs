@@ -339,7 +339,8 @@ impl Act {
                 *removed = removed.wrapping_add(copies as u32);
             }
             Act::Sum { held } => *held = held.wrapping_add(node.value),
-            Act::Top { held } => *held = node.value.max(*held),
+            // Both as signed numbers, in two's complement; the bits stay.
+            Act::Top { held } => *held = (node.value as i32).max(*held as i32) as u32,
             Act::Pick { held } => *held = node.value,
             Act::Near { key, held } => {
                 if node.links.contains(key) {

@@ -265,6 +265,103 @@ fn unlinks_in_one_unit_count_apart() {
 }
 
 #[test]
+fn p_top_compares_signed_numbers() {
+    let top = "call=top start=2147483648 to=1,2";
+    let (pit, peak) = ("call=add value=4294967295", "call=add value=3");
+    assert_eq!(drained(&[pit, peak, top]).result(3), (3, &[][..]));
+    assert_eq!(drained(&[peak, pit, top]).result(3), (3, &[][..]));
+}
+
+/// Signed numbers from the least to the greatest, as lines write them.
+const RISING: [u32; 11] = [
+    2_147_483_648, // the least
+    2_147_483_649,
+    3_000_000_000,
+    4_294_967_294,
+    4_294_967_295, // -1
+    0,
+    1,
+    65_535,
+    1_000_000_000,
+    2_147_483_646,
+    2_147_483_647, // the greatest
+];
+
+#[test]
+fn a_top_is_the_greatest_in_the_signed_order() {
+    for (s, start) in RISING.iter().enumerate() {
+        for (f, front) in RISING.iter().enumerate() {
+            for (b, back) in RISING.iter().enumerate() {
+                let back = format!("call=add value={back}");
+                let front = format!("call=add value={front}");
+                let top = format!("call=top start={start} to=1,2,9");
+                let greatest = RISING[s.max(f).max(b)];
+                let desk = drained(&[&back, &front, &top]);
+                assert_eq!(desk.result(3), (greatest, &[9][..]));
+            }
+        }
+    }
+}
+
+#[test]
+fn a_top_that_meets_no_node_is_its_start() {
+    for start in RISING {
+        let add = "call=add value=3";
+        let no_target = format!("call=top start={start} to=");
+        let missing = format!("call=top start={start} to=2");
+        assert_eq!(drained(&[&missing]).result(1), (start, &[2][..]));
+        assert_eq!(drained(&[add, &missing]).result(2), (start, &[2][..]));
+        assert_eq!(drained(&[add, &no_target]).result(2), (start, &[][..]));
+    }
+}
+
+/// Node 4 has less than the start. Then come -2, -1 and 0.
+#[test]
+fn a_top_holds_the_greatest_between_stations() {
+    let mut desk = Desk::after(&["call=add value=0", "call=add value=4294967295"]);
+    desk.all(&["call=add value=4294967294", "call=add value=2147483649"]);
+    desk.all(&["step=drain", "call=top start=2147483650 to=1,2,3,4,9"]);
+    desk.all(&["step=admit"]);
+    for (at, held) in [(4, 2_147_483_650), (3, 4_294_967_294), (2, 4_294_967_295)] {
+        desk.all(&[&format!("step=realise at={at}")]);
+        let station = &desk.session.stations[4 - at];
+        assert_eq!(station.streamlet[0][0].act, Act::Top { held });
+        desk.refuses(31, "claim=5");
+        desk.all(&[&format!("step=move at={at}")]);
+    }
+    desk.all(&["step=realise at=1", "step=finish at=1"]);
+    assert_eq!(desk.result(5), (0, &[9][..]));
+}
+
+/// A map goes on past the greatest to the least, and past -1 to 0.
+#[test]
+fn tops_of_what_maps_wrap() {
+    let (up, down) = ("call=map a=1 b=1 to=1", "call=map a=1 b=4294967295 to=1");
+    let top = "call=top start=4294967290 to=1";
+    let desk = drained(&["call=add value=2147483647", top, up, top, down, top]);
+    let tops = [2, 4, 6].map(|label| desk.result(label).0);
+    assert_eq!(tops, [2_147_483_647, 4_294_967_290, 2_147_483_647]);
+    let desk = drained(&["call=add value=0", top, down, top, up, top]);
+    let tops = [2, 4, 6].map(|label| desk.result(label).0);
+    assert_eq!(tops, [0, 4_294_967_295, 0]);
+}
+
+/// The sums pass the greatest signed number on the way; pick takes the lesser one.
+#[test]
+fn sum_pick_and_near_have_no_sign() {
+    let desk = drained(&[
+        "call=add value=4294967295",
+        "call=add value=3",
+        "call=link key=9 to=1,2",
+        "call=sum start=2147483645 to=1,2",
+        "call=pick start=2147483648 to=1,2",
+        "call=near key=9 start=2147483645 to=1,2",
+    ]);
+    let results = [4, 5, 6].map(|label| desk.result(label).0);
+    assert_eq!(results, [2_147_483_647, 4_294_967_295, 2_147_483_647]);
+}
+
+#[test]
 fn p_no_nodes_leave_a_map_its_target_at_admit() {
     let mut desk = Desk::after(&["call=map a=3 b=4 to=1"]);
     desk.all(&["step=admit"]);

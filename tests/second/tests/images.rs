@@ -4,7 +4,7 @@ mod common;
 
 use std::collections::VecDeque;
 
-use common::Desk;
+use common::{top_by, Desk, SIGNED, WRONG_ORDERS};
 use second::random::{session, Scribe};
 use second::samples::{broken, crowd, rich, sum};
 use second::{host, image, session_of, valid, IMAGE_BYTES};
@@ -19,7 +19,7 @@ fn records_stand_at_their_places() {
     let bytes = rich();
     assert_eq!(
         bytes[..16],
-        [2, 3, 5, 3, 12, 0, 0, 0, 0, 0, 0, 0, 0, 0, 0, 0]
+        [3, 3, 6, 3, 13, 0, 0, 0, 0, 0, 0, 0, 0, 0, 0, 0]
     );
     assert_eq!(
         bytes[NODE..][..16],
@@ -46,17 +46,21 @@ fn records_stand_at_their_places() {
     );
     assert_eq!(
         operation(2),
-        record(&[3, 1, 1, 0, 6, 0, 0, 0, 9, 0, 0, 0, 2, 1, 3, z, z, z, z, z, z, 2, 9, 0, 10])
+        record(&[2, 1, 5, 0, 0, 0, 0, 0, 2, 1, 0, 0, 1, 1, z, z, z, z, z, z, z, 1, 9])
     );
     assert_eq!(
         operation(3),
-        record(&[65, 1, 7, 2, 0, 0, 0, 0, 0, 0, 1, 0, 1, 2, z, z, z, z, z, z, z, 1, 11])
+        record(&[3, 1, 1, 0, 6, 0, 0, 0, 9, 0, 0, 0, 2, 1, 3, z, z, z, z, z, z, 2, 10, 0, 11])
     );
     assert_eq!(
         operation(4),
-        record(&[65, 1, 0, 0, 0, 0, 0, 0, 9, 0, 0, 0, 0, z, z, z, z, z, z, z, z, 1, 12])
+        record(&[65, 1, 7, 2, 0, 0, 0, 0, 0, 0, 1, 0, 1, 2, z, z, z, z, z, z, z, 1, 12])
     );
-    assert!(bytes[OPERATION + 5 * 32..RESULT]
+    assert_eq!(
+        operation(5),
+        record(&[65, 1, 0, 0, 0, 0, 0, 0, 9, 0, 0, 0, 0, z, z, z, z, z, z, z, z, 1, 13])
+    );
+    assert!(bytes[OPERATION + 6 * 32..RESULT]
         .iter()
         .all(|&byte| byte == 0));
     assert_eq!(
@@ -73,7 +77,7 @@ fn the_example_of_the_layout() {
     desk.all(&["call=sum start=10 to=1,2,9", "step=admit"]);
     let mut bytes = [0; IMAGE_BYTES];
     let rows: [(usize, &[u8]); 9] = [
-        (0x0000, &[2, 2, 2, 2, 4]),
+        (0x0000, &[3, 2, 2, 2, 4]),
         (0x0010, &[5, 0, 0, 0, 1]),
         (0x0020, &[7, 0, 0, 0, 2]),
         (0x0410, &[2, 1, 1, 0, 3, 0, 0, 0, 4, 0, 0, 0, 2, 1, 2]),
@@ -92,10 +96,10 @@ fn the_example_of_the_layout() {
 #[test]
 fn fresh_images() {
     let mut fresh = [0; IMAGE_BYTES];
-    fresh[0] = 2;
+    fresh[0] = 3;
     assert_eq!(image(&Session::open()), fresh);
     assert_eq!(session_of(&fresh), Some(Session::open()));
-    for version in [1, 3, 255] {
+    for version in [1, 2, 4, 255] {
         let mut other = fresh;
         other[0] = version;
         assert_eq!(session_of(&other), None, "version {version}");
@@ -201,7 +205,7 @@ fn random_bytes() {
                 *byte = scribe.random.bits() as u8;
             }
         }
-        bytes[0] = 2;
+        bytes[0] = 3;
         assert_eq!(session_of(&bytes), None);
         assert_eq!(host::call(&mut bytes, b"call=add value=1", 0), -2);
     }
@@ -291,6 +295,31 @@ fn an_unlinks_count_stands_in_b() {
     }
 }
 
+/// Four bytes of any value: the rich image's top, which is to meet a 5.
+#[test]
+fn a_tops_number_stands_in_b() {
+    let held_at = OPERATION + 2 * 32 + 8;
+    for (held, result) in [
+        (0, 5),
+        (5, 5),
+        (6, 6),
+        (0x0403_0201, 0x0403_0201),
+        (0x7FFF_FFFF, 0x7FFF_FFFF),
+        (0x8000_0000, 5),
+        (0x8403_0201, 5),
+        (0xFFFF_FFFF, 5),
+    ] {
+        let mut bytes = rich();
+        bytes[held_at..][..4].copy_from_slice(&u32::to_le_bytes(held));
+        let mut session = session_of(&bytes).expect("any number passes");
+        assert_eq!(image(&session), bytes);
+        let top = session.operations().find(|op| op.labels == [9]);
+        assert_eq!(top.map(|op| &op.act), Some(&Act::Top { held }));
+        assert_eq!(session.step(b"step=drain", &mut [0; 8]), 0);
+        assert_eq!(session.results[&9].value, result);
+    }
+}
+
 /// An unlink of key 9 that has removed so many copies.
 fn unlink(removed: u32, targets: &[u8]) -> Operation {
     Operation {
@@ -369,6 +398,16 @@ fn next_to_act(station: &Station) -> Option<&Operation> {
     head.find(|op| op.targets.contains(&station.node.key))
 }
 
+/// What an operation holds once it is realised at this station, where it is next to act.
+fn act_after(session: &Session, station: &Station, operation: &Operation) -> Act {
+    let mut after = session.clone();
+    let line = format!("step=realise at={}", station.node.key);
+    assert_eq!(after.step(line.as_bytes(), &mut [0; 8]), 0);
+    let mut operations = after.operations();
+    let same = operations.find(|op| op.labels == operation.labels);
+    same.expect("a realise keeps the operation").act.clone()
+}
+
 /// Unlinks of random sessions add what they remove to any count, often at its limit.
 #[test]
 fn unlinks_without_a_history() {
@@ -386,17 +425,9 @@ fn unlinks_without_a_history() {
             let links = station.node.links.iter();
             let copies = links.filter(|&&link| link == key).count() as u64;
             let count = u64::from(removed) + copies;
-            let mut after = session.clone();
-            let line = format!("step=realise at={}", station.node.key);
-            assert_eq!(after.step(line.as_bytes(), &mut [0; 8]), 0);
-            let mut same = after
-                .operations()
-                .filter(|op| op.labels == operation.labels);
             let removed = (count % 4_294_967_296) as u32;
-            assert_eq!(
-                same.next().map(|op| &op.act),
-                Some(&Act::Unlink { key, removed })
-            );
+            let unlink = Act::Unlink { key, removed };
+            assert_eq!(act_after(&session, station, operation), unlink);
             none += u32::from(copies == 0);
             several += u32::from(copies > 1);
             at_limit += u32::from(copies > 0 && count == 4_294_967_295);
@@ -405,6 +436,33 @@ fn unlinks_without_a_history() {
     }
     assert!(none > 100 && several > 100, "{none}, {several}");
     assert!(at_limit > 10 && wrapped > 50, "{at_limit}, {wrapped}");
+}
+
+/// Tops of random sessions hold any number, and tell the signed order from every wrong one.
+#[test]
+fn tops_without_a_history() {
+    let mut scribe = Scribe::new(10);
+    let mut told = [0; WRONG_ORDERS.len()];
+    for _ in 0..6000 {
+        let session = session::any(&mut scribe.random);
+        for station in &session.stations {
+            let Some(operation) = next_to_act(station) else {
+                continue;
+            };
+            let Act::Top { held: before } = operation.act else {
+                continue;
+            };
+            let value = [station.node.value];
+            let held = top_by(SIGNED, before, &value);
+            assert_eq!(act_after(&session, station, operation), Act::Top { held });
+            for (told, (_, order)) in told.iter_mut().zip(WRONG_ORDERS) {
+                *told += u32::from(top_by(order, before, &value) != held);
+            }
+        }
+    }
+    for (told, (name, _)) in told.iter().zip(WRONG_ORDERS) {
+        assert!(*told > 4, "{name}: {told}");
+    }
 }
 
 /// A waiting map of several labels finishes for all of them.

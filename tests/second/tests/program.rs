@@ -79,6 +79,32 @@ fn an_unlinks_count_is_printed() {
     assert_eq!(transcript(script.as_bytes()), output.as_bytes());
 }
 
+/// Numbers have no sign where they are read and written.
+#[test]
+fn a_top_below_zero_is_printed() {
+    let script = "call=add value=4294967295\n\
+                  call=add value=2147483648\n\
+                  call=top start=2147483648 to=1,2\n\
+                  call=top start=-2147483648 to=1,2\n\
+                  call=top start=2147483648 to=2,9\n\
+                  call=add value=3\n\
+                  call=top start=2147483648 to=1,3\n\
+                  step=drain\n\
+                  claim=3\n";
+    let output = "line=4 refused=10\n\
+                  label=3 value=4294967295 left=\n\
+                  nodes=3 results=5 pending=0\n\
+                  key=3 value=3 links=\n\
+                  key=2 value=2147483648 links=\n\
+                  key=1 value=4294967295 links=\n\
+                  label=1 value=1 left=\n\
+                  label=2 value=2 left=\n\
+                  label=4 value=2147483648 left=9\n\
+                  label=5 value=3 left=\n\
+                  label=6 value=3 left=\n";
+    assert_eq!(transcript(script.as_bytes()), output.as_bytes());
+}
+
 /// Counts the bytes that were written and not flushed yet.
 struct Held(usize);
 

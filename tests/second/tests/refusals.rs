@@ -69,6 +69,10 @@ fn lines_10_of_calls() {
         "call=link key=2",
         "call=link key= to=1",
         "call=sum to=1",
+        "call=top start=-1 to=1",
+        "call=top start=+1 to=1",
+        "call=top start=-2147483648 to=1",
+        "call=top start=4294967296 to=1",
         "call=near key=2 to=1",
         "call=near start=0 key=2 to=1",
         "call=drain",
@@ -358,14 +362,14 @@ fn hosts_1_and_2() {
     assert_eq!(host::list(&short, &mut out), -1);
     assert_eq!(host::open(&mut [1; IMAGE_BYTES + 1]), -1);
     assert_eq!(short, image[..IMAGE_BYTES - 1]);
-    image[0] = 1;
+    image[0] = 2;
     let damaged = image;
     assert_eq!(host::call(&mut image, frame, 0), -2);
     assert_eq!(host::step(&mut image, frame, 23, &mut tally), -2);
     assert_eq!(host::claim(&mut image, frame, 38, &mut out), -2);
     assert_eq!(host::list(&image, &mut out), -2);
     assert_eq!((image, tally, out), (damaged, [3; 8], [b'#'; 8]));
-    image[0] = 2;
+    image[0] = 3;
     assert_eq!(host::call(&mut image, frame, 0), -11);
     assert_eq!(host::step(&mut image, frame, 23, &mut tally), -20);
     assert_eq!(host::claim(&mut image, frame, 38, &mut out), -30);

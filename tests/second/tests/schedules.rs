@@ -2,9 +2,9 @@
 
 mod common;
 
-use common::Desk;
+use common::{top_by, Desk, SIGNED, WRONG_ORDERS};
 use second::random::Scribe;
-use second::{meaning, read_call, Act, Call, Node, Outcome, Session, Tally};
+use second::{meaning, read_call, Act, Call, Node, Operation, Outcome, Session, Tally};
 
 /// A call takes at most one admit, 63 moves, 8 realises and one finish.
 const BOUND: usize = 73;
@@ -40,6 +40,24 @@ impl Run {
             self.claimed.extend(gone);
         }
         answer
+    }
+
+    /// Whether an operation of one label holds something else than its call did.
+    fn holds_more(&self, operation: &Operation) -> bool {
+        let call = &self.accepted[usize::from(operation.labels[0]) - 1];
+        matches!(call, Call::Visit { act, .. } if *act != operation.act)
+    }
+
+    /// Whether such an operation has acted and has a node yet to meet.
+    fn is_under_way(&self, such: fn(&Act) -> bool) -> bool {
+        let mut places = self.desk.session.stations.iter().flat_map(|station| {
+            let units = station.streamlet.iter().flatten();
+            units.map(|operation| (station.node.key, operation))
+        });
+        places.any(|(at, operation)| {
+            let on_the_way = operation.targets.iter().any(|&key| key <= at);
+            such(&operation.act) && self.holds_more(operation) && on_the_way
+        })
     }
 
     /// All that demand 3 says about the lines so far.
@@ -185,22 +203,11 @@ fn random_lines_meet_every_refusal() {
     assert_eq!(met.into_iter().collect::<Vec<i64>>(), all);
 }
 
-/// Whether a pending unlink has removed copies and has a node yet to meet.
-fn an_unlink_is_under_way(session: &Session) -> bool {
-    let mut places = session.stations.iter().flat_map(|station| {
-        let units = station.streamlet.iter().flatten();
-        units.map(|operation| (station.node.key, operation))
-    });
-    places.any(|(at, operation)| {
-        let counts = matches!(operation.act, Act::Unlink { removed: 1.., .. });
-        counts && operation.targets.iter().any(|&key| key <= at)
-    })
-}
-
 /// The generator has unlinks that remove no copy, one, several of one list, and more than
 /// one list has, and it lets them stop on the way, so that comparing by it compares counts.
 #[test]
 fn random_lines_remove_copies() {
+    let unlink = |act: &Act| matches!(act, Act::Unlink { .. });
     let (mut under_way, mut none, mut one, mut several, mut most) = (0, 0, 0, 0, 0);
     for seed in 0..40 {
         let mut scribe = Scribe::new(seed);
@@ -208,7 +215,7 @@ fn random_lines_remove_copies() {
         for _ in 0..1000 {
             let line = scribe.line(&run.desk.session);
             run.serve(&line);
-            under_way += u32::from(an_unlink_is_under_way(&run.desk.session));
+            under_way += u32::from(run.is_under_way(unlink));
         }
         let (_, results) = meaning(&run.accepted);
         for (call, result) in run.accepted.iter().zip(results) {
@@ -229,4 +236,47 @@ fn random_lines_remove_copies() {
     assert!(under_way > 300, "{under_way}");
     assert!(none > 200 && one > 50, "{none}, {one}");
     assert!(several > 100 && most > 10, "{several}, {most}");
+}
+
+/// The values that a call meets after the calls before it, from front to back.
+fn values_met(before: &[Call], targets: &[u8]) -> Vec<u32> {
+    let (nodes, _) = meaning(before);
+    let met = nodes.iter().filter(|node| targets.contains(&node.key));
+    met.map(|node| node.value).collect()
+}
+
+/// The generator's tops tell the signed order from every wrong one, and it lets them stop
+/// on the way with a number below zero, so that comparing by it compares orders.
+#[test]
+fn random_lines_tell_orders_apart() {
+    let below_zero = |act: &Act| matches!(*act, Act::Top { held } if held >= 2_147_483_648);
+    let (mut under_way, mut told) = (0, [0; WRONG_ORDERS.len()]);
+    for seed in 0..40 {
+        let mut scribe = Scribe::new(seed);
+        let mut run = Run::new();
+        for _ in 0..1000 {
+            let line = scribe.line(&run.desk.session);
+            run.serve(&line);
+            under_way += u32::from(run.is_under_way(below_zero));
+        }
+        let (_, results) = meaning(&run.accepted);
+        for (place, call) in run.accepted.iter().enumerate() {
+            let Call::Visit { act, targets } = call else {
+                continue;
+            };
+            let Act::Top { held: start } = *act else {
+                continue;
+            };
+            let values = values_met(&run.accepted[..place], targets);
+            let top = results[place].value;
+            assert_eq!(top, top_by(SIGNED, start, &values));
+            for (told, (_, order)) in told.iter_mut().zip(WRONG_ORDERS) {
+                *told += u32::from(top_by(order, start, &values) != top);
+            }
+        }
+    }
+    assert!(under_way > 30, "{under_way}");
+    for (told, (name, _)) in told.iter().zip(WRONG_ORDERS) {
+        assert!(*told > 8, "{name}: {told}");
+    }
 }

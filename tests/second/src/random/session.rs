@@ -3,7 +3,7 @@
 //! Refusal 2 tests no history, so a session may have targets that were passed, labels
 //! in any order, any held value and any count. What an entry does is owed for these too.
 
-use super::{value, Random};
+use super::{rival, value, Random};
 use crate::image::IMAGE_BYTES;
 use crate::line::{KEYS, LIST};
 use crate::session::{Act, Node, Operation, Outcome, Session, Station, Unit, Waiting, LIVE};
@@ -155,7 +155,8 @@ fn put_operation(random: &mut Random, session: &mut Session, label: u16, more: &
     }
 }
 
-/// Lets an operation find work at this node: it is a target, and its list has the key.
+/// Lets an operation find work at this node: it is a target, its list has the key, and its
+/// value is a rival of what a top holds.
 fn aim(random: &mut Random, operation: &mut Operation, node: &Node) {
     let targets = &mut operation.targets;
     if targets.len() < LIST && !targets.contains(&node.key) {
@@ -167,12 +168,15 @@ fn aim(random: &mut Random, operation: &mut Operation, node: &Node) {
             *key = random.choose(&node.links);
         }
     }
+    if let Act::Top { held } = &mut operation.act {
+        *held = rival(random, node.value);
+    }
 }
 
 /// An operation of this label; a map may take more of them.
 fn operation(random: &mut Random, label: u16, more: &mut Vec<u16>) -> Operation {
     let held = value(random);
-    let act = match random.below(11) {
+    let act = match random.below(12) {
         0..=3 => Act::Map {
             a: value(random),
             b: held,
@@ -186,8 +190,8 @@ fn operation(random: &mut Random, label: u16, more: &mut Vec<u16>) -> Operation 
             removed: count(random),
         },
         7 => Act::Sum { held },
-        8 => Act::Top { held },
-        9 => Act::Pick { held },
+        8 | 9 => Act::Top { held },
+        10 => Act::Pick { held },
         _ => Act::Near {
             key: link_key(random),
             held,

@@ -67,6 +67,63 @@ impl Desk {
     }
 }
 
+const LEAST: u32 = 2_147_483_648;
+
+/// Whether a top takes a value, given what it holds.
+pub type Order = fn(u32, u32) -> bool;
+
+/// The signed order, worded unlike steps and meaning word it: the sign bit turned over.
+pub const SIGNED: Order = |held, value| (value ^ LEAST) > (held ^ LEAST);
+
+/// Orders that wrong programs may have. Random tests must tell each from the signed one.
+pub const WRONG_ORDERS: [(&str, Order); 12] = [
+    ("unsigned", |held, value| value > held),
+    ("held unsigned", |held, value| {
+        i64::from(value as i32) > i64::from(held)
+    }),
+    ("value unsigned", |held, value| {
+        i64::from(value) > i64::from(held as i32)
+    }),
+    ("by difference", |held, value| {
+        value.wrapping_sub(held) as i32 > 0
+    }),
+    ("magnitude", |held, value| {
+        (value as i32).unsigned_abs() > (held as i32).unsigned_abs()
+    }),
+    ("sign and magnitude", |held, value| {
+        minus(value, value ^ LEAST) > minus(held, held ^ LEAST)
+    }),
+    ("ones' complement", |held, value| {
+        minus(value, !value) > minus(held, !held)
+    }),
+    ("the least above all", |held, value| {
+        value.wrapping_sub(LEAST + 1) > held.wrapping_sub(LEAST + 1)
+    }),
+    ("the greatest below all", |held, value| {
+        value.wrapping_sub(LEAST - 1) > held.wrapping_sub(LEAST - 1)
+    }),
+    ("upper half", |held, value| {
+        (value >> 16) as i16 > (held >> 16) as i16
+    }),
+    ("lower half", |held, value| value as i16 > held as i16),
+    ("the lesser", |held, value| (value as i32) < held as i32),
+];
+
+/// A number that is minus this magnitude where its sign bit is set.
+fn minus(number: u32, magnitude: u32) -> i64 {
+    if number < LEAST {
+        i64::from(number)
+    } else {
+        -i64::from(magnitude)
+    }
+}
+
+/// What a top holds in the end, by this order.
+pub fn top_by(order: Order, start: u32, values: &[u32]) -> u32 {
+    let keep = |held, &value| if order(held, value) { value } else { held };
+    values.iter().fold(start, keep)
+}
+
 /// The calls of lines that are all of a good form.
 pub fn calls(lines: &[&str]) -> Vec<Call> {
     let read = |line: &&str| read_call(line.as_bytes()).expect("a good call");
