@@ -215,7 +215,7 @@ fn height_line(random: &mut Random, last: Option<&Operation>) -> String {
         _ => None,
     });
     if let Some((height, targets)) = set.filter(|_| !random.once_in(3)) {
-        let start = rival(random, height);
+        let start = neighbour(random, height);
         return format!("call=top start={start} to={}", text(targets));
     }
     let to = random.choose(&["1", "2", "3", "1,2", "1,2,3", "1,2,3,64"]);
@@ -286,7 +286,7 @@ fn value(random: &mut Random) -> u32 {
 
 /// A number to be compared with this one: the same or a neighbour, here or half the way
 /// round, where a difference of the two has the wrong sign.
-fn rival(random: &mut Random, value: u32) -> u32 {
+fn neighbour(random: &mut Random, value: u32) -> u32 {
     let away = random.choose(&[0, LEAST]);
     let beside = random.choose(&[u32::MAX, 0, 1]);
     value.wrapping_add(away).wrapping_add(beside)

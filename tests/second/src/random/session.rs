@@ -3,7 +3,7 @@
 //! Refusal 2 tests no history, so a session may have targets that were passed, labels
 //! in any order, any held value and any count. What an entry does is owed for these too.
 
-use super::{rival, value, Random};
+use super::{neighbour, value, Random};
 use crate::image::IMAGE_BYTES;
 use crate::line::{KEYS, LIST};
 use crate::session::{Act, Node, Operation, Outcome, Session, Station, Unit, Waiting, LIVE};
@@ -156,7 +156,7 @@ fn put_operation(random: &mut Random, session: &mut Session, label: u16, more: &
 }
 
 /// Lets an operation find work at this node: it is a target, its list has the key, and its
-/// value is a rival of what a top holds.
+/// value is near what a top holds, by some order.
 fn aim(random: &mut Random, operation: &mut Operation, node: &Node) {
     let targets = &mut operation.targets;
     if targets.len() < LIST && !targets.contains(&node.key) {
@@ -169,7 +169,7 @@ fn aim(random: &mut Random, operation: &mut Operation, node: &Node) {
         }
     }
     if let Act::Top { held } = &mut operation.act {
-        *held = rival(random, node.value);
+        *held = neighbour(random, node.value);
     }
 }
 
