@@ -192,7 +192,7 @@ fn random_bytes(random: &mut Random, most: u64) -> Vec<u8> {
 
 /// Words of the lines in any order.
 fn words(random: &mut Random) -> Vec<u8> {
-    const WORDS: [&str; 52] = [
+    const WORDS: [&str; 54] = [
         "call=",
         "call=",
         "step=",
@@ -235,6 +235,8 @@ fn words(random: &mut Random) -> Vec<u8> {
         "64",
         "65",
         "00",
+        "-1",
+        "2147483648",
         "4294967295",
         "4294967296",
         "42949672950",
