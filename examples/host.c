@@ -22,7 +22,7 @@ static const char *const frames[] = {
     "call=add value=5\ncall=add value=7\ncall=add value=11\n",
     "call=link key=1 to=2,3\n",
     "call=map a=3 b=4 to=1,2\ncall=map a=2 b=1 to=1,2\ncall=map a=1 b=100 to=1,2\n",
-    "call=near key=1 start=0 to=1,2,3\ncall=add value=13\ncall=top start=0 to=1,2,3,4\n",
+    "call=near key=1 start=0 to=1,2,3\ncall=add value=13\ncall=top start=2147483648 to=1,2,3,4\n",
     "call=map a=5 b=0 to=3,4\ncall=map a=1 b=7 to=3,4\ncall=sum start=10 to=1,2,9\n",
 };
 enum { FRAMES = sizeof frames / sizeof frames[0] };

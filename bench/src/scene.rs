@@ -153,6 +153,24 @@ pub fn full() -> Scene {
     Scene { name, rows }
 }
 
+/// A session with one call at its first target, and others that wait.
+fn at_its_first_target(
+    nodes: u32,
+    links: u32,
+    targets: u32,
+    call: &str,
+    others: u32,
+    other: &str,
+) -> Desk {
+    let mut desk = Desk::open();
+    desk.add_nodes(nodes, links);
+    desk.bring(1, call, nodes, targets);
+    for _ in 0..others {
+        desk.serve(other);
+    }
+    desk
+}
+
 /// A session in which a step of every kind is allowed: a result that is left alone, sums at one station,
 /// maps at another, a unit of two at a third, a sum without targets at the front, and calls that wait. For a realise of an
 /// unlink and of a top one each with as many live calls: the unlink or the top at its first target, and sums that wait.
@@ -179,17 +197,10 @@ fn busy(nodes: u32, links: u32, targets: u32, stations: [u32; 3], counts: [u32; 
     }
     let mut with_a_place_free = desk.clone();
     with_a_place_free.serve("claim=1");
-    let at_its_first_target = |call: String| {
-        let mut desk = Desk::open();
-        desk.add_nodes(nodes, links);
-        desk.bring(1, &call, nodes, targets);
-        for _ in 0..sums + maps + waiting + 3 {
-            desk.serve(&sum);
-        }
-        desk
-    };
-    let unlinking = at_its_first_target(format!("call=unlink key=1 to={to}"));
-    let topping = at_its_first_target(format!("call=top start=2147483648 to={to}"));
+    let others = sums + maps + waiting + 3;
+    let with_one = |call: String| at_its_first_target(nodes, links, targets, &call, others, &sum);
+    let with_an_unlink = with_one(format!("call=unlink key=1 to={to}"));
+    let with_a_top = with_one(format!("call=top start=2147483648 to={to}"));
     let realise = format!("step=realise at={targets}");
     let step = |name, line: String, refusal| desk.row(name, Entry::Step, &line, refusal);
     vec![
@@ -198,8 +209,8 @@ fn busy(nodes: u32, links: u32, targets: u32, stations: [u32; 3], counts: [u32; 
         desk.row("call, 10", Entry::Call, &format!("{map},"), 10),
         step("step admit", "step=admit".into(), 0),
         step("step realise", format!("step=realise at={low}"), 0),
-        unlinking.row("step realise, unlink", Entry::Step, &realise, 0),
-        topping.row("step realise, top", Entry::Step, &realise, 0),
+        with_an_unlink.row("step realise, unlink", Entry::Step, &realise, 0),
+        with_a_top.row("step realise, top", Entry::Step, &realise, 0),
         step("step move", format!("step=move at={middle}"), 0),
         step("step finish", format!("step=finish at={nodes}"), 0),
         step("step join", format!("step=join at={middle} unit=1"), 0),

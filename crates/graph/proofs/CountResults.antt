@@ -18,16 +18,11 @@ use Rattle.graph.specs.Calls.{Call, link, unlink}
 use Rattle.graph.specs.Nodes.{Node, Result, actOn, actBy}
 use Rattle.graph.specs.OneAtATime.{World, operation, labelled, passNodes, passOp, oneAtATime}
 use Rattle.graph.specs.Counts.{resultOfLabel}
-use Rattle.graph.specs.CountResults.{nodesAfter, overTargets, oneIfFull, LinkResult, linksIn, UnlinkResult}
-use Rattle.graph.proofs.Striking.{strike-less, count-strike, strike-none, contains-strike}
+use Rattle.graph.specs.CallResults.{nodesAfter, targeted, overLists, oneIfFull, LinkResult, UnlinkResult}
+use Rattle.graph.proofs.Striking.{strike-less, count-strike, strike-none}
 use Rattle.graph.proofs.Demand3.{oneAtATime-last}
-use Rattle.graph.proofs.MadeNodes.{Made, made}
+use Rattle.graph.proofs.MadeNodes.{Made, made, struck}
 use Rattle.graph.proofs.OwnResult.{op, own-value}
-
--- a struck key is that of no node behind it
-struck : (f : List ℕ → ℕ) (to : List ℕ) (k : ℕ) (ns : List Node) → length ns < k → Made ns → overTargets f (strike k to) ns ≡ overTargets f to ns
-struck f to k [] l h = refl
-struck f to k (n ∷ ns) l h = λ i. cond (contains-strike (n .key) k to (λ e. omega (arith, e, h .0, l)) i) (f (n .links)) 0 + struck f to k ns (omega arith) (h .2) i
 
 -- THE KINDS THAT COUNT: what is held grows by f of the target's list, which is at most `most`, and is the result
 record CountsBy (f : List ℕ → ℕ) (most : ℕ) (a : Act) : Type 0 where
@@ -54,32 +49,32 @@ one-more : (most x y : ℕ) → x < y → most + most * x ≤ most * y
 one-more most x y h = omega (arith, mul-le-mul-left most h)
 
 module _ (f : List ℕ → ℕ) (most : ℕ) (a : Act) (counts : CountsBy f most a) where
-  over-few : (to : List ℕ) (ns : List Node) → Made ns → overTargets f to ns ≤ most * length to
+  over-few : (to : List ℕ) (ns : List Node) → Made ns → overLists f (targeted to ns) ≤ most * length to
   over-few to [] m = omega arith
   over-few to (n ∷ ns) m = go (contains (n .key) to) refl (over-few (strike (n .key) to) ns (m .2)) (over-few to ns (m .2))
     where
-      go : (b : Bool) → contains (n .key) to ≡ b → overTargets f (strike (n .key) to) ns ≤ most * length (strike (n .key) to) → overTargets f to ns ≤ most * length to →
-          cond b (f (n .links)) 0 + overTargets f to ns ≤ most * length to
-      go true e h k = omega (arith, counts .few (n .links) (m .1), h, struck f to (n .key) ns (omega (arith, m .0)) (m .2), one-more most _ _ (strike-less (n .key) to e))
+      go : (b : Bool) → contains (n .key) to ≡ b → overLists f (targeted (strike (n .key) to) ns) ≤ most * length (strike (n .key) to) → overLists f (targeted to ns) ≤ most * length to →
+          overLists f (cond b (n ∷ targeted to ns) (targeted to ns)) ≤ most * length to
+      go true e h k = omega (arith, counts .few (n .links) (m .1), h, ap (overLists f) (struck to n ns m), one-more most _ _ (strike-less (n .key) to e))
       go false e h k = omega (arith, k)
 
   -- it holds at most 64, so that nothing wraps
-  pass-held : (h : ℕ) (to ls : List ℕ) (ns : List Node) → Made ns → h + most * length to ≤ 64 → (passOp (op a h to ls) ns) .held ≡ h + overTargets f to ns
+  pass-held : (h : ℕ) (to ls : List ℕ) (ns : List Node) → Made ns → h + most * length to ≤ 64 → (passOp (op a h to ls) ns) .held ≡ h + overLists f (targeted to ns)
   pass-held h to ls [] m s = omega arith
   pass-held h to ls (n ∷ ns) m s = go (contains (n .key) to) refl (λ j us. pass-held j us ls ns (m .2))
     where
-      go : (b : Bool) → contains (n .key) to ≡ b → ((j : ℕ) (us : List ℕ) → j + most * length us ≤ 64 → (passOp (op a j us ls) ns) .held ≡ j + overTargets f us ns) →
-          (passOp (cond b (actBy (op a h to ls) n) (op a h to ls)) ns) .held ≡ h + (cond b (f (n .links)) 0 + overTargets f to ns)
+      go : (b : Bool) → contains (n .key) to ≡ b → ((j : ℕ) (us : List ℕ) → j + most * length us ≤ 64 → (passOp (op a j us ls) ns) .held ≡ j + overLists f (targeted us ns)) →
+          (passOp (cond b (actBy (op a h to ls) n) (op a h to ls)) ns) .held ≡ h + overLists f (cond b (n ∷ targeted to ns) (targeted to ns))
       go false e ih = omega (arith, ih h to s)
       go true e ih =
           let less = one-more most _ _ (strike-less (n .key) to e) in
           let small : f (n .links) ≤ most = counts .few (n .links) (m .1) in
           let grown : newHeld a h (n .value) (n .links) ≡ h + f (n .links) = counts .grows h (n .value) (n .links) (omega (arith, s, less, small)) in
-          omega (arith, ih (newHeld a h (n .value) (n .links)) (strike (n .key) to) (omega (arith, grown, s, less, small)), grown, struck f to (n .key) ns (omega (arith, m .0)) (m .2))
+          omega (arith, ih (newHeld a h (n .value) (n .links)) (strike (n .key) to) (omega (arith, grown, s, less, small)), grown, ap (overLists f) (struck to n ns m))
 
   -- the lists are those of the nodes as the calls before leave them
   result-counts : (before later : List Call) (c : Call) (to : List ℕ) → ((m : ℕ) → labelled c m ≡ operation a 0 to m) → most * length to ≤ 64 →
-      (r : Result) → resultOfLabel (suc (length before)) ((oneAtATime (before ++ (c ∷ later))) .results) ≡ some r → r .value ≡ overTargets f to (nodesAfter before)
+      (r : Result) → resultOfLabel (suc (length before)) ((oneAtATime (before ++ (c ∷ later))) .results) ≡ some r → r .value ≡ overLists f (targeted to (nodesAfter before))
   result-counts before later c to is h r e =
       omega (arith, own-value a 0 to before later c is r e ∙ counts .result _, pass-held 0 to (suc (length before) ∷ []) (nodesAfter before) (made before) (omega (arith, h)))
 
@@ -91,25 +86,25 @@ link-result before later k to h r e =
     record { exact = counted; few = omega (arith, counted, over-few oneIfFull 1 (Link k) (link-counts k) to (nodesAfter before) (made before)) }
 
 module _ (k : ℕ) (ls : List ℕ) where
-  pass-removes : (h : ℕ) (to : List ℕ) (ns : List Node) → Made ns → linksIn ns ≡ overTargets (count k) to ns + linksIn (passNodes (op (Unlink k) h to ls) ns)
+  pass-removes : (h : ℕ) (to : List ℕ) (ns : List Node) → Made ns → overLists length ns ≡ overLists (count k) (targeted to ns) + overLists length (passNodes (op (Unlink k) h to ls) ns)
   pass-removes h to [] m = refl
   pass-removes h to (n ∷ ns) m = go (contains (n .key) to) (λ j us. pass-removes j us ns (m .2))
     where
-      go : (b : Bool) → ((j : ℕ) (us : List ℕ) → linksIn ns ≡ overTargets (count k) us ns + linksIn (passNodes (op (Unlink k) j us ls) ns)) → length (n .links) + linksIn ns
-          ≡ cond b (count k (n .links)) 0 + overTargets (count k) to ns
-          + (length ((cond b (actOn (op (Unlink k) h to ls) n) n) .links) + linksIn (passNodes (cond b (actBy (op (Unlink k) h to ls) n) (op (Unlink k) h to ls)) ns))
-      go true ih = omega (arith, count-strike k (n .links), ih (plus h (count k (n .links))) (strike (n .key) to), struck (count k) to (n .key) ns (omega (arith, m .0)) (m .2))
+      go : (b : Bool) → ((j : ℕ) (us : List ℕ) → overLists length ns ≡ overLists (count k) (targeted us ns) + overLists length (passNodes (op (Unlink k) j us ls) ns)) → length (n .links) + overLists length ns
+          ≡ overLists (count k) (cond b (n ∷ targeted to ns) (targeted to ns))
+          + (length ((cond b (actOn (op (Unlink k) h to ls) n) n) .links) + overLists length (passNodes (cond b (actBy (op (Unlink k) h to ls) n) (op (Unlink k) h to ls)) ns))
+      go true ih = omega (arith, count-strike k (n .links), ih (plus h (count k (n .links))) (strike (n .key) to), ap (overLists (count k)) (struck to n ns m))
       go false ih = omega (arith, ih h to)
 
-  pass-idle : (h : ℕ) (to : List ℕ) (ns : List Node) → Made ns → overTargets (count k) to ns ≡ 0 → passNodes (op (Unlink k) h to ls) ns ≡ ns
+  pass-idle : (h : ℕ) (to : List ℕ) (ns : List Node) → Made ns → overLists (count k) (targeted to ns) ≡ 0 → passNodes (op (Unlink k) h to ls) ns ≡ ns
   pass-idle h to [] m z = refl
   pass-idle h to (n ∷ ns) m z = go (contains (n .key) to) (λ j us. pass-idle j us ns (m .2)) z
     where
-      go : (b : Bool) → ((j : ℕ) (us : List ℕ) → overTargets (count k) us ns ≡ 0 → passNodes (op (Unlink k) j us ls) ns ≡ ns) → cond b (count k (n .links)) 0 + overTargets (count k) to ns ≡ 0 →
+      go : (b : Bool) → ((j : ℕ) (us : List ℕ) → overLists (count k) (targeted us ns) ≡ 0 → passNodes (op (Unlink k) j us ls) ns ≡ ns) → overLists (count k) (cond b (n ∷ targeted to ns) (targeted to ns)) ≡ 0 →
           cond b (actOn (op (Unlink k) h to ls) n) n ∷ passNodes (cond b (actBy (op (Unlink k) h to ls) n) (op (Unlink k) h to ls)) ns ≡ n ∷ ns
       go true ih z =
           let none-here : count k (n .links) ≡ 0 = omega arith in
-          let rest : overTargets (count k) (strike (n .key) to) ns ≡ 0 = omega (arith, z, struck (count k) to (n .key) ns (omega (arith, m .0)) (m .2)) in
+          let rest : overLists (count k) (targeted (strike (n .key) to) ns) ≡ 0 = omega (arith, z, ap (overLists (count k)) (struck to n ns m)) in
           λ i. record { key = n .key; value = n .value; links = strike-none k (n .links) none-here i } ∷ ih (plus h (count k (n .links))) (strike (n .key) to) rest i
       go false ih z = ap (λ (ms : List Node). n ∷ ms) (ih h to (omega arith))
 
@@ -122,7 +117,7 @@ unlink-result before later k to h r e =
     let last : nodesAfter (before ++ (unlink k to ∷ [])) ≡ passNodes (op (Unlink k) 0 to l) ns = ap (λ (y : World). y .nodes) (oneAtATime-last before (unlink k to)) in
     record {
       exact = counted;
-      removed = omega (arith, counted, ap linksIn last, pass-removes k l 0 to ns (made before));
+      removed = omega (arith, counted, ap (overLists length) last, pass-removes k l 0 to ns (made before));
       idle = λ z. last ∙ pass-idle k l 0 to ns (made before) (sym counted ∙ z);
       few = omega (arith, counted, over-few (count k) 8 (Unlink k) (unlink-counts k) to ns (made before));
     }

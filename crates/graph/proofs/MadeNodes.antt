@@ -1,15 +1,17 @@
--- Nodes that calls make from nothing, one at a time: keys fall to 1, and no list has more than eight, whatever the calls.
--- Assumes nothing.
+-- Nodes that calls make from nothing, one at a time: keys fall to 1, and no list has more than eight, whatever the calls. So a target
+-- struck at one node is that of no node behind it. Assumes nothing.
 use mathlib.Core.Path.{_≡_, refl, sym, _∙_, ap}
-use Prim.Native.Nat.{ℕ, suc, _≤_}
+use Prim.Native.Nat.{ℕ, suc, _<_, _≤_}
 use native.Mathlib.Omega.{arith}
 use mathlib.Core.Bool.{Bool, true, false, cond}
 use mathlib.Core.List.{List, [], _∷_}
 use lib.ListN.{length}
+use Rattle.graph.specs.KeyLists.{strike}
 use Rattle.graph.specs.Calls.{Call}
 use Rattle.graph.specs.Nodes.{Node, Op, hits, actOn, visitOp}
 use Rattle.graph.specs.OneAtATime.{World, labelled, passNodes, process, processFrom}
-use Rattle.graph.specs.CountResults.{nodesAfter}
+use Rattle.graph.specs.CallResults.{nodesAfter, targeted}
+use Rattle.graph.proofs.Striking.{contains-strike}
 use Rattle.graph.proofs.Meeting.{visit-key}
 use Rattle.graph.proofs.Limits.{short-links}
 use Rattle.graph.proofs.Validity.{Sort, adds, operates, sort}
@@ -43,3 +45,12 @@ made-from l (c ∷ cs) x h = made-from (suc l) cs (process (labelled c l) x) (ma
 
 pub made : (cs : List Call) → Made (nodesAfter cs)
 made cs = made-from 1 cs _ tt
+
+struck-key : (to : List ℕ) (k : ℕ) (ns : List Node) → length ns < k → Made ns → targeted (strike k to) ns ≡ targeted to ns
+struck-key to k [] l h = refl
+struck-key to k (n ∷ ns) l h =
+    let behind : targeted (strike k to) ns ≡ targeted to ns = struck-key to k ns (omega arith) (h .2) in
+    λ i. cond (contains-strike (n .key) k to (λ e. omega (arith, e, h .0, l)) i) (n ∷ behind i) (behind i)
+
+pub struck : (to : List ℕ) (n : Node) (ns : List Node) → Made (n ∷ ns) → targeted (strike (n .key) to) ns ≡ targeted to ns
+struck to n ns m = struck-key to (n .key) ns (omega (arith, m .0)) (m .2)

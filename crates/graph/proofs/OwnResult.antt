@@ -1,4 +1,4 @@
--- The result of a label, of one-at-a-time processing: what its own call leaves after the nodes that the calls before it made.
+-- The value of a label's result, of one-at-a-time processing: what its operation holds after the nodes that the calls before made.
 -- Assumes nothing.
 use mathlib.Core.Path.{_≡_, refl, sym, _∙_, ap}
 use Prim.Native.Nat.{ℕ, suc, _+_, _≤_}
@@ -12,7 +12,7 @@ use Rattle.graph.specs.Calls.{Call, targetsOf}
 use Rattle.graph.specs.Nodes.{Node, Op, Result, visitOp, addResult}
 use Rattle.graph.specs.OneAtATime.{World, operation, labelled, passOp, process, processFrom, oneAtATime}
 use Rattle.graph.specs.Counts.{resultOfLabel}
-use Rattle.graph.specs.CountResults.{nodesAfter}
+use Rattle.graph.specs.CallResults.{nodesAfter}
 use Rattle.graph.proofs.Found.{some-same, find-here, find-skip, find-after}
 use Rattle.graph.proofs.Meeting.{visit-act}
 use Rattle.graph.proofs.Validity.{Sort, adds, operates, sort}
@@ -37,7 +37,7 @@ process-one c l x = go (sort c l)
     go : Sort c l → AddsOne l x (process (labelled c l) x)
     go (adds v i e) = rw e (record { result = addResult l (length (x .nodes)); label = refl; more = refl })
     go (operates a h i e) =
-        let o : Op = record { act = a; held = h; targets = targetsOf c; labels = l ∷ [] } in
+        let o : Op = op a h (targetsOf c) (l ∷ []) in
         let q : Op = passOp o (x .nodes) in
         rw e (record { result = record { label = l; value = resultValue (q .act) (q .held); left = q .targets }; label = refl; more = rw (pass-labels o (x .nodes)) })
 

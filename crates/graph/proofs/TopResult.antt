@@ -1,64 +1,53 @@
 -- The result of a top, of one-at-a-time processing: the greatest, as signed numbers, of its start and its targets' values.
 -- Assumes nothing.
 use mathlib.Core.Path.{_≡_, refl, sym, _∙_, ap, subst}
-use Prim.Native.Nat.{ℕ, suc, _<_}
-use native.Mathlib.Omega.{arith}
-use mathlib.Core.Bool.{Bool, true, false, cond, not, _||_, or-true, or-false}
+use Prim.Native.Nat.{ℕ, suc}
+use mathlib.Core.Bool.{Bool, true, false, cond, _||_, or-true, or-false}
 use mathlib.Core.List.{List, [], _∷_, _++_}
 use mathlib.Core.Option.{some}
-use lib.Dec.{T, eqb}
+use lib.Dec.{eqb}
 use lib.ListN.{length}
-use lib.Signed.{ltZ, leZ-yes, ltZ-no, ≤ℤ-refl}
+use lib.Signed.{ltZ, ≤ℤ-refl}
 use borrow.Author.Tests.{eq-eqb}
 use Rattle.graph.specs.declared.act.Act.the-variants.{Top}
 use Rattle.graph.specs.Words.{signed}
 use Rattle.graph.specs.KeyLists.{contains, strike}
-use Rattle.graph.specs.Acts.{greater}
+use Rattle.graph.specs.Acts.{signedMax}
 use Rattle.graph.specs.Calls.{Call, top}
 use Rattle.graph.specs.Nodes.{Node, Result, actBy}
 use Rattle.graph.specs.OneAtATime.{passOp, oneAtATime}
 use Rattle.graph.specs.Counts.{resultOfLabel}
-use Rattle.graph.specs.CountResults.{nodesAfter}
-use Rattle.graph.specs.TopResult.{valuesAt, Greatest, TopResult}
-use Rattle.graph.proofs.Striking.{contains-strike}
-use Rattle.graph.proofs.MadeNodes.{Made, made}
+use Rattle.graph.specs.CallResults.{nodesAfter, targeted, valuesOf, SignedGreatest, TopResult}
+use Rattle.graph.proofs.MadeNodes.{Made, made, struck}
 use Rattle.graph.proofs.OwnResult.{op, own-value}
-use Rattle.graph.proofs.SignedOrder.{less-most, ≤ℤ-trans}
+use Rattle.graph.proofs.SignedOrder.{ltZ-true-le, ltZ-false-le, ≤ℤ-trans}
 
-between : (a b c : Bool) → (a || c) ≡ true → (a || (b || c)) ≡ true
-between true b c e = refl
-between false b c e = ap (λ (t : Bool). b || t) e ∙ or-true b
-
--- the greatest of what is kept of two numbers and of others is the greatest of them all
-both-of : (h v : ℕ) (vs : List ℕ) (q : ℕ) → Greatest (greater h v ∷ vs) q → Greatest (h ∷ v ∷ vs) q
-both-of h v vs q = go (ltZ (signed h) (signed v)) refl
+-- the greatest after `signedMax h v` is the greatest after both
+greatest-of-max : (h v : ℕ) (vs : List ℕ) (g : ℕ) → SignedGreatest (signedMax h v ∷ vs) g → SignedGreatest (h ∷ v ∷ vs) g
+greatest-of-max h v vs g = go (ltZ (signed h) (signed v)) refl
   where
-    go : (t : Bool) → ltZ (signed h) (signed v) ≡ t → Greatest (cond t v h ∷ vs) q → Greatest (h ∷ v ∷ vs) q
-    go true e g = record { among = ap (λ (t : Bool). eqb q h || t) (g .among) ∙ or-true (eqb q h); most = (≤ℤ-trans (leZ-yes (less-most (signed h) (signed v) (subst T (sym e) tt))) (g .most .0), g .most) }
-    go false e g = record { among = between (eqb q h) (eqb q v) (contains q vs) (g .among); most = (g .most .0, (≤ℤ-trans (ltZ-no (subst (λ (t : Bool). T (not t)) (sym e) tt)) (g .most .0), g .most .1)) }
+    one-more : contains g (h ∷ vs) ≡ true → (b c : Bool) → eqb g h ≡ b → (b || (c || contains g vs)) ≡ true
+    one-more m true c e = refl
+    one-more m false c e = ap (λ (t : Bool). c || t) (sym (ap (λ (t : Bool). t || contains g vs) e) ∙ m) ∙ or-true c
 
--- a struck key is that of no node behind it
-struck : (to : List ℕ) (k : ℕ) (ns : List Node) → length ns < k → Made ns → valuesAt (strike k to) ns ≡ valuesAt to ns
-struck to k [] l h = refl
-struck to k (n ∷ ns) l h =
-    let rest : valuesAt (strike k to) ns ≡ valuesAt to ns = struck to k ns (omega arith) (h .2) in
-    λ i. cond (contains-strike (n .key) k to (λ e. omega (arith, e, h .0, l)) i) (n .value ∷ rest i) (rest i)
+    go : (t : Bool) → ltZ (signed h) (signed v) ≡ t → SignedGreatest (cond t v h ∷ vs) g → SignedGreatest (h ∷ v ∷ vs) g
+    go true e s = record { member = ap (λ (t : Bool). eqb g h || t) (s .member) ∙ or-true (eqb g h); upper = (≤ℤ-trans (ltZ-true-le (signed h) (signed v) e) (s .upper .0), s .upper) }
+    go false e s = record { member = one-more (s .member) (eqb g h) (eqb g v) refl; upper = (s .upper .0, (≤ℤ-trans (ltZ-false-le (signed h) (signed v) e) (s .upper .0), s .upper .1)) }
 
-pass-top : (h : ℕ) (to ls : List ℕ) (ns : List Node) → Made ns → Greatest (h ∷ valuesAt to ns) ((passOp (op Top h to ls) ns) .held)
-pass-top h to ls [] m = record { among = or-false (eqb h h) ∙ eq-eqb h h refl; most = (≤ℤ-refl (signed h), tt) }
+pass-top : (h : ℕ) (to ls : List ℕ) (ns : List Node) → Made ns → SignedGreatest (h ∷ valuesOf (targeted to ns)) ((passOp (op Top h to ls) ns) .held)
+pass-top h to ls [] m = record { member = or-false (eqb h h) ∙ eq-eqb h h refl; upper = (≤ℤ-refl (signed h), tt) }
 pass-top h to ls (n ∷ ns) m = go (contains (n .key) to) (λ j us. pass-top j us ls ns (m .2))
   where
-    go : (b : Bool) → ((j : ℕ) (us : List ℕ) → Greatest (j ∷ valuesAt us ns) ((passOp (op Top j us ls) ns) .held)) →
-        Greatest (h ∷ cond b (n .value ∷ valuesAt to ns) (valuesAt to ns)) ((passOp (cond b (actBy (op Top h to ls) n) (op Top h to ls)) ns) .held)
+    go : (b : Bool) → ((j : ℕ) (us : List ℕ) → SignedGreatest (j ∷ valuesOf (targeted us ns)) ((passOp (op Top j us ls) ns) .held)) →
+        SignedGreatest (h ∷ valuesOf (cond b (n ∷ targeted to ns) (targeted to ns))) ((passOp (cond b (actBy (op Top h to ls) n) (op Top h to ls)) ns) .held)
     go false ih = ih h to
     go true ih =
-        let g : ℕ = greater h (n .value) in
+        let g : ℕ = signedMax h (n .value) in
         let end : ℕ = (passOp (op Top g (strike (n .key) to) ls) ns) .held in
-        let behind : valuesAt (strike (n .key) to) ns ≡ valuesAt to ns = struck to (n .key) ns (omega (arith, m .0)) (m .2) in
-        both-of h (n .value) (valuesAt to ns) end (subst (λ (vs : List ℕ). Greatest (g ∷ vs) end) behind (ih g (strike (n .key) to)))
+        greatest-of-max h (n .value) (valuesOf (targeted to ns)) end (subst (λ (ms : List Node). SignedGreatest (g ∷ valuesOf ms) end) (struck to n ns m) (ih g (strike (n .key) to)))
 
 pub top-result : (before later : List Call) (start : ℕ) (to : List ℕ) →
     (r : Result) → resultOfLabel (suc (length before)) ((oneAtATime (before ++ (top start to ∷ later))) .results) ≡ some r → TopResult before start to r
 top-result before later start to r e =
     let own = own-value Top start to before later (top start to) (λ m. refl) r e in
-    subst (Greatest (start ∷ valuesAt to (nodesAfter before))) (sym own) (pass-top start to (suc (length before) ∷ []) (nodesAfter before) (made before))
+    subst (SignedGreatest (start ∷ valuesOf (targeted to (nodesAfter before)))) (sym own) (pass-top start to (suc (length before) ∷ []) (nodesAfter before) (made before))

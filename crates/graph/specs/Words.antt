@@ -1,10 +1,10 @@
 -- Numbers of 32 bits: values, the numbers of a map, starts.
 -- Assumes nothing.
-use Prim.Native.Nat.{ℕ, _-_, _^_}
+use Prim.Native.Nat.{ℕ, _^_}
 use mathlib.Core.Bool.{Bool, true, cond, _&&_}
 use mathlib.Core.List.{List, [], _∷_}
 use lib.Dec.{ltb}
-use lib.IntN.{ℤ, pos, negℤ}
+use lib.IntN.{ℤ, pos, _-ℤ_}
 
 -- 4,294,967,296
 abbrev pub modulus : ℕ
@@ -18,4 +18,4 @@ areWords (v ∷ vs) = ltb v modulus && areWords vs
 -- the integer that a number counts as when it is signed: itself below 2,147,483,648, from there on itself less 4,294,967,296.
 -- S-5, 'Negative offsets in top': "4,294,967,295 counts as −1 and 2,147,483,648 as the least"
 abbrev pub signed : ℕ → ℤ
-signed v = cond (ltb v (2 ^ 31)) (pos v) (negℤ (pos (modulus - v)))
+signed v = cond (ltb v (2 ^ 31)) (pos v) (pos v -ℤ pos modulus)

@@ -8,6 +8,5 @@ pub mod SameEnd
 pub mod SameImage
 pub mod EveryRun
 pub mod OneResult
-pub mod CountResults
-pub mod TopResult
+pub mod CallResults
 pub mod StepsTaken

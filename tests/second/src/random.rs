@@ -125,19 +125,7 @@ impl Scribe {
             let (a, b, to) = (value(random), value(random), text(&last.targets));
             return format!("call=map a={a} b={b} to={to}");
         }
-        let to = target_text(random, session);
-        match random.below(8) {
-            0 | 1 => format!("call=map a={} b={} to={to}", value(random), value(random)),
-            2 => format!("call=link key={} to={to}", link_key(random, session)),
-            3 => format!("call=unlink key={} to={to}", link_key(random, session)),
-            4 => format!("call=sum start={} to={to}", value(random)),
-            5 => format!("call=top start={} to={to}", value(random)),
-            6 => format!("call=pick start={} to={to}", value(random)),
-            _ => {
-                let key = link_key(random, session);
-                format!("call=near key={key} start={} to={to}", value(random))
-            }
-        }
+        visiting_line(random, session)
     }
 
     /// A line of one step that may well be allowed.
@@ -194,6 +182,23 @@ impl Scribe {
             format!("claim={}", random.below(u64::from(session.last) + 3))
         } else {
             format!("claim={}", random.choose(&results))
+        }
+    }
+}
+
+/// Any call that visits nodes.
+fn visiting_line(random: &mut Random, session: &Session) -> String {
+    let to = target_text(random, session);
+    match random.below(8) {
+        0 | 1 => format!("call=map a={} b={} to={to}", value(random), value(random)),
+        2 => format!("call=link key={} to={to}", link_key(random, session)),
+        3 => format!("call=unlink key={} to={to}", link_key(random, session)),
+        4 => format!("call=sum start={} to={to}", value(random)),
+        5 => format!("call=top start={} to={to}", value(random)),
+        6 => format!("call=pick start={} to={to}", value(random)),
+        _ => {
+            let key = link_key(random, session);
+            format!("call=near key={key} start={} to={to}", value(random))
         }
     }
 }

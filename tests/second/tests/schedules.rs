@@ -43,7 +43,7 @@ impl Run {
     }
 
     /// Whether an operation of one label holds something else than its call did.
-    fn holds_more(&self, operation: &Operation) -> bool {
+    fn holds_another(&self, operation: &Operation) -> bool {
         let call = &self.accepted[usize::from(operation.labels[0]) - 1];
         matches!(call, Call::Visit { act, .. } if *act != operation.act)
     }
@@ -56,7 +56,7 @@ impl Run {
         });
         places.any(|(at, operation)| {
             let on_the_way = operation.targets.iter().any(|&key| key <= at);
-            such(&operation.act) && self.holds_more(operation) && on_the_way
+            such(&operation.act) && self.holds_another(operation) && on_the_way
         })
     }
 
