@@ -17,7 +17,8 @@ typedef struct scene {
     cg_tally tally;
 } scene;
 
-/* What the game sends in its first frames. In the last one a sum names node 9, which is never added. */
+/* What the game sends in its first frames. The top starts from 2147483648, the least signed number. In the
+ * last one a sum names node 9, which is never added. */
 static const char *const frames[] = {
     "call=add value=5\ncall=add value=7\ncall=add value=11\n",
     "call=link key=1 to=2,3\n",

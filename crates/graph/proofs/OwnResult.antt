@@ -1,5 +1,5 @@
--- The value of a label's result, of one-at-a-time processing: what its operation holds after the nodes that the calls before made.
--- Assumes nothing.
+-- The value of a label's result, of one-at-a-time processing: that of what its operation holds after the nodes that the calls before
+-- made. Assumes nothing.
 use mathlib.Core.Path.{_≡_, refl, sym, _∙_, ap}
 use Prim.Native.Nat.{ℕ, suc, _+_, _≤_}
 use native.Mathlib.Omega.{arith}

@@ -22,7 +22,7 @@ use Rattle.graph.proofs.MadeNodes.{Made, made, struck}
 use Rattle.graph.proofs.OwnResult.{op, own-value}
 use Rattle.graph.proofs.SignedOrder.{ltZ-true-le, ltZ-false-le, ≤ℤ-trans}
 
--- the greatest after `signedMax h v` is the greatest after both
+-- the greatest of `signedMax h v` and vs is the greatest of h, v and vs
 greatest-of-max : (h v : ℕ) (vs : List ℕ) (g : ℕ) → SignedGreatest (signedMax h v ∷ vs) g → SignedGreatest (h ∷ v ∷ vs) g
 greatest-of-max h v vs g = go (ltZ (signed h) (signed v)) refl
   where
