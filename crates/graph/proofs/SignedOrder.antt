@@ -10,6 +10,7 @@ use lib.IntN.{ℤ, pos, negsuc, _-ℤ_}
 use lib.Signed.{ltZ, leZ, _≤ℤ_, leZ-yes, ltZ-yes, ltZ-no, <ℤ-≤ℤ-trans, clashℤ}
 use borrow.Author.Tests.{lt-ltb, le-ltb, ltb-true, ltb-false}
 use Rattle.graph.specs.Words.{modulus, signed}
+use Rattle.graph.specs.Cases.{LeastSigned}
 use Rattle.graph.specs.Inner.Biased.{biased}
 
 same-order : (a b c d : ℕ) → (a < b → c < d) → (b ≤ a → d ≤ c) → ltb a b ≡ ltb c d
@@ -63,5 +64,5 @@ pub ≤ℤ-trans : {a b c : ℤ} → a ≤ℤ b → b ≤ℤ c → a ≤ℤ c
     go true e = clashℤ (<ℤ-≤ℤ-trans (ltZ-yes (subst T (sym e) tt)) h) k
     go false e = ltZ-false-le c a e
 
-pub signed-least : (v : ℕ) → v < modulus → signed 2147483648 ≤ℤ signed v
+pub signed-least : LeastSigned
 signed-least v h = ltZ-false-le (signed v) (signed 2147483648) (signed-order v 2147483648 h (omega arith) ∙ le-ltb (biased v) (biased 2147483648) zero-le)
