@@ -31,7 +31,7 @@ use Rattle.graph.proofs.Outcome.{Seen, plus, seen-path, sum, through, a
 use Rattle.graph.proofs.OutcomeKept.{Same, step-same}
 use Rattle.graph.proofs.Labels.{byLabel, is, total, total-append, total-is, total-results, count-out, visit-labels, live-total}
 use Rattle.graph.proofs.Weights.{weightOfCall, weightOfCalls, weightOf, Lighter, step-lighter}
-use Rattle.graph.proofs.Validity.{valid-fresh, Stepped, step-valid, claim-valid, ValidClaim, Accepts, accept-valid, Fits, Sort, adds, operates, sort}
+use Rattle.graph.proofs.Validity.{valid-fresh, Stepped, step-valid, claim-valid, ValidClaim, Accepts, accept-valid, FormFits, Fits, Sort, adds, operates, sort}
 use Rattle.graph.proofs.Drains.{no-units, pending-resting, valid-progress, work-cons, work-append, drain-drains, drain-ends}
 
 -- ONE-AT-A-TIME RESULTS have the labels i, i + 1, i + 2, ..
@@ -79,9 +79,6 @@ pub oneAtATime-last : (cs : List Call) (c : Call) → oneAtATime (cs ++ (c ∷ [
 oneAtATime-last cs c = oneAtATime-append cs (c ∷ [])
 
 -- "A call names 0 to 8 target keys"
-abbrev pub FewTargets : Call → Type 0
-FewTargets c = length (targetsOf c) ≤ 8
-
 -- THE RUN: what has been claimed, with the outcome of the session, is one-at-a-time processing of the accepted calls
 record Good (x : EventRun) : Type 0 where
   valid : Valid (x .now)
@@ -89,7 +86,7 @@ record Good (x : EventRun) : Type 0 where
   bound : quotedSteps (x .taken) + weightOf (x .now) ≤ 73 * length (x .accepted)
   labels : x .now .last ≡ length (x .accepted)
   plain : Plain (length (x .accepted)) (oneAtATime (x .accepted))
-  few : Each FewTargets (x .accepted)
+  formed : Each FormFits (x .accepted)
 
 good-start : Good start
 good-start = record {
@@ -98,7 +95,7 @@ good-start = record {
   bound = omega arith;
   labels = refl;
   plain = record { labelling = tt; size = refl };
-  few = tt;
+  formed = tt;
 }
 
 weight-last : (cs : List Labelled) (c : Labelled) → weightOfCalls (cs ++ (c ∷ [])) ≡ weightOfCalls cs + weightOfCall c
@@ -106,8 +103,8 @@ weight-last [] c = omega arith
 weight-last (d ∷ cs) c = omega (arith, weight-last cs c)
 
 -- 73 = 65 + 8
-weight-call : (c : Call) (s : Session) (l : ℕ) → Fits c s → weightOfCall (labelled c l) ≤ 73
-weight-call c s l f = go (sort c l)
+weight-call : (c : Call) (l : ℕ) → FormFits c → weightOfCall (labelled c l) ≤ 73
+weight-call c l f = go (sort c l)
   where
     go : Sort c l → weightOfCall (labelled c l) ≤ 73
     go (adds v i e) = rw e (omega arith)
@@ -126,10 +123,10 @@ good-accepted c x g f v =
           ∙ ap (processSeen w d) (g .balance w)
           ∙ sym (process-seen w d (oneAtATime (x .accepted)))
           ∙ ap (seen w) (ap (λ (k : ℕ). process (labelled c (suc k)) (oneAtATime (x .accepted))) (g .labels) ∙ sym (oneAtATime-last (x .accepted) c));
-      bound = omega (arith, g .bound, size, weight-call c s (suc (s .last)) f, weight-last (s .topStream) d);
+      bound = omega (arith, g .bound, size, weight-call c (suc (s .last)) (f .form), weight-last (s .topStream) d);
       labels = omega (arith, g .labels, size);
       plain = rw (oneAtATime-last (x .accepted) c, size) (plain-process c (length (x .accepted)) (oneAtATime (x .accepted)) (g .plain));
-      few = each-append FewTargets (x .accepted) (c ∷ []) (g .few) (f .few, tt);
+      formed = each-append FormFits (x .accepted) (c ∷ []) (g .formed) (f .form, tt);
     }
 
 good-call : (c : Call) (x : EventRun) → Good x → Good (onCall c x (accept c (x .now)))
@@ -150,7 +147,7 @@ good-step t x g = go (step t (x .now)) (step-valid t (x .now) (g .valid)) (step-
       bound = omega (arith, b, g .bound, work-append (x .taken) (t ∷ []), work-cons t []);
       labels = a .last ∙ g .labels;
       plain = g .plain;
-      few = g .few;
+      formed = g .formed;
     }
 
 good-drain : (x : EventRun) → Good x → Good (onDrain x (drain (x .now)))
@@ -162,7 +159,7 @@ good-drain x g =
       bound = omega (arith, h .lighter, g .bound, work-append (x .taken) ((drain (x .now)) .took));
       labels = h .last ∙ g .labels;
       plain = g .plain;
-      few = g .few;
+      formed = g .formed;
     }
 
 good-claim : (l : ℕ) (x : EventRun) → Good x → Good (onClaim x (claim l (x .now)))
@@ -176,7 +173,7 @@ good-claim l x g = go (claim l (x .now)) (claim-valid l (x .now) (g .valid))
       bound = g .bound;
       labels = g .labels;
       plain = g .plain;
-      few = g .few;
+      formed = g .formed;
     }
 
 good-events : (es : List Event) (x : EventRun) → Good x → Good (events es x)
@@ -330,9 +327,9 @@ demand3 es =
       valid = g .valid;
     }
 
--- each call accepted has at most eight targets
-pub few-targets : (es : List Event) → Each FewTargets ((run es) .accepted)
-few-targets es = good-events es start good-start .few
+-- the form of each call accepted passes its tests
+pub accepted-formed : (es : List Event) → Each FormFits ((run es) .accepted)
+accepted-formed es = good-events es start good-start .formed
 
 -- a label stands once: among the results that were claimed, or in the session
 pub label-once : (es : List Event) (l : ℕ) → count l (labelsOfResults ((run es) .claimed)) + count l (live ((run es) .now)) ≤ 1

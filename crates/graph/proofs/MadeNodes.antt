@@ -32,7 +32,7 @@ made-pass o (n ∷ ns) h = (visit-key o n ∙ h .0 ∙ ap suc (sym (pass-length 
     short true = short-links (o .act) (n .links) (h .1)
     short false = h .1
 
-made-process : (c : Call) (l : ℕ) (x : World) → Made (x .nodes) → Made ((process (labelled c l) x) .nodes)
+pub made-process : (c : Call) (l : ℕ) (x : World) → Made (x .nodes) → Made ((process (labelled c l) x) .nodes)
 made-process c l x h = go (sort c l)
   where
     go : Sort c l → Made ((process (labelled c l) x) .nodes)

@@ -1,16 +1,16 @@
 -- Refusals as sequences of tests: calls, steps and claims are answered with the number of the first test that applies. Here each
--- sequence rises, so that this is the lowest number that applies.
+-- sequence rises, but for 40 (S-6), which stands after 12 and before 13; so that no test that applies precedes the answer.
 -- Assumes nothing.
 use mathlib.Core.Path.{_≡_, refl, sym, _∙_, ap}
-use Prim.Native.Nat.{ℕ, _≤_, _<_}
+use Prim.Native.Nat.{ℕ, _+_, _≤_, _<_}
 use native.Mathlib.Omega.{arith}
 use mathlib.Core.Bool.{Bool, true, false, cond, not, _&&_, _||_, true≢false}
 use mathlib.Core.List.{List, [], _∷_}
 use mathlib.Core.Option.{some}
 use lib.Dec.{eqb, ltb, leb}
-use borrow.Author.Tests.{eq-eqb, eqb-true, eqb-false, ltb-true, ne-eqb}
+use borrow.Author.Tests.{eq-eqb, eqb-true, eqb-false, leb-true, lt-leb, ltb-true, le-ltb, ne-eqb}
 use Rattle.graph.specs.Refusals.{Answer, refused, done, mapDone, andThen, Test, unless}
-use Rattle.graph.specs.RefusalOrder.{numberOf, firstOf, risesFrom, claimTests}
+use Rattle.graph.specs.RefusalOrder.{numberOf, firstOf, precedes, risesFrom, Foremost, claimTests}
 use Rattle.graph.specs.KeyLists.{contains}
 use Rattle.graph.specs.Calls.{Call}
 use Rattle.graph.specs.Nodes.{Result}
@@ -23,31 +23,49 @@ use Rattle.graph.specs.Counts.{resultOfLabel}
 use Rattle.graph.proofs.Answers.{Holds, refuses, holds, holds-map, and-left, and-right}
 use Rattle.graph.proofs.Verdicts.{Says, says-map}
 
--- THE LOWEST NUMBER
-rises-above : (n : ℕ) (ts : List Test) → risesFrom n ts ≡ true → Each (λ (t : Test). n < t .number) ts
+-- THE FOREMOST NUMBER
+-- a number's place in the order of the tests: twice the number, which leaves room for 40 between 12 and 13
+abbrev place : ℕ → ℕ
+place n = cond (eqb n 40) 25 (n + n)
+
+precedes-place : (n m : ℕ) → precedes n m ≡ true → place n < place m
+precedes-place n m = go (eqb m 40) (eqb n 40) refl refl
+  where
+    go : (a b : Bool) → eqb m 40 ≡ a → eqb n 40 ≡ b → cond a (leb n 12) (cond b (ltb 12 m) (ltb n m)) ≡ true → cond b 25 (n + n) < cond a 25 (m + m)
+    go true true f g e = absurd (omega (arith, eqb-true n 40 g, leb-true n 12 e))
+    go true false f g e = omega (arith, leb-true n 12 e)
+    go false true f g e = omega (arith, ltb-true 12 m e)
+    go false false f g e = omega (arith, ltb-true n m e)
+
+place-precedes : (n m : ℕ) → place m ≤ place n → precedes n m ≡ false
+place-precedes n m = go (eqb m 40) (eqb n 40) refl refl
+  where
+    go : (a b : Bool) → eqb m 40 ≡ a → eqb n 40 ≡ b → cond a 25 (m + m) ≤ cond b 25 (n + n) → cond a (leb n 12) (cond b (ltb 12 m) (ltb n m)) ≡ false
+    go true true f g h = lt-leb n 12 (omega (arith, eqb-true n 40 g))
+    go true false f g h = lt-leb n 12 (omega arith)
+    go false true f g h = le-ltb 12 m (omega arith)
+    go false false f g h = le-ltb n m (omega arith)
+
+rises-above : (n : ℕ) (ts : List Test) → risesFrom n ts ≡ true → Each (λ (t : Test). place n < place (t .number)) ts
 rises-above n [] e = tt
 rises-above n (t ∷ ts) e =
-    let h : n < t .number = ltb-true n (t .number) (and-left _ _ e) in
-    (h, weaker ts (rises-above (t .number) ts (and-right (ltb n (t .number)) _ e)))
+    let h : place n < place (t .number) = precedes-place n (t .number) (and-left _ _ e) in
+    (h, weaker (place n) (place (t .number)) h ts (rises-above (t .number) ts (and-right (precedes n (t .number)) _ e)))
   where
-    weaker : (us : List Test) → Each (λ (u : Test). t .number < u .number) us → Each (λ (u : Test). n < u .number) us
-    weaker [] g = tt
-    weaker (u ∷ us) g = (omega (arith, ltb-true n (t .number) (and-left _ _ e), g .0), weaker us (g .1))
+    weaker : (a b : ℕ) → a < b → (us : List Test) → Each (λ (u : Test). b < place (u .number)) us → Each (λ (u : Test). a < place (u .number)) us
+    weaker a b l [] g = tt
+    weaker a b l (u ∷ us) g = (omega (arith, l, g .0), weaker a b l us (g .1))
 
--- the first test that applies has the lowest number of those that apply
-abbrev pub Lowest : ℕ → List Test → Type 0
-Lowest n ts = Each (λ (t : Test). t .applies ≡ true → n ≤ t .number) ts
-
-pub first-lowest : (n : ℕ) (ts : List Test) → risesFrom n ts ≡ true → Lowest (firstOf ts) ts
-first-lowest n [] e = tt
-first-lowest n (t ∷ ts) e = go (t .applies) refl (first-lowest (t .number) ts (and-right (ltb n (t .number)) _ e))
+pub first-foremost : (n : ℕ) (ts : List Test) → risesFrom n ts ≡ true → Foremost (firstOf ts) ts
+first-foremost n [] e = tt
+first-foremost n (t ∷ ts) e = go (t .applies) refl (first-foremost (t .number) ts (and-right (precedes n (t .number)) _ e))
   where
-    above : (us : List Test) → Each (λ (u : Test). t .number < u .number) us → Lowest (t .number) us
-    above [] g = tt
-    above (u ∷ us) g = (λ a. omega (arith, g .0), above us (g .1))
+    behind : (us : List Test) → Each (λ (u : Test). place (t .number) < place (u .number)) us → Foremost (t .number) us
+    behind [] g = tt
+    behind (u ∷ us) g = (λ a. place-precedes (u .number) (t .number) (omega (arith, g .0)), behind us (g .1))
 
-    go : (b : Bool) → t .applies ≡ b → Lowest (firstOf ts) ts → Lowest (cond b (t .number) (firstOf ts)) (t ∷ ts)
-    go true f g = (λ a. omega arith, above ts (rises-above (t .number) ts (and-right (ltb n (t .number)) _ e)))
+    go : (b : Bool) → t .applies ≡ b → Foremost (firstOf ts) ts → Foremost (cond b (t .number) (firstOf ts)) (t ∷ ts)
+    go true f g = (λ a. place-precedes (t .number) (t .number) (omega arith), behind ts (rises-above (t .number) ts (and-right (precedes n (t .number)) _ e)))
     go false f g = (λ a. absurd (true≢false (sym a ∙ f)), g)
 
 -- EACH SEQUENCE RISES (of claims and the listing: host's Sequences, with 33)

@@ -12,7 +12,7 @@ use Rattle.graph.specs.declared.act.Act.{Act}
 use Rattle.graph.specs.Refusals.{Answer, refused, done, mapDone, Test, unless}
 use Rattle.graph.specs.Words.{modulus, areWords}
 use Rattle.graph.specs.KeyLists.{isKey, areKeys, above, rising, contains, count}
-use Rattle.graph.specs.Calls.{Call, add, map, link, unlink, sum, top, pick, near, numbersOf, operandsOf, targetsOf}
+use Rattle.graph.specs.Calls.{Call, add, map, link, unlink, sum, top, pick, near, unmap, numbersOf, operandsOf, targetsOf, lacksInverse}
 use Rattle.graph.specs.OneAtATime.{isAdd, Labelled, addOf, opOf, operation, labelled}
 use Rattle.graph.specs.Nodes.{Op, Result, addResult}
 use Rattle.graph.specs.Sessions.{Station, Session, fresh, insert, store, labelsOfStations, labelsOfCalls, labelsOfResults, pending, live, addsIn}
@@ -20,6 +20,7 @@ use Rattle.graph.specs.Steps.{Step, Change, enter, admitted, changed, ad
 use Rattle.graph.specs.Acceptance.{callTests, accepted, accept, Claimed, takeResult, claim, keeping}
 use Rattle.graph.specs.Valid.{Each, ValidAct, ValidHeld, mostLabels, ValidOp, ValidUnit, ValidStation, ValidCall, ValidResult, KeysFall, Given, Valid}
 use Rattle.graph.proofs.Answers.{Holds, refuses, holds, holds-map, holds-cond, by-bool, and-left, and-right, and-both, test-most}
+use Rattle.graph.proofs.Inverses.{inverse-fits}
 use Rattle.graph.proofs.Effects.{Effect, realised, moved, finished, reshaped, further, effect-at, effect-size, by-station}
 use Rattle.graph.proofs.Limits.{each-append, above-lower, rising-above, ValidChange, valid-effect, valid-stored, valid-newNode, valid-addResult}
 use Rattle.graph.proofs.Outcome.{sum as sumOf}
@@ -256,12 +257,17 @@ claim-fine l s v = go (leb 1 l && leb l (s .last)) (contains l (pending s)) refl
     go false b p x h = (omega arith, λ e. absurd (omega arith))
 
 -- CALLS
--- the facts of a call that is accepted: no test applied
-pub record Fits (c : Call) (s : Session) : Type 0 where
+-- the facts of a call whose form passes its tests
+pub record FormFits (c : Call) : Type 0 where
   pub words : areWords (numbersOf c ++ (operandsOf c ++ targetsOf c)) ≡ true
   pub keys : areKeys (operandsOf c ++ targetsOf c) ≡ true
   pub few : length (targetsOf c) ≤ 8
   pub rise : rising (targetsOf c) ≡ true
+  pub undone : lacksInverse c ≡ false
+
+-- the facts of a call that is accepted: no test applied
+pub record Fits (c : Call) (s : Session) : Type 0 where
+  pub form : FormFits c
   pub room : isAdd c ≡ true → length (s .stations) + addsIn (s .topStream) < 64
   pub free : length (live s) < 64
   pub more : s .last < 65535
@@ -278,13 +284,16 @@ accept-fits : (c : Call) (s : Session) → Holds (λ t. Fits c s × (t ≡ accep
 accept-fits c s = holds-unless (callTests c s) (accepted c s) (λ h.
     let targets : (leb (length (targetsOf c)) 8 && rising (targetsOf c)) ≡ true = not-false _ (h .1 .1 .0) in (
       record {
-        words = not-false _ (h .0);
-        keys = not-false _ (h .1 .0);
-        few = leb-true (length (targetsOf c)) 8 (and-left _ _ targets);
-        rise = and-right (leb (length (targetsOf c)) 8) _ targets;
-        room = and-room (isAdd c) _ (h .1 .1 .1 .0);
-        free = leb-false 64 (length (live s)) (h .1 .1 .1 .1 .0);
-        more = leb-false 65535 (s .last) (h .1 .1 .1 .1 .1 .0);
+        form = record {
+          words = not-false _ (h .0);
+          keys = not-false _ (h .1 .0);
+          few = leb-true (length (targetsOf c)) 8 (and-left _ _ targets);
+          rise = and-right (leb (length (targetsOf c)) 8) _ targets;
+          undone = h .1 .1 .1 .0;
+        };
+        room = and-room (isAdd c) _ (h .1 .1 .1 .1 .0);
+        free = leb-false 64 (length (live s)) (h .1 .1 .1 .1 .1 .0);
+        more = leb-false 65535 (s .last) (h .1 .1 .1 .1 .1 .1 .0);
       },
       refl,
     ))
@@ -295,15 +304,18 @@ word v vs e = ltb-true v modulus (and-left _ _ e)
 valid-operation : (a : Act) (h : ℕ) (ts : List ℕ) (l : ℕ) → ValidAct a → ValidHeld a h → 1 ≤ mostLabels a → areKeys ts ≡ true → length ts ≤ 8 → rising ts ≡ true → ValidCall (operation a h ts l)
 valid-operation a h ts l va vh m k f r = record { act = va; held = vh; targets = record { few = f; keys = k; rise = r }; named = omega arith; few = m }
 
-pub valid-labelled : (c : Call) (s : Session) (l : ℕ) → Fits c s → ValidCall (labelled c l)
-valid-labelled (add v) s l f = word v [] (f .words)
-valid-labelled (map a b ts) s l f = valid-operation _ 0 ts l (word a (b ∷ ts) (f .words), word b ts (and-right (ltb a modulus) _ (f .words))) refl (omega arith) (f .keys) (f .few) (f .rise)
-valid-labelled (link k ts) s l f = valid-operation _ 0 ts l (and-left _ _ (f .keys)) (lit≤ tt) (omega arith) (and-right (isKey k) _ (f .keys)) (f .few) (f .rise)
-valid-labelled (unlink k ts) s l f = valid-operation _ 0 ts l (and-left _ _ (f .keys)) (lit≤ tt) (omega arith) (and-right (isKey k) _ (f .keys)) (f .few) (f .rise)
-valid-labelled (sum x ts) s l f = valid-operation _ x ts l tt (word x ts (f .words)) (omega arith) (f .keys) (f .few) (f .rise)
-valid-labelled (top x ts) s l f = valid-operation _ x ts l tt (word x ts (f .words)) (omega arith) (f .keys) (f .few) (f .rise)
-valid-labelled (pick x ts) s l f = valid-operation _ x ts l tt (word x ts (f .words)) (omega arith) (f .keys) (f .few) (f .rise)
-valid-labelled (near k x ts) s l f = valid-operation _ x ts l (and-left _ _ (f .keys)) (word x (k ∷ ts) (f .words)) (omega arith) (and-right (isKey k) _ (f .keys)) (f .few) (f .rise)
+valid-labelled : (c : Call) (l : ℕ) → FormFits c → ValidCall (labelled c l)
+valid-labelled (add v) l f = word v [] (f .words)
+valid-labelled (map a b ts) l f = valid-operation _ 0 ts l (word a (b ∷ ts) (f .words), word b ts (and-right (ltb a modulus) _ (f .words))) refl (omega arith) (f .keys) (f .few) (f .rise)
+valid-labelled (link k ts) l f = valid-operation _ 0 ts l (and-left _ _ (f .keys)) (lit≤ tt) (omega arith) (and-right (isKey k) _ (f .keys)) (f .few) (f .rise)
+valid-labelled (unlink k ts) l f = valid-operation _ 0 ts l (and-left _ _ (f .keys)) (lit≤ tt) (omega arith) (and-right (isKey k) _ (f .keys)) (f .few) (f .rise)
+valid-labelled (sum x ts) l f = valid-operation _ x ts l tt (word x ts (f .words)) (omega arith) (f .keys) (f .few) (f .rise)
+valid-labelled (top x ts) l f = valid-operation _ x ts l tt (word x ts (f .words)) (omega arith) (f .keys) (f .few) (f .rise)
+valid-labelled (pick x ts) l f = valid-operation _ x ts l tt (word x ts (f .words)) (omega arith) (f .keys) (f .few) (f .rise)
+valid-labelled (near k x ts) l f = valid-operation _ x ts l (and-left _ _ (f .keys)) (word x (k ∷ ts) (f .words)) (omega arith) (and-right (isKey k) _ (f .keys)) (f .few) (f .rise)
+valid-labelled (unmap a b ts) l f =
+    let i = inverse-fits (record { a = a; b = b }) in
+    valid-operation _ 0 ts l (i .scale, i .shift) refl (omega arith) (f .keys) (f .few) (f .rise)
 
 -- a call with its label is an add, or an operation with that label alone
 pub data Sort (c : Call) (l : ℕ) : Type 0 where
@@ -319,6 +331,7 @@ sort (sum x ts) l = operates _ x refl refl
 sort (top x ts) l = operates _ x refl refl
 sort (pick x ts) l = operates _ x refl refl
 sort (near k x ts) l = operates _ x refl refl
+sort (unmap a b ts) l = operates _ 0 refl refl
 
 labels-one : (v : ℕ → ℕ) (c : Call) (l : ℕ) → total v (labelsOfCalls (labelled c l ∷ [])) ≡ v l
 labels-one v c l = go (sort c l)
@@ -374,7 +387,7 @@ accepted-valid c s g f =
     record {
       falling = g .falling;
       stations = g .stations;
-      topStream = each-append ValidCall (s .topStream) (labelled c l ∷ []) (g .topStream) (valid-labelled c s l f, tt);
+      topStream = each-append ValidCall (s .topStream) (labelled c l ∷ []) (g .topStream) (valid-labelled c l (f .form), tt);
       results = g .results;
       room = omega (arith, adds-append (s .topStream) (labelled c l ∷ []), adds-one c l (length (s .stations) + addsIn (s .topStream)) (g .room) (f .room));
       order = g .order;

@@ -2,12 +2,14 @@
 -- (docs/RULES.md).
 -- Assumes nothing.
 use Prim.Native.Nat.{ℕ}
-use mathlib.Core.Bool.{Bool, true, cond, _&&_, not}
+use mathlib.Core.Path.{_≡_}
+use mathlib.Core.Bool.{Bool, true, false, cond, _&&_, not}
 use mathlib.Core.List.{List, [], _∷_}
-use lib.Dec.{ltb, leb}
+use lib.Dec.{eqb, ltb, leb}
 use Rattle.graph.specs.Refusals.{Answer, refused, done, Test, on}
 use Rattle.graph.specs.KeyLists.{contains}
 use Rattle.graph.specs.Sessions.{Session, labelsOfResults, pending}
+use Rattle.graph.specs.Valid.{Each}
 
 module _ {A : Type 0} where
   -- the number of the answer: 0 where it was done
@@ -20,11 +22,19 @@ abbrev pub firstOf : List Test → ℕ
 firstOf [] = 0
 firstOf (t ∷ ts) = cond (t .applies) (t .number) (firstOf ts)
 
--- each number is above the one before it, and the first above n: then the first test that applies has the lowest number of those
--- that do (proofs/Sequences.antt, first-lowest)
+-- is n tested before m? The lower number is, with one exception: "40 .. checked after 12 and before 14" (S-6), so before 13 too
+abbrev pub precedes : ℕ → ℕ → Bool
+precedes n m = cond (eqb m 40) (leb n 12) (cond (eqb n 40) (ltb 12 m) (ltb n m))
+
+-- each number is preceded by the one before it, and the first by n: then no test that applies precedes the first that does
+-- (proofs/Sequences.antt, first-foremost); but for 40 it has the lowest number of those that do
 abbrev pub risesFrom : ℕ → List Test → Bool
 risesFrom n [] = true
-risesFrom n (t ∷ ts) = ltb n (t .number) && risesFrom (t .number) ts
+risesFrom n (t ∷ ts) = precedes n (t .number) && risesFrom (t .number) ts
+
+-- none of the tests that apply precedes n
+abbrev pub Foremost : ℕ → List Test → Type 0
+Foremost n ts = Each (λ (t : Test). t .applies ≡ true → precedes (t .number) n ≡ false) ts
 
 -- "30 a label never given; 31 still pending; 32 already claimed": a claim is refused by the first of these that applies, else the result
 -- is taken (proofs/Sequences.antt, claim-tests)

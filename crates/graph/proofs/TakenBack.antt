@@ -1,0 +1,132 @@
+-- A map and its unmap, in either order, restore the value of every target present at both, if no call between them acts on it (S-6): of
+-- one-at-a-time processing.
+-- Assumes nothing.
+use mathlib.Core.Path.{_≡_, refl, sym, _∙_, ap}
+use Prim.Native.Nat.{ℕ, suc, _≤_, _<_}
+use native.Mathlib.Omega.{arith}
+use mathlib.Core.Bool.{Bool, true, false, cond}
+use mathlib.Core.List.{List, [], _∷_, _++_}
+use mathlib.Core.Option.{some, Option·none-ne-some, Option·some-injective}
+use lib.Dec.{eqb}
+use lib.ListN.{length}
+use borrow.Author.Tests.{eqb-true, eqb-false, ne-eqb}
+use Rattle.graph.specs.declared.affine.Affine.{Affine}
+use Rattle.graph.specs.declared.act.Act.{Act}
+use Rattle.graph.specs.declared.act.Act.the-variants.{Map}
+use Rattle.graph.specs.Words.{modulus}
+use Rattle.graph.specs.Affine.{isOdd, applied, inverse}
+use Rattle.graph.specs.Acts.{newValue}
+use Rattle.graph.specs.KeyLists.{contains}
+use Rattle.graph.specs.Calls.{Call, add, map, link, unlink, sum, top, pick, near, unmap, targetsOf}
+use Rattle.graph.specs.Nodes.{Node, Op, actOn, actBy, visitNode, visitOp}
+use Rattle.graph.specs.OneAtATime.{Labelled, World, operation, labelled, passNodes, process, processFrom, oneAtATime}
+use Rattle.graph.specs.Valid.{Each}
+use Rattle.graph.specs.TakenBack.{TakesBack, unmapAfter, unmapBefore, actsOnValue, valueAt, TakenBack, withPair, Restores}
+use Rattle.graph.specs.CallResults.{nodesAfter}
+use Rattle.graph.proofs.Striking.{contains-strike}
+use Rattle.graph.proofs.Meeting.{visit-key}
+use Rattle.graph.proofs.OwnResult.{op}
+use Rattle.graph.proofs.MadeNodes.{Made, made, made-process}
+use Rattle.graph.proofs.Demand3.{oneAtATime-append}
+use Rattle.graph.proofs.Inverses.{undone, redone}
+
+-- ONE NODE'S VALUE
+-- what an operation makes of the value of node k
+abbrev valueBy : ℕ → Op → ℕ → ℕ
+valueBy k o v = cond (contains k (o .targets)) (newValue (o .act) v) v
+
+-- past another node it makes the same of it
+visit-by : (k : ℕ) (o : Op) (n : Node) (v : ℕ) → (k ≡ n .key → ⊥) → valueBy k (visitOp o n) v ≡ valueBy k o v
+visit-by k o n v d = go (contains (n .key) (o .targets))
+  where
+    go : (b : Bool) → valueBy k (cond b (actBy o n) o) v ≡ valueBy k o v
+    go true = ap (λ (t : Bool). cond t (newValue (o .act) v) v) (contains-strike k (n .key) (o .targets) d)
+    go false = refl
+
+visit-value : (o : Op) (n : Node) → (visitNode o n) .value ≡ valueBy (n .key) o (n .value)
+visit-value o n = go (contains (n .key) (o .targets))
+  where
+    go : (b : Bool) → (cond b (actOn o n) n) .value ≡ cond b (newValue (o .act) (n .value)) (n .value)
+    go true = refl
+    go false = refl
+
+pass-value : (k : ℕ) (o : Op) (ns : List Node) (v : ℕ) → valueAt k ns ≡ some v → valueAt k (passNodes o ns) ≡ some (valueBy k o v)
+pass-value k o [] v e = absurd (Option·none-ne-some v e)
+pass-value k o (n ∷ ns) v e =
+    ap (λ (j : ℕ). cond (eqb j k) (some ((visitNode o n) .value)) (valueAt k (passNodes (visitOp o n) ns))) (visit-key o n)
+    ∙ go (eqb (n .key) k) refl e (pass-value k (visitOp o n) ns v)
+  where
+    go : (b : Bool) → eqb (n .key) k ≡ b → cond b (some (n .value)) (valueAt k ns) ≡ some v → (valueAt k ns ≡ some v → valueAt k (passNodes (visitOp o n) ns) ≡ some (valueBy k (visitOp o n) v)) →
+        cond b (some ((visitNode o n) .value)) (valueAt k (passNodes (visitOp o n) ns)) ≡ some (valueBy k o v)
+    go true f e ih = ap some (visit-value o n ∙ (λ i. valueBy (eqb-true (n .key) k f i) o (Option·some-injective (n .value) v e i)))
+    go false f e ih = ih e ∙ ap some (visit-by k o n v (λ q. eqb-false (n .key) k f (sym q)))
+
+-- a node that is there has a key that was given
+at-most : (k : ℕ) (ns : List Node) (v : ℕ) → Made ns → valueAt k ns ≡ some v → k ≤ length ns
+at-most k [] v m e = absurd (Option·none-ne-some v e)
+at-most k (n ∷ ns) v m e = go (eqb (n .key) k) refl e (at-most k ns v (m .2))
+  where
+    go : (b : Bool) → eqb (n .key) k ≡ b → cond b (some (n .value)) (valueAt k ns) ≡ some v → (valueAt k ns ≡ some v → k ≤ length ns) → k ≤ suc (length ns)
+    go true f e ih = omega (arith, eqb-true (n .key) k f, m .0)
+    go false f e ih = omega (arith, ih e)
+
+-- CALLS
+module _ (k v : ℕ) where
+  -- a call that does not act on the value leaves it
+  abbrev Keeps : Call → Type 0
+  Keeps c = (l : ℕ) (x : World) → Made (x .nodes) → valueAt k (x .nodes) ≡ some v → valueAt k ((process (labelled c l) x) .nodes) ≡ some v
+
+  keeps-operation : (a : Act) (h : ℕ) (ts : List ℕ) → valueBy k (op a h ts []) v ≡ v → (l : ℕ) (x : World) → valueAt k (x .nodes) ≡ some v → valueAt k ((process (operation a h ts l) x) .nodes) ≡ some v
+  keeps-operation a h ts s l x e = pass-value k (op a h ts (l ∷ [])) (x .nodes) v e ∙ ap some s
+
+  keeps-unread : (a : Act) (h : ℕ) (ts : List ℕ) → newValue a v ≡ v → (l : ℕ) (x : World) → valueAt k (x .nodes) ≡ some v → valueAt k ((process (operation a h ts l) x) .nodes) ≡ some v
+  keeps-unread a h ts s = keeps-operation a h ts (go (contains k ts))
+    where
+      go : (b : Bool) → cond b (newValue a v) v ≡ v
+      go true = s
+      go false = refl
+
+  keeps : (c : Call) → actsOnValue k c ≡ false → Keeps c
+  keeps (add w) f l x m e = ap (λ (b : Bool). cond b (some w) (valueAt k (x .nodes))) (ne-eqb (suc (length (x .nodes))) k (λ q. omega (arith, at-most k (x .nodes) v m e, q))) ∙ e
+  keeps (map a b ts) f l x m e = keeps-operation _ 0 ts (ap (λ (t : Bool). cond t (applied (record { a = a; b = b }) v) v) f) l x e
+  keeps (link j ts) f l x m e = keeps-unread _ 0 ts refl l x e
+  keeps (unlink j ts) f l x m e = keeps-unread _ 0 ts refl l x e
+  keeps (sum s ts) f l x m e = keeps-unread _ s ts refl l x e
+  keeps (top s ts) f l x m e = keeps-unread _ s ts refl l x e
+  keeps (pick s ts) f l x m e = keeps-unread _ s ts refl l x e
+  keeps (near j s ts) f l x m e = keeps-unread _ s ts refl l x e
+  keeps (unmap a b ts) f l x m e = keeps-operation _ 0 ts (ap (λ (t : Bool). cond t (applied (inverse (record { a = a; b = b })) v) v) f) l x e
+
+-- a map of the value, after calls that leave it
+module _ (k : ℕ) (ts : List ℕ) (t : contains k ts ≡ true) where
+  mapped : (f : Affine) (v l : ℕ) (x : World) → valueAt k (x .nodes) ≡ some v → valueAt k ((process (operation (Map f) 0 ts l) x) .nodes) ≡ some (applied f v)
+  mapped f v l x e = pass-value k (op (Map f) 0 ts (l ∷ [])) (x .nodes) v e ∙ ap (λ (b : Bool). some (cond b (applied f v) v)) t
+
+  mapped-last : (d : Call) (f : Affine) → ((l : ℕ) → labelled d l ≡ operation (Map f) 0 ts l) → (v l : ℕ) (between : List Call) (x : World) → Made (x .nodes) → Each (λ e. actsOnValue k e ≡ false) between →
+      valueAt k (x .nodes) ≡ some v → valueAt k ((processFrom l (between ++ (d ∷ [])) x) .nodes) ≡ some (applied f v)
+  mapped-last d f is v l [] x m h e = ap (λ (y : Labelled). valueAt k ((process y x) .nodes)) (is l) ∙ mapped f v l x e
+  mapped-last d f is v l (c ∷ cs) x m h e = mapped-last d f is v (suc l) cs (process (labelled c l) x) (made-process c l x m) (h .1) (keeps k v c (h .0) l x m e)
+
+-- THE PAIR
+module _ (k : ℕ) (before between : List Call) (h : Each (λ e. actsOnValue k e ≡ false) between) where
+  both : (c d : Call) (f g : Affine) → ((l : ℕ) → labelled c l ≡ operation (Map f) 0 (targetsOf c) l) → ((l : ℕ) → labelled d l ≡ operation (Map g) 0 (targetsOf d) l) →
+      contains k (targetsOf c) ≡ true → contains k (targetsOf d) ≡ true → (v : ℕ) → applied g (applied f v) ≡ v → valueAt k (nodesAfter before) ≡ some v → valueAt k (nodesAfter (withPair before c between d)) ≡ some v
+  both c d f g ic id tc td v r e =
+      let l : ℕ = suc (length before) in
+      let x : World = oneAtATime before in
+      let y : World = process (labelled c l) x in
+      let once : valueAt k (y .nodes) ≡ some (applied f v) = ap (λ (z : Labelled). valueAt k ((process z x) .nodes)) (ic l) ∙ mapped k (targetsOf c) tc f v l x e in
+      ap (λ (z : World). valueAt k (z .nodes)) (oneAtATime-append before (c ∷ (between ++ (d ∷ []))))
+      ∙ mapped-last k (targetsOf d) td d g id (applied f v) (suc l) between y (made-process c l x (made before)) h once
+      ∙ ap some r
+
+pub restores : (a k : ℕ) (before : List Call) (c : Call) (between : List Call) (d : Call) → isOdd a ≡ true → TakenBack a k c between d → Restores k before c between d
+restores a k before c between d o t v small e = go c d (t .pair) (t .first) (t .second)
+  where
+    go : (c d : Call) → TakesBack a c d → contains k (targetsOf c) ≡ true → contains k (targetsOf d) ≡ true → valueAt k (nodesAfter (withPair before c between d)) ≡ some v
+    go (map _ _ _) (unmap _ _ _) (unmapAfter {b = b}) tc td =
+        let m : Affine = record { a = a; b = b } in
+        both k before between (t .nothingElse) _ _ m (inverse m) (λ l. refl) (λ l. refl) tc td v (undone m v o small) e
+    go (unmap _ _ _) (map _ _ _) (unmapBefore {b = b}) tc td =
+        let m : Affine = record { a = a; b = b } in
+        both k before between (t .nothingElse) _ _ (inverse m) m (λ l. refl) (λ l. refl) tc td v (redone m v o small) e

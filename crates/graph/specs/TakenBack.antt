@@ -1,0 +1,76 @@
+-- Taking a map back (S-6): "A map and its unmap, in either order with nothing else acting on the targets between them, restore the value of
+-- every target present at both. A pair fused is the identity." proofs/Inverses.antt proves it of maps and of a fuse, proofs/TakenBack.antt
+-- of one-at-a-time processing, runs/proofs/TakenBack.antt of every list of lines sent to a fresh session.
+-- Assumes nothing.
+use Prim.Native.Nat.{ℕ, _<_}
+use mathlib.Core.Path.{_≡_}
+use mathlib.Core.Bool.{Bool, true, false, cond}
+use mathlib.Core.List.{List, [], _∷_, _++_}
+use mathlib.Core.Option.{Option, none, some}
+use lib.Dec.{eqb}
+use Rattle.graph.specs.declared.affine.Affine.{Affine}
+use Rattle.graph.specs.declared.act.Act.{Act}
+use Rattle.graph.specs.declared.act.Act.the-variants.{Map}
+use Rattle.graph.specs.Words.{modulus}
+use Rattle.graph.specs.Affine.{identity, composed, inverse}
+use Rattle.graph.specs.KeyLists.{contains}
+use Rattle.graph.specs.Calls.{Call, add, map, link, unlink, sum, top, pick, near, unmap, targetsOf}
+use Rattle.graph.specs.Nodes.{Node, Op}
+use Rattle.graph.specs.Steps.{fused}
+use Rattle.graph.specs.CallResults.{nodesAfter}
+use Rattle.graph.specs.Valid.{Each}
+
+-- "the map that undoes" m: n after m and n before m change no value, and no other 32-bit numbers are such a map's
+pub record Inverts (m n : Affine) : Type 0 where
+  pub after : composed m n ≡ identity
+  pub before : composed n m ≡ identity
+  pub only : (o : Affine) → o .a < modulus → o .b < modulus → composed m o ≡ identity → o ≡ n
+
+-- "A map and its unmap, in either order": the acts of the operations that they become
+pub data MapAndUnmap (m : Affine) : Act → Act → Type 0 where
+  mapFirst : MapAndUnmap m (Map m) (Map (inverse m))
+  unmapFirst : MapAndUnmap m (Map (inverse m)) (Map m)
+
+-- "A pair fused is the identity": the operation that a fuse of o and q leaves is the identity map, for the labels of both, with the
+-- targets that remained
+abbrev pub FusedToIdentity : Op → Op → Type 0
+FusedToIdentity o q = fused o q ≡ record { act = Map identity; held = 0; targets = o .targets; labels = o .labels ++ q .labels }
+
+-- "A map and its unmap, in either order", as calls: of the same numbers, each with targets of its own
+pub data TakesBack (a : ℕ) : Call → Call → Type 0 where
+  unmapAfter : {b : ℕ} {ts us : List ℕ} → TakesBack a (map a b ts) (unmap a b us)
+  unmapBefore : {b : ℕ} {ts us : List ℕ} → TakesBack a (unmap a b ts) (map a b us)
+
+-- does the call act on the value of the node with this key, if there is one?
+abbrev pub actsOnValue : ℕ → Call → Bool
+actsOnValue k (add v) = false
+actsOnValue k (map a b ts) = contains k ts
+actsOnValue k (link j ts) = false
+actsOnValue k (unlink j ts) = false
+actsOnValue k (sum s ts) = false
+actsOnValue k (top s ts) = false
+actsOnValue k (pick s ts) = false
+actsOnValue k (near j s ts) = false
+actsOnValue k (unmap a b ts) = contains k ts
+
+-- the value of the node with this key
+abbrev pub valueAt : ℕ → List Node → Option ℕ
+valueAt k [] = none
+valueAt k (n ∷ ns) = cond (eqb (n .key) k) (some (n .value)) (valueAt k ns)
+
+-- k is a target of the two calls c and d, and "nothing else acting on the targets between them" acts on its value
+pub record TakenBack (a k : ℕ) (c : Call) (between : List Call) (d : Call) : Type 0 where
+  pub pair : TakesBack a c d
+  pub first : contains k (targetsOf c) ≡ true
+  pub second : contains k (targetsOf d) ≡ true
+  pub nothingElse : Each (λ e. actsOnValue k e ≡ false) between
+
+-- c and d, with these calls before and between them
+abbrev pub withPair : (before : List Call) (c : Call) (between : List Call) (d : Call) → List Call
+withPair before c between d = before ++ (c ∷ (between ++ (d ∷ [])))
+
+-- "restore the value of every target present at both": where node k is there before c, its value after d is what it was, any 32-bit
+-- number
+abbrev pub Restores : ℕ → (before : List Call) (c : Call) (between : List Call) (d : Call) → Type 0
+Restores k before c between d =
+    (v : ℕ) → v < modulus → valueAt k (nodesAfter before) ≡ some v → valueAt k (nodesAfter (withPair before c between d)) ≡ some v
