@@ -2,25 +2,29 @@
 -- Assumes nothing.
 use Prim.Native.Nat.{ℕ, _<_, _≤_}
 use mathlib.Core.Path.{_≡_, refl, sym, ap, subst, _∙_}
-use mathlib.Core.Bool.{Bool, true, false, cond, false≢true, _&&_}
+use mathlib.Core.Bool.{Bool, true, false, cond, not, false≢true, _&&_}
 use mathlib.Core.List.{List, [], _∷_, _++_}
 use mathlib.Core.Logic.{inl, inr}
 use native.Mathlib.Omega.{arith}
 use borrow.Author.Tests.{le-leb, lt-leb}
 use lib.Dec.{eqb, leb}
 use lib.ListN.{length, getD}
-use Rattle.graph.specs.Calls.{Call, add, map, link, unlink, sum, top, pick, near, operandsOf, targetsOf}
+use Rattle.graph.specs.Calls.{Call, add, map, link, unlink, sum, top, pick, near, unmap, operandsOf, targetsOf, lacksInverse}
 use Rattle.graph.specs.Words.{modulus, areWords}
+use Rattle.graph.specs.Affine.{isOdd}
+use Rattle.graph.specs.Refusals.{refused, done}
+use Rattle.graph.specs.declared.keys.Keys.{Keys}
 use Rattle.graph.specs.KeyLists.{isKey, areKeys, rising}
 use Rattle.graph.specs.Packed.{packed}
 use Rattle.text.specs.Text.{ascii}
 use Rattle.text.proofs.Splits.{cleanTest, clean-by}
 use Rattle.lines.specs.Forms.{callText, callNumbers}
-use Rattle.lines.specs.Inner.Answers.{ReadAs, callLine, refusedCall, callParts, callRead, callAnswer, callForm}
-use Rattle.lines.specs.Inner.LineParts.{Below, KeysOf, KeysStored, ValuesOf, callWord, callLiterals, callListed, CallAfter, Links, Starts, callMade}
-use Rattle.lines.specs.declared.call.CallAnswer.the-variants.{Is}
+use Rattle.lines.specs.Inner.Answers.{ReadAs, form, other, settled, callLine, refusedCall, callParts, callRead, callAnswer, callForm}
+use Rattle.lines.specs.Inner.LineParts.{Below, KeysOf, KeysStored, ValuesOf, callWord, callLiterals, callListed, CallAfter, Links, Starts, callMade, unmapMade}
+use Rattle.lines.specs.declared.call.CallAnswer.{CallAnswer}
+use Rattle.lines.specs.declared.call.CallAnswer.the-variants.{Refused, Is}
 use Rattle.lines.specs.declared.call.CallKind.{CallKind}
-use Rattle.lines.specs.declared.call.CallKind.the-variants.{Add, Map, Link, Unlink, Sum, Top, Pick, Near}
+use Rattle.lines.specs.declared.call.CallKind.the-variants.{Add, Map, Link, Unlink, Sum, Top, Pick, Near, Unmap}
 use Rattle.lines.specs.declared.call.CallLine.{CallLine}
 use Rattle.lines.specs.declared.keylist.KeyList.{KeyList}
 use Rattle.lines.proofs.KeyLists.{rising-keys, below-words}
@@ -28,19 +32,19 @@ use Rattle.lines.proofs.Words.{KindOf, Grammar, Parts, PartsOf, Made, F
 
 -- ---- the grammar
 
--- the first letter tells the words apart
-kindAt : ℕ → CallKind
-kindAt b =
+-- the first letter tells the words apart, and the third unlink from unmap
+kindAt : ℕ → ℕ → CallKind
+kindAt b d =
     cond (eqb b 97) Add
     (cond (eqb b 109) Map
     (cond (eqb b 108) Link
-    (cond (eqb b 117) Unlink
+    (cond (eqb b 117) (cond (eqb d 108) Unlink Unmap)
     (cond (eqb b 115) Sum
     (cond (eqb b 116) Top
     (cond (eqb b 112) Pick Near))))))
 
 pub named : List ℕ → CallKind
-named w = kindAt (getD w 0 0)
+named w = kindAt (getD w 0 0) (getD w 2 0)
 
 pub call-kinds : (k : CallKind) → KindOf named k (callWord k) (callLiterals k)
 unfolding named kindAt ascii cleanTest
@@ -52,6 +56,7 @@ call-kinds Sum = record { clean = clean-by 32 (callWord Sum) refl; some = omega 
 call-kinds Top = record { clean = clean-by 32 (callWord Top) refl; some = omega arith; names = refl; gaps = (refl, tt) }
 call-kinds Pick = record { clean = clean-by 32 (callWord Pick) refl; some = omega arith; names = refl; gaps = (refl, tt) }
 call-kinds Near = record { clean = clean-by 32 (callWord Near) refl; some = omega arith; names = refl; gaps = (refl, (refl, tt)) }
+call-kinds Unmap = record { clean = clean-by 32 (callWord Unmap) refl; some = omega arith; names = refl; gaps = (refl, (refl, tt)) }
 
 unfoldable pub calls : Grammar CallKind
 calls =
@@ -65,15 +70,17 @@ calls =
     }
 
 pub no-call-word : (w : List ℕ) → (w ≡ ascii "add" → ⊥) → (w ≡ ascii "map" → ⊥) → (w ≡ ascii "link" → ⊥) → (w ≡ ascii "unlink" → ⊥)
-    → (w ≡ ascii "sum" → ⊥) → (w ≡ ascii "top" → ⊥) → (w ≡ ascii "pick" → ⊥) → (w ≡ ascii "near" → ⊥) → (k : CallKind) → w ≡ callWord k → ⊥
-no-call-word w a m l u s t p n Add = a
-no-call-word w a m l u s t p n Map = m
-no-call-word w a m l u s t p n Link = l
-no-call-word w a m l u s t p n Unlink = u
-no-call-word w a m l u s t p n Sum = s
-no-call-word w a m l u s t p n Top = t
-no-call-word w a m l u s t p n Pick = p
-no-call-word w a m l u s t p n Near = n
+    → (w ≡ ascii "sum" → ⊥) → (w ≡ ascii "top" → ⊥) → (w ≡ ascii "pick" → ⊥) → (w ≡ ascii "near" → ⊥) → (w ≡ ascii "unmap" → ⊥)
+    → (k : CallKind) → w ≡ callWord k → ⊥
+no-call-word w a m l u s t p n v Add = a
+no-call-word w a m l u s t p n v Map = m
+no-call-word w a m l u s t p n v Link = l
+no-call-word w a m l u s t p n v Unlink = u
+no-call-word w a m l u s t p n v Sum = s
+no-call-word w a m l u s t p n v Top = t
+no-call-word w a m l u s t p n v Pick = p
+no-call-word w a m l u s t p n v Near = n
+no-call-word w a m l u s t p n v Unmap = v
 
 -- ---- the forms
 
@@ -87,6 +94,7 @@ call-made Sum x y z ts = record { same = refl; fits = λ s. (s .0, s .3) }
 call-made Top x y z ts = record { same = refl; fits = λ s. (s .0, s .3) }
 call-made Pick x y z ts = record { same = refl; fits = λ s. (s .0, s .3) }
 call-made Near x y z ts = record { same = refl; fits = λ s. (s .1, (s .0, s .3)) }
+call-made Unmap x y z ts = record { same = refl; fits = λ s. (s .0, (s .1, s .3)) }
 
 abbrev pub formOf : Parts CallKind → Call
 formOf p = callForm (p .kind) (p .x) (p .y) (p .to)
@@ -104,6 +112,7 @@ parts (sum start to) = record { back = refl; unused = ((refl, refl, refl), tt); 
 parts (top start to) = record { back = refl; unused = ((refl, refl, refl), tt); small = λ b. (b .0, omega arith, omega arith, b .1) }
 parts (pick start to) = record { back = refl; unused = ((refl, refl, refl), tt); small = λ b. (b .0, omega arith, omega arith, b .1) }
 parts (near key start to) = record { back = refl; unused = ((refl, refl, refl), tt); small = λ b. (b .1 .0, b .0, omega arith, b .1 .1) }
+parts (unmap a b to) = record { back = refl; unused = ((refl, refl, refl), tt); small = λ b. (b .0, b .1 .0, omega arith, b .1 .1) }
 
 pub call-forms : Forms calls callText callNumbers formOf partsOf
 call-forms =
@@ -119,29 +128,61 @@ call-unique = unique call-forms
 -- ---- the answer
 
 -- the form's own tests, in their order
-by-tests : (f : Call) (a b : Bool) → areWords (callNumbers f) ≡ true → areKeys (operandsOf f ++ targetsOf f) ≡ a → leb (length (targetsOf f)) 8 && rising (targetsOf f) ≡ b
+by-tests : (f : Call) (a b : Bool) → lacksInverse f ≡ false → areWords (callNumbers f) ≡ true → areKeys (operandsOf f ++ targetsOf f) ≡ a → leb (length (targetsOf f)) 8 && rising (targetsOf f) ≡ b
     → callAnswer f ≡ cond a (cond b (callRead f) (refusedCall 12)) (refusedCall 11)
-by-tests f true true w ea eb = rw (w, ea, eb)
-by-tests f true false w ea eb = rw (w, ea, eb)
-by-tests f false b w ea eb = rw (w, ea)
+by-tests f true true i w ea eb = rw (w, ea, eb, i)
+by-tests f true false i w ea eb = rw (w, ea, eb)
+by-tests f false b i w ea eb = rw (w, ea)
 
--- the answer to a call of 32-bit numbers
-answered : (f : Call) → Below (callNumbers f) → callAnswer f ≡ cond (areKeys (operandsOf f ++ targetsOf f)) (cond (leb (length (targetsOf f)) 8 && rising (targetsOf f)) (callRead f) (refusedCall 12)) (refusedCall 11)
-answered f w = by-tests f (areKeys (operandsOf f ++ targetsOf f)) (leb (length (targetsOf f)) 8 && rising (targetsOf f)) (below-words (callNumbers f) w) refl refl
+-- the answer to a call of 32-bit numbers, but for an unmap that is 40
+answered : (f : Call) → lacksInverse f ≡ false → Below (callNumbers f) → callAnswer f ≡ cond (areKeys (operandsOf f ++ targetsOf f)) (cond (leb (length (targetsOf f)) 8 && rising (targetsOf f)) (callRead f) (refusedCall 12)) (refusedCall 11)
+answered f i w = by-tests f (areKeys (operandsOf f ++ targetsOf f)) (leb (length (targetsOf f)) 8 && rising (targetsOf f)) i (below-words (callNumbers f) w) refl refl
 
 -- what an answer by targets is, where there is a key before them
 abbrev keyed : Bool → CallKind → ℕ → ℕ → List ℕ → CallLine
 keyed b k x y ts = cond (b && areKeys ts) (cond (leb (length ts) 8 && rising ts) (callLine k x y ts) (refusedCall 12)) (refusedCall 11)
 
 pub add-answer : (value : ℕ) → value < modulus → callLine Add value 0 [] ≡ callAnswer (add value)
-add-answer value h = sym (answered (add value) (h, tt))
+add-answer value h = sym (answered (add value) refl (h, tt))
 
 pub map-answer : (a b : ℕ) (ts : List ℕ) → a < modulus → b < modulus → Below ts → callMade Map a b ts ≡ callAnswer (map a b ts)
-map-answer a b ts ha hb h = sym (answered (map a b ts) (ha, (hb, h)))
+map-answer a b ts ha hb h = sym (answered (map a b ts) refl (ha, (hb, h)))
+
+-- an unmap is answered as the map that it undoes, but for 40
+abbrev unmapAnswer : CallAnswer → Keys → CallLine
+unmapAnswer (Refused n) to = refusedCall n
+unmapAnswer (Is kind a b) to = unmapMade a b to
+
+unmap-answer : (a b : ℕ) (ts : List ℕ) → unmapAnswer (callAnswer (map a b ts) .answer) (callAnswer (map a b ts) .to) ≡ callAnswer (unmap a b ts)
+unmap-answer a b ts = go (areWords (callNumbers (map a b ts))) (areKeys ts) (leb (length ts) 8 && rising ts) (isOdd a) refl
+  where
+    formed : (p q r odd : Bool) → Call → CallLine
+    formed p q r odd f = settled refusedCall callRead (cond (not p) (refused 10) (cond (not q) (refused 11) (cond (not r) (refused 12) (cond (not odd) (refused 40) (done f)))))
+
+    go : (p q r odd : Bool) → isOdd a ≡ odd → unmapAnswer (formed p q r true (map a b ts) .answer) (formed p q r true (map a b ts) .to) ≡ formed p q r odd (unmap a b ts)
+    go false q r odd e = refl
+    go true false r odd e = refl
+    go true true false odd e = refl
+    go true true true true e = rw e
+    go true true true false e = rw e
+
+module _ {l : List ℕ} (read r : CallLine) (h : CallAfter Map l read) where
+  unmap-after : (a : CallAnswer) → read .answer ≡ a → r ≡ unmapAnswer a (read .to) → CallAfter Unmap l r
+  unmap-after a is q = go h (q ∙ ap (λ (x : CallAnswer). unmapAnswer x (read .to)) (sym is))
+    where
+      go : CallAfter Map l read → r ≡ unmapAnswer (read .answer) (read .to) → CallAfter Unmap l r
+      go (form v i e) q = form v i (q ∙ ap (λ (c : CallLine). unmapAnswer (c .answer) (c .to)) e ∙ unmap-answer (v .x) (v .y) (v .to))
+      go (other never e) q = other never (q ∙ ap (λ (c : CallLine). unmapAnswer (c .answer) (c .to)) e)
+
+  pub unmap-refused : {n : ℕ} → read .answer ≡ Refused n → r ≡ refusedCall n → CallAfter Unmap l r
+  unmap-refused {n} = unmap-after (Refused n)
+
+  pub unmap-read : {kind : CallKind} {a b : ℕ} → read .answer ≡ Is kind a b → r ≡ unmapMade a b (read .to) → CallAfter Unmap l r
+  unmap-read {kind} {a} {b} = unmap-after (Is kind a b)
 
 module _ (key start : ℕ) (ts : List ℕ) (hk : key < modulus) (hs : start < modulus) (h : Below ts) where
   near-by : (b : Bool) → isKey key ≡ b → keyed b Near key start ts ≡ callAnswer (near key start ts)
-  near-by b e = ap (λ (x : Bool). keyed x Near key start ts) (sym e) ∙ sym (answered (near key start ts) (hs, (hk, h)))
+  near-by b e = ap (λ (x : Bool). keyed x Near key start ts) (sym e) ∙ sym (answered (near key start ts) refl (hs, (hk, h)))
 
   pub near-answer : isKey key ≡ true → callMade Near key start ts ≡ callAnswer (near key start ts)
   near-answer = near-by true
@@ -171,7 +212,7 @@ module _ (k : CallKind) (is : Links k) where
     link-by : (b : Bool) → isKey key ≡ b → keyed b k key 0 ts ≡ callAnswer (callForm k key 0 ts)
     link-by b e =
         ap (λ (x : Bool). keyed x k key 0 ts) (sym e)
-        ∙ links (λ (j : CallKind). keyed (isKey key) j key 0 ts ≡ callAnswer (callForm j key 0 ts)) (sym (answered (link key ts) (hk, h))) (sym (answered (unlink key ts) (hk, h))) k is
+        ∙ links (λ (j : CallKind). keyed (isKey key) j key 0 ts ≡ callAnswer (callForm j key 0 ts)) (sym (answered (link key ts) refl (hk, h))) (sym (answered (unlink key ts) refl (hk, h))) k is
 
     pub link-answer : isKey key ≡ true → callMade k key 0 ts ≡ callAnswer (callForm k key 0 ts)
     link-answer = link-by true
@@ -186,7 +227,7 @@ module _ (k : CallKind) (is : Starts k) where
   pub start-answer : (start : ℕ) (ts : List ℕ) → start < modulus → Below ts → callMade k start 0 ts ≡ callAnswer (callForm k start 0 ts)
   start-answer start ts hs h =
       starts (λ (j : CallKind). callMade j start 0 ts ≡ callAnswer (callForm j start 0 ts))
-      (sym (answered (sum start ts) (hs, h))) (sym (answered (top start ts) (hs, h))) (sym (answered (pick start ts) (hs, h))) k is
+      (sym (answered (sum start ts) refl (hs, h))) (sym (answered (top start ts) refl (hs, h))) (sym (answered (pick start ts) refl (hs, h))) k is
 
 -- ---- the answer by the targets
 

@@ -4,7 +4,7 @@
 use Prim.Native.Nat.{ℕ, _<_}
 use Prim.Native.String.{String}
 use mathlib.Core.List.{List, [], _∷_, _++_}
-use Rattle.graph.specs.Calls.{Call, add, map, link, unlink, sum, top, pick, near, numbersOf, operandsOf, targetsOf}
+use Rattle.graph.specs.Calls.{Call, add, map, link, unlink, sum, top, pick, near, unmap, numbersOf, operandsOf, targetsOf}
 use Rattle.graph.specs.Steps.{Step, admit, realise, move, finish, join, split, swap, fuse}
 use Rattle.text.specs.Text.{ascii, decimal, commas, upTo}
 use mathlib.Core.Bool.{true, not}
@@ -32,6 +32,7 @@ callText (sum start to) = field "call=sum start=" start (targets to)
 callText (top start to) = field "call=top start=" start (targets to)
 callText (pick start to) = field "call=pick start=" start (targets to)
 callText (near key start to) = field "call=near key=" key (field " start=" start (targets to))
+callText (unmap a b to) = field "call=unmap a=" a (field " b=" b (targets to))
 
 -- every number of the line
 abbrev pub callNumbers : Call → List ℕ

@@ -7,6 +7,7 @@ use crate::fields::value_at;
 use crate::keylist::KeyList;
 use crate::keylist::Targets;
 use crate::keylist::is_key;
+use graph::affine::is_odd;
 use graph::keys::Keys;
 use text::cut::Place;
 use text::cut::past;
@@ -15,8 +16,8 @@ ghost use mathlib.Core.List.{List};
 ghost use Prim.Native.Nat.{ℕ, _≤_};
 ghost use lib.ListN.{length, drop};
 ghost use Rattle.lines.specs.Inner.Answers.{CallRead, refusedCall};
-ghost use Rattle.lines.specs.Inner.LineParts.{KeysOf, KeysStored, CallWordOf, callMade, Links, Starts, CallAfter};
-ghost use Rattle.lines.specs.declared.call.CallKind.the-variants.{Add, Map, Near};
+ghost use Rattle.lines.specs.Inner.LineParts.{KeysOf, KeysStored, CallWordOf, callMade, Links, Starts, unmapMade, CallAfter};
+ghost use Rattle.lines.specs.declared.call.CallKind.the-variants.{Add, Map, Near, Unmap};
 
 pub enum CallKind {
     Add,
@@ -27,6 +28,7 @@ pub enum CallKind {
     Top,
     Pick,
     Near,
+    Unmap,
 }
 
 // The refusal, or the kind and its numbers in the line's order, the second 0 where the kind has one only.
@@ -83,6 +85,9 @@ fn call_word(word: &[u8]) -> CallWord
     }
     if check::same(word, b"near") {
         return CallWord::Is(CallKind::Near);
+    }
+    if check::same(word, b"unmap") {
+        return CallWord::Is(CallKind::Unmap);
     }
     CallWord::Not
 }
@@ -206,6 +211,33 @@ fn near_call(line: &[u8], at: usize) -> CallLine
     call_made(CallKind::Near, key, start, list, keys)
 }
 
+// The unmap of a map that was read and not refused: 40 for an even a, else the call.
+fn unmap_made(a: u32, b: u32, to: Keys) -> CallLine
+    ensures { λ r. ⌜ r ≡ unmapMade a b to ⌝ }
+{
+    if !is_odd(a) {
+        return refused_call(40);
+    }
+    CallLine {
+        answer: CallAnswer::Is(CallKind::Unmap, a, b),
+        to: to,
+    }
+}
+
+// The same fields as a map's: what refuses the map refuses its unmap.
+fn unmap_call(line: &[u8], at: usize) -> CallLine
+    requires { ⌜ at ≤ length (now line) ⌝ }
+    ensures { λ r. ⌜ CallAfter Unmap (drop at (now (line .entry))) r ⌝ }
+{
+    let read = map_call(line, at);
+    let answer = read.answer;
+    let to = read.to;
+    match answer {
+        CallAnswer::Refused(n) => refused_call(n),
+        CallAnswer::Is(_, a, b) => unmap_made(a, b, to),
+    }
+}
+
 // What follows the word of a call of this kind.
 fn call_after(kind: CallKind, line: &[u8], at: usize) -> CallLine
     requires { ⌜ at ≤ length (now line) ⌝ }
@@ -220,6 +252,7 @@ fn call_after(kind: CallKind, line: &[u8], at: usize) -> CallLine
         CallKind::Top => start_call(kind, line, at),
         CallKind::Pick => start_call(kind, line, at),
         CallKind::Near => near_call(line, at),
+        CallKind::Unmap => unmap_call(line, at),
     }
 }
 

@@ -1,16 +1,16 @@
--- What reading a line answers: the form that the line is the text of, by value, or refusal 10, 11 or 12.
+-- What reading a line answers: the form that the line is the text of, by value, or refusal 10, 11, 12 or 40.
 -- Assumes nothing.
 use Prim.Native.Nat.{ℕ}
 use mathlib.Core.List.{List, []}
 use mathlib.Core.Path.{_≡_}
-use Rattle.graph.specs.Calls.{Call, add, map, link, unlink, sum, top, pick, near, formTests}
+use Rattle.graph.specs.Calls.{Call, add, map, link, unlink, sum, top, pick, near, unmap, formTests}
 use Rattle.graph.specs.Packed.{packed}
 use Rattle.graph.specs.Refusals.{Answer, refused, done, unless}
 use Rattle.graph.specs.Steps.{Step, admit, realise, move, finish, join, split, swap, fuse}
 use Rattle.lines.specs.Forms.{StepForm, work, drainForm, IsCall, stepFormTests, IsStep, IsClaim}
 use Rattle.lines.specs.declared.call.CallAnswer.the-variants.{Refused as CallRefused, Is}
 use Rattle.lines.specs.declared.call.CallKind.{CallKind}
-use Rattle.lines.specs.declared.call.CallKind.the-variants.{Add, Map, Link, Unlink, Sum, Top, Pick, Near}
+use Rattle.lines.specs.declared.call.CallKind.the-variants.{Add, Map, Link, Unlink, Sum, Top, Pick, Near, Unmap}
 use Rattle.lines.specs.declared.call.CallLine.{CallLine}
 use Rattle.lines.specs.declared.step.StepLine.{StepLine}
 use Rattle.lines.specs.declared.step.StepLine.the-variants.{Refused, Work, Drain}
@@ -56,12 +56,13 @@ callParts (sum start to) = withParts Sum start 0 to
 callParts (top start to) = withParts Top start 0 to
 callParts (pick start to) = withParts Pick start 0 to
 callParts (near key start to) = withParts Near key start to
+callParts (unmap a b to) = withParts Unmap a b to
 
 -- a call by value
 abbrev pub callRead : Call → CallLine
 callRead f = callLine (callParts f .kind) (callParts f .x) (callParts f .y) (callParts f .to)
 
--- refused by the first of the form's own tests that applies (11, 12), else the call
+-- refused by the first of the form's own tests that applies (11, 12, 40), else the call
 abbrev pub callAnswer : Call → CallLine
 callAnswer f = settled refusedCall callRead (unless (formTests f) f)
 
@@ -78,6 +79,7 @@ callForm Sum x y to = sum x to
 callForm Top x y to = top x to
 callForm Pick x y to = pick x to
 callForm Near x y to = near x y to
+callForm Unmap x y to = unmap x y to
 
 -- ---- steps
 

@@ -11,14 +11,17 @@ use Rattle.text.specs.Text.{ascii, decimal}
 use Rattle.text.specs.Inner.PartsRead.{Gap}
 use Rattle.graph.specs.KeyLists.{isKey, areKeys, above, rising}
 use Rattle.graph.specs.Words.{modulus}
+use Rattle.graph.specs.Affine.{isOdd}
+use Rattle.graph.specs.declared.keys.Keys.{Keys}
 use Rattle.graph.specs.Valid.{Each}
 use Rattle.graph.specs.Packed.{packed}
 use Rattle.graph.specs.Refusals.{Answer, refused, done}
 use Rattle.graph.specs.Steps.{admit, realise, move, finish, join, split, swap, fuse}
 use Rattle.lines.specs.Forms.{targets, StepForm, work, drainForm}
 use Rattle.lines.specs.Inner.Answers.{ReadAs, callLine, refusedCall, callForm, callAnswer, stepAnswered, stepAnswer}
+use Rattle.lines.specs.declared.call.CallAnswer.the-variants.{Is as AnswerIs}
 use Rattle.lines.specs.declared.call.CallKind.{CallKind}
-use Rattle.lines.specs.declared.call.CallKind.the-variants.{Add, Map, Link, Unlink, Sum, Top, Pick, Near}
+use Rattle.lines.specs.declared.call.CallKind.the-variants.{Add, Map, Link, Unlink, Sum, Top, Pick, Near, Unmap}
 use Rattle.lines.specs.declared.call.CallLine.{CallLine}
 use Rattle.lines.specs.declared.call.CallWord.{CallWord}
 use Rattle.lines.specs.declared.call.CallWord.the-variants.{Is as CallIs, Not as CallNot}
@@ -113,6 +116,7 @@ callWord Sum = ascii "sum"
 callWord Top = ascii "top"
 callWord Pick = ascii "pick"
 callWord Near = ascii "near"
+callWord Unmap = ascii "unmap"
 
 abbrev pub CallWordOf : List ℕ → CallWord → Type 0
 CallWordOf word (CallIs kind) = word ≡ callWord kind
@@ -127,6 +131,7 @@ callLiterals Sum = ascii " start=" ∷ []
 callLiterals Top = ascii " start=" ∷ []
 callLiterals Pick = ascii " start=" ∷ []
 callLiterals Near = ascii " key=" ∷ ascii " start=" ∷ []
+callLiterals Unmap = ascii " a=" ∷ ascii " b=" ∷ []
 
 abbrev pub callListed : CallKind → Bool
 callListed Add = false
@@ -137,6 +142,7 @@ callListed Sum = true
 callListed Top = true
 callListed Pick = true
 callListed Near = true
+callListed Unmap = true
 
 -- the bytes after a word of this kind are the text of some numbers and targets, and r answers their call; or of none, and r is 10
 abbrev pub CallAfter : CallKind → List ℕ → CallLine → Type 0
@@ -152,6 +158,10 @@ Starts kind = (kind ≡ Sum) ⊎ ((kind ≡ Top) ⊎ (kind ≡ Pick))
 -- the answer to a call whose key is one, by its targets: 11, then 12, else the call
 abbrev pub callMade : CallKind → ℕ → ℕ → List ℕ → CallLine
 callMade kind x y ts = cond (areKeys ts) (cond (leb (length ts) 8 && rising ts) (callLine kind x y ts) (refusedCall 12)) (refusedCall 11)
+
+-- the answer to the unmap of a map that was not refused: 40, else the call
+abbrev pub unmapMade : ℕ → ℕ → Keys → CallLine
+unmapMade a b to = cond (isOdd a) (record { answer = AnswerIs Unmap a b; to = to }) (refusedCall 40)
 
 -- ---- steps
 

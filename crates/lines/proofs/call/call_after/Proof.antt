@@ -53,6 +53,12 @@ enum-told-8 c = search needs
 near-call-requires : tie.Need-near-call-requires
 near-call-requires c κs = search needs
 
+enum-told-9 : tie.Need-enum-told-9
+enum-told-9 c = search needs
+
+unmap-call-requires : tie.Need-unmap-call-requires
+unmap-call-requires c κs = search needs
+
 returns : tie.Need-returns
 returns c = rw (c .before .enum-told .given .1) (c .add-call .ensures)
 
@@ -77,6 +83,9 @@ returns-7 c = search needs
 returns-8 : tie.Need-returns-8
 returns-8 c = rw (c .before .enum-told8 .given .1) (c .near-call .ensures)
 
+returns-9 : tie.Need-returns-9
+returns-9 c = rw (c .before .enum-told9 .given .1) (c .unmap-call .ensures)
+
 pub call-after-spec : {M : Type 1} → statement M
 call-after-spec =
     tie.close
@@ -97,6 +106,8 @@ call-after-spec =
     start-call-requires-3
     enum-told-8
     near-call-requires
+    enum-told-9
+    unmap-call-requires
     returns
     returns-2
     returns-3
@@ -104,4 +115,5 @@ call-after-spec =
     returns-5
     returns-6
     returns-7
-    returns-8)
+    returns-8
+    returns-9)

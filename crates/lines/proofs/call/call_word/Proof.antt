@@ -87,10 +87,21 @@ returns-8 : tie.Need-returns-8
 unfolding ascii
 returns-8 c = c .before .same8 .ensures .0 (c .if8 .taken)
 
+slice-aggregate-same-9 : tie.Need-slice-aggregate-same-9
+slice-aggregate-same-9 c = search needs
+
+same-requires-9 : tie.Need-same-requires-9
+same-requires-9 c κs = search needs
+
 returns-9 : tie.Need-returns-9
 unfolding ascii
-returns-9 c =
-    let c8 = c in
+returns-9 c = c .before .same9 .ensures .0 (c .if9 .taken)
+
+returns-10 : tie.Need-returns-10
+unfolding ascii
+returns-10 c =
+    let c9 = c in
+    let c8 = c9 .before .before .before in
     let c7 = c8 .before .before .before in
     let c6 = c7 .before .before .before in
     let c5 = c6 .before .before .before in
@@ -107,6 +118,7 @@ returns-9 c =
     (unlike _ (c6 .before .same6 .ensures .1) (c6 .if6 .left))
     (unlike _ (c7 .before .same7 .ensures .1) (c7 .if7 .left))
     (unlike _ (c8 .before .same8 .ensures .1) (c8 .if8 .left))
+    (unlike _ (c9 .before .same9 .ensures .1) (c9 .if9 .left))
 
 pub call-word-spec : {M : Type 1} → statement M
 call-word-spec =
@@ -136,4 +148,7 @@ call-word-spec =
     slice-aggregate-same-8
     same-requires-8
     returns-8
-    returns-9)
+    slice-aggregate-same-9
+    same-requires-9
+    returns-9
+    returns-10)
