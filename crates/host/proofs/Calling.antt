@@ -4,7 +4,7 @@ use mathlib.Core.Path.{_≡_, refl, sym, ap, subst, _∙_}
 use Prim.Native.Nat.{ℕ}
 use native.Mathlib.Omega.{arith}
 use mathlib.Core.List.{List, []}
-use Rattle.graph.specs.Calls.{Call, add, map, link, unlink, sum, top, pick, near, targetsOf, formTests}
+use Rattle.graph.specs.Calls.{Call, add, map, link, unlink, sum, top, pick, near, unmap, targetsOf, formTests}
 use Rattle.graph.specs.OneAtATime.{isAdd}
 use Rattle.graph.specs.declared.keys.Keys.{Keys}
 use Rattle.graph.specs.Refusals.{Answer, refused, done, unless}
@@ -51,6 +51,7 @@ read-back (sum start to) = (ap (λ (ts : List ℕ). done (sum start ts)) (listed
 read-back (top start to) = (ap (λ (ts : List ℕ). done (top start ts)) (listed-packed to), refl)
 read-back (pick start to) = (ap (λ (ts : List ℕ). done (pick start ts)) (listed-packed to), refl)
 read-back (near key start to) = (ap (λ (ts : List ℕ). done (near key start ts)) (listed-packed to), refl)
+read-back (unmap a b to) = (ap (λ (ts : List ℕ). done (unmap a b ts)) (listed-packed to), refl)
 
 settled-back : (x : Answer Call) → answerIn (settled refusedCall callRead x) ≡ x
 settled-back (refused n) = refl
@@ -107,7 +108,7 @@ module _ (image after : List ℕ) (f : Call) (n : ℕ) (s : Serves (accept f (se
     where
       go : (x : Answer Session) → accept f (sessionOf image) ≡ x → Holds (Accepts f (sessionOf image)) x → n ≡ numberOf x → after ≡ imageAfter x image
           → record { answer = returnedNumber (Done last); image = after } ≡ callServed image x
-      go (refused m) d v e q = absurd (omega (arith, unless-number (callTests f (sessionOf image)) _ (omega arith, (omega arith, (omega arith, (omega arith, (omega arith, (omega arith, tt)))))) d))
+      go (refused m) d v e q = absurd (omega (arith, unless-number (callTests f (sessionOf image)) _ (omega arith, (omega arith, (omega arith, (omega arith, (omega arith, (omega arith, (omega arith, tt))))))) d))
       go (done u) d (holds v) e q =
           let same : last ≡ u .last = l ∙ ap (λ (x : List ℕ). flatIn x .last) q ∙ ap (λ (f : Flat). f .last) (encode-shows u (v .valid) .shows) in
           λ i. record { answer = returnedNumber (Done (same i)); image = q i }

@@ -1,5 +1,5 @@
--- Each entry's answer is the first of its tests that applies. Here each sequence of tests rises, so that this is the lowest number that
--- applies.
+-- Each entry's answer is the first of its tests that applies. Here each sequence of tests rises, but for 40 (S-6), so that no test that
+-- applies precedes the answer: it has the lowest number of those that do, or is 40.
 -- Assumes nothing.
 use mathlib.Core.Path.{_≡_, refl, sym, ap, subst, _∙_}
 use Prim.Native.Nat.{ℕ, zero, suc}
@@ -9,7 +9,7 @@ use mathlib.Core.Option.{Option, some}
 use lib.Dec.{leb}
 use lib.ListN.{length}
 use Rattle.graph.specs.Refusals.{Answer, refused, done, andThen, unless}
-use Rattle.graph.specs.RefusalOrder.{numberOf, firstOf, risesFrom}
+use Rattle.graph.specs.RefusalOrder.{numberOf, firstOf, risesFrom, Foremost}
 use Rattle.graph.specs.KeyLists.{contains, areKeys}
 use Rattle.graph.specs.Nodes.{Result}
 use Rattle.graph.specs.Sessions.{Session, labelsOfResults, pending}
@@ -19,7 +19,7 @@ use Rattle.graph.specs.Acceptance.{accept, Claimed, takeResult}
 use Rattle.graph.specs.Counts.{resultOfLabel}
 use Rattle.graph.proofs.Answers.{Holds, holds}
 use Rattle.graph.proofs.Verdicts.{Says, step-number}
-use Rattle.graph.proofs.Sequences.{Lowest, first-lowest, calls-rise, steps-rise, accept-number, take-says, take-found}
+use Rattle.graph.proofs.Sequences.{first-foremost, calls-rise, steps-rise, accept-number, take-says, take-found}
 use Rattle.lines.specs.Forms.{work, drainForm, stepKeys, stepFormTests}
 use Rattle.text.specs.Text.{pasted}
 use Rattle.print.specs.Printed.{resultText}
@@ -97,6 +97,6 @@ sequence-rises (stepping drainForm t) s = refl
 sequence-rises (claiming l out) s = refl
 sequence-rises (listing out) s = refl
 
--- so that the answer is the lowest number of those that apply
-pub lowest-answers : (a : Asked) (image : List ℕ) (s : Session) → Lowest (refusalIn (answerTo a image s)) (testsOf a s)
-lowest-answers a image s = subst (λ (n : ℕ). Lowest n (testsOf a s)) (sym (first-answers a image s)) (first-lowest (numberBefore a) (testsOf a s) (sequence-rises a s))
+-- so that no test that applies precedes the answer
+pub foremost-answers : (a : Asked) (image : List ℕ) (s : Session) → Foremost (refusalIn (answerTo a image s)) (testsOf a s)
+foremost-answers a image s = subst (λ (n : ℕ). Foremost n (testsOf a s)) (sym (first-answers a image s)) (first-foremost (numberBefore a) (testsOf a s) (sequence-rises a s))

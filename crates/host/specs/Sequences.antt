@@ -1,5 +1,5 @@
 -- The refusals of each entry as a sequence of tests, of which the first that applies answers: document 01, "The lowest number that
--- applies is given". Before them stand 1, 2 and, where there is a line, 10 (Entries.antt, `Enters`).
+-- applies is given", with one exception, 40 (S-6). Before them stand 1, 2 and, where there is a line, 10 (Entries.antt, `Enters`).
 -- Assumes nothing.
 use Prim.Native.Nat.{ℕ}
 use mathlib.Core.Bool.{Bool, false, not}
@@ -38,7 +38,7 @@ isShort out (some r) = not (leb (length (resultText r)) (length out))
 abbrev pub listTests : Session → List ℕ → List Test
 listTests s out = on (not (leb (length (listingOf s)) (length out))) 33 ∷ []
 
--- calls 10 to 15; steps 11, 20, 21, 22, and drain none; claims 30 to 33; the listing 33
+-- calls 10, 11, 12, 40, 13, 14, 15; steps 11, 20, 21, 22, and drain none; claims 30 to 33; the listing 33
 abbrev pub testsOf : Asked → Session → List Test
 testsOf (calling f) s = callTests f s
 testsOf (stepping (work w) t) s = stepFormTests (work w) ++ stepTests w s

@@ -24,8 +24,7 @@ use Rattle.runs.proofs.OneResult.{call-meant}
 module _ (es : List Sent) (h : Runs opening es) (before later : List Call) (c : Call) (t : TextsOf (acceptedLines es) (before ++ (c ∷ later))) where
   few : length (targetsOf c) ≤ 8
   few =
-      let all : Each FewTargets (to es h .calls) = subst (λ (x : EventRun). Each FewTargets (x .accepted)) (to es h .moved) (few-targets (to es h .made)) in
-      each-right FewTargets before (c ∷ later) (subst (Each FewTargets) (texts-same refl (to es h .texts) t) all) .0
+      each-right FormFits before (c ∷ later) (accepted-fit es h (before ++ (c ∷ later)) t) .0 .few
 
 module _ (es : List Sent) (h : Runs opening es) (before later : List Call) (k : ℕ) (ts : List ℕ) where
   pub link-result : TextsOf (acceptedLines es) (before ++ (link k ts ∷ later)) → (r : Result) → ResultOf es (suc (length before)) r → LinkResult before ts r

@@ -1,6 +1,6 @@
 -- A call line of each kind is accepted as the call that it holds.
 -- Assumes nothing.
-use mathlib.Core.Path.{_≡_, refl, _∙_, ap, subst}
+use mathlib.Core.Path.{_≡_, refl, sym, _∙_, ap, subst}
 use Prim.Native.Nat.{ℕ, suc, _≤_, _<_}
 use native.Mathlib.Omega.{arith}
 use mathlib.Core.Bool.{Bool, true, false, cond, not, _&&_}
@@ -8,10 +8,13 @@ use mathlib.Core.List.{List, _∷_, _++_}
 use lib.Dec.{leb}
 use lib.ListN.{length}
 use borrow.Author.Tests.{leb-true}
-use Rattle.graph.specs.Calls.{Call, numbersOf, operandsOf, targetsOf, formTests}
+use Rattle.graph.specs.Calls.{Call, numbersOf, operandsOf, targetsOf, lacksInverse, formTests}
 use Rattle.graph.specs.Words.{areWords}
 use Rattle.graph.specs.KeyLists.{isKey, areKeys, rising}
-use Rattle.graph.specs.OneAtATime.{Labelled, labelled}
+use Rattle.graph.specs.declared.act.Act.the-variants.{Map}
+use Rattle.graph.specs.declared.affine.Affine.{Affine}
+use Rattle.graph.specs.Affine.{inverse}
+use Rattle.graph.specs.OneAtATime.{Labelled, operation, labelled}
 use Rattle.graph.specs.RefusalOrder.{firstOf}
 use Rattle.graph.specs.Acceptance.{accept}
 use Rattle.graph.proofs.Answers.{and-left, and-right}
@@ -19,6 +22,7 @@ use Rattle.records.proofs.Codecs.{Bytes}
 use Rattle.valid.specs.Inner.Decoded.{sessionOf}
 use Rattle.state.specs.Inner.State.{flatIn}
 use Rattle.lines.specs.declared.call.CallKind.{CallKind}
+use Rattle.lines.specs.declared.call.CallKind.the-variants.{Unmap}
 use Rattle.lines.specs.Inner.Answers.{callForm}
 use Rattle.state.specs.Inner.ValidImage.{ValidImage, Works, Serves}
 use Rattle.state.proofs.Serving.{Served, accept-served}
@@ -34,14 +38,18 @@ accepts f x before after r g l b q w =
 pub labelled-as : (k kind : CallKind) (x y : ℕ) (ts : List ℕ) → k ≡ kind → (l : ℕ) → labelled (callForm k x y ts) l ≡ labelled (callForm kind x y ts) l
 labelled-as k kind x y ts e l = ap (λ (j : CallKind). labelled (callForm j x y ts) l) e
 
+-- an unmap is the map that undoes
+pub unmap-as : (k : CallKind) (x y : ℕ) (ts : List ℕ) → k ≡ Unmap → (m : Affine) → m ≡ inverse (record { a = x; b = y }) → (l : ℕ) → labelled (callForm k x y ts) l ≡ operation (Map m) 0 ts l
+unmap-as k x y ts e m i l = labelled-as k Unmap x y ts e l ∙ ap (λ (f : Affine). operation (Map f) 0 ts l) (sym i)
+
 -- a good call's key is at most 64
 keys-good : (c : Call) → firstOf (formTests c) ≡ 0 → areKeys (operandsOf c ++ targetsOf c) ≡ true
-keys-good c e = go (not (areWords (numbersOf c ++ (operandsOf c ++ targetsOf c)))) (areKeys (operandsOf c ++ targetsOf c)) (not (leb (length (targetsOf c)) 8 && rising (targetsOf c))) e
+keys-good c e = go (not (areWords (numbersOf c ++ (operandsOf c ++ targetsOf c)))) (areKeys (operandsOf c ++ targetsOf c)) (not (leb (length (targetsOf c)) 8 && rising (targetsOf c))) (lacksInverse c) e
   where
-    go : (a b d : Bool) → _≡_ {A = ℕ} (cond a 10 (cond (not b) 11 (cond d 12 0))) 0 → b ≡ true
-    go true b d e = absurd (omega arith)
-    go false true d e = refl
-    go false false d e = absurd (omega arith)
+    go : (a b d i : Bool) → _≡_ {A = ℕ} (cond a 10 (cond (not b) 11 (cond d 12 (cond i 40 0)))) 0 → b ≡ true
+    go true b d i e = absurd (omega arith)
+    go false true d i e = refl
+    go false false d i e = absurd (omega arith)
 
 pub key-small : (c kind : CallKind) (x y : ℕ) (us : List ℕ) (k : ℕ) (ts : List ℕ) → c ≡ kind → firstOf (formTests (callForm c x y us)) ≡ 0 → operandsOf (callForm kind x y us) ++ targetsOf (callForm kind x y us) ≡ k ∷ ts → k < 256
 key-small c kind x y us k ts e g q =

@@ -1,11 +1,11 @@
--- Each arm accepts the call of its kind; a key fits in a byte.
+-- Each arm accepts the call of its kind, an unmap's the map that undoes; a key fits in a byte.
 -- Assumes nothing.
 use mathlib.Core.Path.{refl, sym}
 use mathlib.Core.Bool.{true≢false}
 use Rattle.graph.specs.Packed.{listed}
 use Rattle.lines.specs.Inner.Answers.{callForm}
 use Rattle.lines.specs.declared.call.CallKind.the-variants.{Add, Map, Link, Unlink, Sum, Top, Pick, Near}
-use Rattle.session.proofs.Accepting.{accepts, labelled-as, key-small}
+use Rattle.session.proofs.Accepting.{accepts, labelled-as, unmap-as, key-small}
 use borrow.Author.Needs.{needs}
 use Rattle.session.proofs.accepts.accept.Statement.{statement}
 use Rattle.session.proofs.accepts.accept.Tie as tie
@@ -73,6 +73,15 @@ cast-t32 c =
 accept-operation-requires-7 : tie.Need-accept-operation-requires-7
 accept-operation-requires-7 c κs = (c .before .before .before .before .pre .0, c .before .before .before .before .pre .1 .targets, λ e. absurd (true≢false (sym e)))
 
+enum-told-9 : tie.Need-enum-told-9
+enum-told-9 c = search needs
+
+inverse-requires : tie.Need-inverse-requires
+inverse-requires c κs = search needs
+
+accept-operation-requires-8 : tie.Need-accept-operation-requires-8
+accept-operation-requires-8 c κs = search needs
+
 same-length : tie.Need-same-length
 same-length c = search needs
 
@@ -137,6 +146,16 @@ returns-8 c =
     let a = c .before .before .before .before .before .before .before in
     accepts (callForm (a .args .kind) (a .args .x) (a .args .y) (listed (a .args .to))) _ (a .args .image .now) _ _ (a .pre .1 .form) (a .pre .0) (λ i. c .slice-known9 .given i .fits) (labelled-as (a .args .kind) Near (a .args .x) (a .args .y) (listed (a .args .to)) (c .before .before .before .before .enum-told8 .given .1) _) (c .before .before .accept-operation7 .ensures)
 
+same-length-9 : tie.Need-same-length-9
+same-length-9 c = search needs
+
+returns-9 : tie.Need-returns-9
+returns-9 c =
+    let a = c .before .before .before .before .before .before .before .before in
+    accepts (callForm (a .args .kind) (a .args .x) (a .args .y) (listed (a .args .to))) _ (a .args .image .now) _ _ (a .pre .1 .form) (a .pre .0) (λ i. c .slice-known10 .given i .fits)
+    (unmap-as (a .args .kind) (a .args .x) (a .args .y) (listed (a .args .to)) (c .before .before .before .before .before .enum-told9 .given .1) _ (c .before .before .before .inverse .ensures) _)
+    (c .before .before .accept-operation8 .ensures)
+
 pub accept-spec : {M : Type 1} → statement M
 accept-spec =
     tie.close
@@ -160,6 +179,9 @@ accept-spec =
     enum-told-8
     cast-t32
     accept-operation-requires-7
+    enum-told-9
+    inverse-requires
+    accept-operation-requires-8
     same-length
     returns
     same-length-2
@@ -175,4 +197,6 @@ accept-spec =
     same-length-7
     returns-7
     same-length-8
-    returns-8)
+    returns-8
+    same-length-9
+    returns-9)
