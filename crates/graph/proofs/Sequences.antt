@@ -72,6 +72,10 @@ first-foremost n (t ∷ ts) e = go (t .applies) refl (first-foremost (t .number)
 pub calls-rise : (c : Call) (s : Session) → risesFrom 2 (callTests c s) ≡ true
 calls-rise c s = refl
 
+-- none of a call's numbers is 0, which answers that it is accepted
+pub calls-positive : (c : Call) (s : Session) → Each (λ (t : Test). 1 ≤ t .number) (callTests c s)
+calls-positive c s = (omega arith, (omega arith, (omega arith, (omega arith, (omega arith, (omega arith, (omega arith, tt)))))))
+
 pub steps-rise : (t : Step) (s : Session) → risesFrom 11 (stepTests t s) ≡ true
 steps-rise admit s = refl
 steps-rise (realise k) s = refl

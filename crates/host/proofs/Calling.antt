@@ -30,6 +30,7 @@ use Rattle.state.specs.Inner.ValidImage.{imageAfter, Serves}
 use Rattle.state.proofs.Serving.{encode-shows}
 use Rattle.session.specs.Inner.Accepts.{Good}
 use Rattle.host.specs.Entries.{ImageOf, served, Called, callRefused, callServed, Calls}
+use Rattle.graph.proofs.Sequences.{calls-positive}
 use Rattle.host.proofs.Entering.{unless-refused, unless-number}
 use Rattle.host.proofs.Reading.{AnsweredBy, refused-by-tests, Passed, passed}
 
@@ -108,7 +109,7 @@ module _ (image after : List ℕ) (f : Call) (n : ℕ) (s : Serves (accept f (se
     where
       go : (x : Answer Session) → accept f (sessionOf image) ≡ x → Holds (Accepts f (sessionOf image)) x → n ≡ numberOf x → after ≡ imageAfter x image
           → record { answer = returnedNumber (Done last); image = after } ≡ callServed image x
-      go (refused m) d v e q = absurd (omega (arith, unless-number (callTests f (sessionOf image)) _ (omega arith, (omega arith, (omega arith, (omega arith, (omega arith, (omega arith, (omega arith, tt))))))) d))
+      go (refused m) d v e q = absurd (omega (arith, unless-number (callTests f (sessionOf image)) _ (calls-positive f (sessionOf image)) d))
       go (done u) d (holds v) e q =
           let same : last ≡ u .last = l ∙ ap (λ (x : List ℕ). flatIn x .last) q ∙ ap (λ (f : Flat). f .last) (encode-shows u (v .valid) .shows) in
           λ i. record { answer = returnedNumber (Done (same i)); image = q i }

@@ -8,5 +8,7 @@ pub mod SameEnd
 pub mod SameImage
 pub mod EveryRun
 pub mod OneResult
+pub mod AcceptedForms
 pub mod CallResults
+pub mod TakenBack
 pub mod StepsTaken

@@ -30,6 +30,7 @@ use Rattle.panel.specs.Tally.{counted}
 use Rattle.panel.proofs.TallyLaws.{counted-append}
 use Rattle.valid.specs.Values.{encode}
 use Rattle.host.specs.Entries.{Called, callRefused, callServed, Calls, Stepped, stepRefused, stepServed, stepMade, Steps, ClaimMade, claimRefused, claimWritten, claimServed, Claims}
+use Rattle.graph.proofs.Sequences.{calls-positive}
 use Rattle.host.proofs.Entering.{unless-done, unless-number}
 use Rattle.host.proofs.Stepping.{step-refused as refusal-number}
 use Rattle.runs.specs.Runs.{Sent, callSent, stepSent, claimSent, isServed, acceptedLines, labelsGiven, labelsFrom, TextsOf, aLine, Wrote, Took, one, several, TakenBy, afterCall, afterClaim, afterRefusal, afterStep, OneTally, lastTally}
@@ -131,7 +132,7 @@ module _ (x : EventRun) (v : Valid (x .now)) where
   call-line {line} h = entered s v (λ (r : Called). OneLine x (callSent line r)) (refuses (call-refused 10 (omega arith)) refl) (λ c i. form c i (accept c s) refl) h
     where
       form : (c : Call) → IsCall line c → (a : Answer Session) → accept c s ≡ a → OneLine x (callSent line (callServed (encode s) a))
-      form c i (refused n) e = refuses (call-refused n (unless-number (callTests c s) (accepted c s) (omega arith, (omega arith, (omega arith, (omega arith, (omega arith, (omega arith, tt)))))) e)) refl
+      form c i (refused n) e = refuses (call-refused n (unless-number (callTests c s) (accepted c s) (calls-positive c s) e)) refl
       form c i (done u) e =
           let next : u .last ≡ suc (s .last) = sym (ap (λ (y : Session). y .last) (unless-done (callTests c s) (accepted c s) e .0)) in
           record {
