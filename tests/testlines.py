@@ -8,7 +8,8 @@ import re
 WORD = r"(0|[1-9][0-9]*)"
 LIST = rf"((?:{WORD}(?:,{WORD})*)?)"
 CALLS = [("add", ["value"], False), ("map", ["a", "b"], True), ("link", ["key"], True), ("unlink", ["key"], True),
-         ("sum", ["start"], True), ("top", ["start"], True), ("pick", ["start"], True), ("near", ["key", "start"], True)]
+         ("sum", ["start"], True), ("top", ["start"], True), ("pick", ["start"], True), ("near", ["key", "start"], True),
+         ("unmap", ["a", "b"], True)]
 STEPS = [("admit", []), ("realise", ["at"]), ("move", ["at"]), ("finish", ["at"]), ("join", ["at", "unit"]),
          ("split", ["at", "unit", "after"]), ("swap", ["at", "unit"]), ("fuse", ["at", "unit"]), ("drain", [])]
 
@@ -40,6 +41,8 @@ def call(n, line):
             return refused(n, 11)
         if len(keys) > 8 or any(a >= b for a, b in zip(keys, keys[1:])):
             return refused(n, 12)
+        if name == "unmap" and values[0] % 2 == 0:
+            return refused(n, 40)
         x, y = (values + [0])[:2]
         return [f"label={n} value={x} left={to}", f"key={kind} value={y} links={to}"]
     return refused(n, 10)
@@ -80,7 +83,7 @@ def padded(front, length):
 
 
 GOOD = ["call=add value=5", "call=map a=3 b=4 to=1,2", "call=link key=2 to=1", "call=unlink key=2 to=1", "call=sum start=0 to=1,2",
-        "call=top start=0 to=1,2", "call=pick start=0 to=1", "call=near key=2 start=0 to=1,3",
+        "call=top start=0 to=1,2", "call=pick start=0 to=1", "call=near key=2 start=0 to=1,3", "call=unmap a=3 b=4 to=1",
         "step=admit", "step=realise at=2", "step=move at=2", "step=finish at=2", "step=join at=2 unit=1",
         "step=split at=2 unit=1 after=1", "step=swap at=2 unit=1", "step=fuse at=2 unit=1", "step=drain", "claim=4"]
 EDGES = ["", "call=add value=0", "call=add value=00", "call=add value=05", "call=add value=", "call=add value=4294967295",
@@ -92,10 +95,15 @@ EDGES = ["", "call=add value=0", "call=add value=00", "call=add value=05", "call
          "call=sum start=4 to=65,2,2", "call=sum start=4 to=65,x", "call=sum start=4 to=4294967296", "call=link key=64 to=1",
          "call=link key=65 to=1", "call=link key=0 to=1", "call=link key=65 to=1,", "call=near key=65 start=0 to=2,2",
          "call=map b=4 a=3 to=1", "call=map a=3 b=4294967296 to=1", "call=nearly key=2 start=0 to=1", "call=", "call",
+         "call=unmap a=1 b=0 to=", "call=unmap a=4294967295 b=4294967295 to=57,58,59,60,61,62,63,64", "call=unmap a=0 b=0 to=",
+         "call=unmap a=2 b=4 to=1", "call=unmap a=4294967294 b=4 to=1", "call=unmap a=2 b=4 to=65", "call=unmap a=2 b=4 to=2,2",
+         "call=unmap a=2 b=4 to=1,2,3,4,5,6,7,8,9", "call=unmap a=2 b=4 to=1,", "call=unmap a=2 b=4294967296 to=1", "call=unmap a=4294967297 b=4 to=1",
+         "call=unmap b=4 a=3 to=1", "call=unmap a=3 to=1", "call=unmapped a=3 b=4 to=1", "call=unma a=3 b=4 to=1", "call=unlink a=3 b=4 to=1", "call=unmap key=3 to=1",
          "step=realise at=64", "step=realise at=65", "step=realise at=0", "step=realise at=02", "step=join at=2 unit=0",
          "step=split at=2 unit=0 after=0", "step=split at=65 unit=1", "step=admit ", "step=drain at=1", "step=", "step=split at=2 unit=1 after=4294967296",
          "claim=0", "claim=65536", "claim=4294967295", "claim=4294967296", "claim=04", "claim=", "claim=4 ", " claim=4",
-         padded("call=sum start=4 to=", 255), padded("call=sum start=4 to=", 256), padded("call=sum start=4 to=", 254)]
+         padded("call=sum start=4 to=", 255), padded("call=sum start=4 to=", 256), padded("call=sum start=4 to=", 254),
+         padded("call=unmap a=2 b=4 to=", 255), padded("call=unmap a=2 b=4 to=", 256)]
 
 
 def main():

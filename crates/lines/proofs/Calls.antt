@@ -148,6 +148,16 @@ add-answer value h = sym (answered (add value) refl (h, tt))
 pub map-answer : (a b : ℕ) (ts : List ℕ) → a < modulus → b < modulus → Below ts → callMade Map a b ts ≡ callAnswer (map a b ts)
 map-answer a b ts ha hb h = sym (answered (map a b ts) refl (ha, (hb, h)))
 
+module _ (a b : ℕ) (to : Keys) where
+  abbrev unmapIf : Bool → CallLine
+  unmapIf odd = cond odd (record { answer = Is Unmap a b; to = to }) (refusedCall 40)
+
+  pub unmap-even : {r : CallLine} → isOdd a ≡ false → r ≡ refusedCall 40 → r ≡ unmapMade a b to
+  unmap-even e q = q ∙ sym (ap unmapIf e)
+
+  pub unmap-odd : isOdd a ≡ true → record { answer = Is Unmap a b; to = to } ≡ unmapMade a b to
+  unmap-odd e = sym (ap unmapIf e)
+
 -- an unmap is answered as the map that it undoes, but for 40
 abbrev unmapAnswer : CallAnswer → Keys → CallLine
 unmapAnswer (Refused n) to = refusedCall n

@@ -65,6 +65,7 @@ fn call_number(kind: CallKind) -> u32 {
         CallKind::Top => 5,
         CallKind::Pick => 6,
         CallKind::Near => 7,
+        CallKind::Unmap => 8,
     }
 }
 

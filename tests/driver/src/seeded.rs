@@ -114,7 +114,7 @@ fn written(scribe: &mut Scribe) -> Vec<u8> {
 fn spoil(random: &mut Random, frame: &mut Vec<u8>) {
     for _ in 0..=random.below(30) {
         let place = random.below(frame.len() as u64) as usize;
-        let byte = random.choose(b"\n\n0123456789,= \rackmst\0\xff");
+        let byte = random.choose(b"\n\n0123456789,= \rackmnpstu\0\xff");
         match random.below(3) {
             0 => frame[place] = byte,
             1 => frame.insert(place, byte),
@@ -192,7 +192,7 @@ fn random_bytes(random: &mut Random, most: u64) -> Vec<u8> {
 
 /// Words of the lines in any order.
 fn words(random: &mut Random) -> Vec<u8> {
-    const WORDS: [&str; 54] = [
+    const WORDS: [&str; 55] = [
         "call=",
         "call=",
         "step=",
@@ -205,6 +205,7 @@ fn words(random: &mut Random) -> Vec<u8> {
         "top",
         "pick",
         "near",
+        "unmap",
         "admit",
         "realise",
         "move",

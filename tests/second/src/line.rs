@@ -1,8 +1,8 @@
 //! Lines: where they stand in a frame, and what they say.
 //!
 //! Reading has two halves. The forms come first and give numbers only, so that a
-//! whole line is known to have its form (10) before a key (11) or a list (12) in it
-//! is judged.
+//! whole line is known to have its form (10) before a key (11), a list (12) or an
+//! unmap's a (40) in it is judged.
 
 use crate::refusal::Refusal;
 use crate::session::Act;
@@ -22,11 +22,12 @@ pub fn line_at(frame: &[u8], at: usize) -> &[u8] {
     &rest[..end.unwrap_or(rest.len())]
 }
 
-/// A call as its line says it.
+/// A call as its line says it. The a of an unmap is odd.
 #[derive(Clone, Debug, PartialEq, Eq)]
 pub enum Call {
     Add { value: u32 },
     Visit { act: Act, targets: Vec<u8> },
+    Unmap { a: u32, b: u32, targets: Vec<u8> },
 }
 
 /// A step line. A key is within 1 to 64; `unit` and `after` are as written.
@@ -43,7 +44,7 @@ pub enum Step {
     Drain,
 }
 
-/// Reads a call line: 10, then 11, then 12.
+/// Reads a call line: 10, then 11, then 12, then 40.
 pub fn read_call(line: &[u8]) -> Result<Call, Refusal> {
     match call_form(line).ok_or(Refusal::Form)? {
         CallForm::Add { value } => Ok(Call::Add { value }),
@@ -51,6 +52,13 @@ pub fn read_call(line: &[u8]) -> Result<Call, Refusal> {
             let act = verb.act()?;
             let targets = targets(&to)?;
             Ok(Call::Visit { act, targets })
+        }
+        CallForm::Unmap { a, b, to } => {
+            let targets = targets(&to)?;
+            if a % 2 == 0 {
+                return Err(Refusal::NoInverse);
+            }
+            Ok(Call::Unmap { a, b, targets })
         }
     }
 }
@@ -109,6 +117,7 @@ pub fn strictly_rising(keys: &[u8]) -> bool {
 enum CallForm {
     Add { value: u32 },
     Visit { verb: Verb, to: Vec<u32> },
+    Unmap { a: u32, b: u32, to: Vec<u32> },
 }
 
 enum Verb {
@@ -148,12 +157,26 @@ impl Verb {
 fn call_form(line: &[u8]) -> Option<CallForm> {
     let mut reader = Reader::new(line)?;
     reader.text("call=")?;
-    let word = reader.word();
-    if word == b"add" {
-        let value = reader.field(" value=")?;
-        return reader.end(CallForm::Add { value });
-    }
-    let verb = match word {
+    let form = match reader.word() {
+        b"add" => CallForm::Add {
+            value: reader.field(" value=")?,
+        },
+        b"unmap" => CallForm::Unmap {
+            a: reader.field(" a=")?,
+            b: reader.field(" b=")?,
+            to: reader.targets()?,
+        },
+        word => CallForm::Visit {
+            verb: verb(word, &mut reader)?,
+            to: reader.targets()?,
+        },
+    };
+    reader.end(form)
+}
+
+/// What a visiting call's word and the fields before its targets say.
+fn verb(word: &[u8], reader: &mut Reader) -> Option<Verb> {
+    Some(match word {
         b"map" => Verb::Map {
             a: reader.field(" a=")?,
             b: reader.field(" b=")?,
@@ -178,10 +201,7 @@ fn call_form(line: &[u8]) -> Option<CallForm> {
             start: reader.field(" start=")?,
         },
         _ => return None,
-    };
-    reader.text(" to=")?;
-    let to = reader.numbers()?;
-    reader.end(CallForm::Visit { verb, to })
+    })
 }
 
 /// A step line that came apart: `at`, then `unit`, then `after`, all any numbers.
@@ -283,6 +303,11 @@ impl<'a> Reader<'a> {
             numbers.push(self.number()?);
         }
         Some(numbers)
+    }
+
+    fn targets(&mut self) -> Option<Vec<u32>> {
+        self.text(" to=")?;
+        self.numbers()
     }
 
     /// The form, if the whole line was read.

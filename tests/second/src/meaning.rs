@@ -38,13 +38,50 @@ fn process(nodes: &mut Vec<Node>, call: &Call) -> Outcome {
             }
         }
         Call::Visit { act, targets } => {
-            let struck = |node: &&mut Node| targets.contains(&node.key);
-            let value = visit_all(act, nodes.iter_mut().filter(struck));
-            let unmet = |key: &&u8| nodes.iter().all(|node| node.key != **key);
-            let left = targets.iter().filter(unmet).copied().collect();
+            let value = visit_all(act, met(nodes, targets));
+            let left = left(nodes, targets);
             Outcome { value, left }
         }
+        Call::Unmap { a, b, targets } => {
+            for node in met(nodes, targets) {
+                node.value = former(*a, *b, node.value);
+            }
+            let left = left(nodes, targets);
+            Outcome { value: 0, left }
+        }
     }
+}
+
+/// The nodes that are targets, from front to back.
+fn met<'a>(nodes: &'a mut [Node], targets: &'a [u8]) -> impl Iterator<Item = &'a mut Node> {
+    let struck = |node: &&mut Node| targets.contains(&node.key);
+    nodes.iter_mut().filter(struck)
+}
+
+/// The targets that no node has.
+fn left(nodes: &[Node], targets: &[u8]) -> Vec<u8> {
+    let unmet = |key: &&u8| nodes.iter().all(|node| node.key != **key);
+    targets.iter().filter(unmet).copied().collect()
+}
+
+fn mapped(a: u32, b: u32, value: u32) -> u32 {
+    modulo(u64::from(a) * u64::from(value) + u64::from(b))
+}
+
+/// The value that the map, whose a is odd, brings to this one: no inverse is needed here.
+///
+/// It is found from its lowest bit up. A bit that is set turns over the same bit of what
+/// it is mapped to, since a is odd, and no bit below.
+fn former(a: u32, b: u32, value: u32) -> u32 {
+    let bits = (0..32).map(|place| 1 << place);
+    bits.fold(0, |found, bit| {
+        let differs = (mapped(a, b, found) ^ value) & bit != 0;
+        if differs {
+            found | bit
+        } else {
+            found
+        }
+    })
 }
 
 /// Visits the targets from front to back, and gives the result.
@@ -52,7 +89,7 @@ fn visit_all<'a>(act: &Act, targets: impl Iterator<Item = &'a mut Node>) -> u32 
     match *act {
         Act::Map { a, b } => {
             for node in targets {
-                node.value = modulo(u64::from(a) * u64::from(node.value) + u64::from(b));
+                node.value = mapped(a, b, node.value);
             }
             0
         }

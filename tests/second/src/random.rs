@@ -60,6 +60,10 @@ pub struct Scribe {
     unlinks: u64,
     /// One other visiting call in so many sets a height or asks for a top.
     heights: u64,
+    /// One other visiting call in so many is a map or its unmap, mostly with the other next.
+    unmaps: u64,
+    /// The call to be sent next: the second of a map and its unmap.
+    next: Option<String>,
 }
 
 impl Scribe {
@@ -72,6 +76,8 @@ impl Scribe {
             links: random.choose(&[2, 3, 20, 100]),
             unlinks: random.choose(&[2, 4, 40]),
             heights: random.choose(&[2, 4, 20]),
+            unmaps: random.choose(&[2, 3, 12]),
+            next: None,
             random,
         }
     }
@@ -98,6 +104,9 @@ impl Scribe {
 
     /// A call line of a good form.
     pub fn call_line(&mut self, session: &Session) -> String {
+        if let Some(next) = self.next.take() {
+            return next;
+        }
         let random = &mut self.random;
         let adds = match session.stations.len() {
             0..=2 => 3,
@@ -121,9 +130,15 @@ impl Scribe {
         if random.once_in(self.heights) {
             return height_line(random, last);
         }
+        if random.once_in(self.unmaps) {
+            let [first, second] = map_and_unmap(random, session);
+            self.next = (!random.once_in(4)).then_some(second);
+            return first;
+        }
         if let Some(last) = last.filter(|_| random.once_in(3)) {
+            let word = random.choose(&["map", "map", "unmap"]);
             let (a, b, to) = (value(random), value(random), text(&last.targets));
-            return format!("call=map a={a} b={b} to={to}");
+            return format!("call={word} a={a} b={b} to={to}");
         }
         visiting_line(random, session)
     }
@@ -189,18 +204,29 @@ impl Scribe {
 /// Any call that visits nodes.
 fn visiting_line(random: &mut Random, session: &Session) -> String {
     let to = target_text(random, session);
-    match random.below(8) {
+    match random.below(9) {
         0 | 1 => format!("call=map a={} b={} to={to}", value(random), value(random)),
-        2 => format!("call=link key={} to={to}", link_key(random, session)),
-        3 => format!("call=unlink key={} to={to}", link_key(random, session)),
-        4 => format!("call=sum start={} to={to}", value(random)),
-        5 => format!("call=top start={} to={to}", value(random)),
-        6 => format!("call=pick start={} to={to}", value(random)),
+        2 => format!("call=unmap a={} b={} to={to}", value(random), value(random)),
+        3 => format!("call=link key={} to={to}", link_key(random, session)),
+        4 => format!("call=unlink key={} to={to}", link_key(random, session)),
+        5 => format!("call=sum start={} to={to}", value(random)),
+        6 => format!("call=top start={} to={to}", value(random)),
+        7 => format!("call=pick start={} to={to}", value(random)),
         _ => {
             let key = link_key(random, session);
             format!("call=near key={key} start={} to={to}", value(random))
         }
     }
+}
+
+/// A map and its unmap, in either order.
+fn map_and_unmap(random: &mut Random, session: &Session) -> [String; 2] {
+    let (a, b, to) = (factor(random), value(random), few_targets(random, session));
+    let mut pair = ["map", "unmap"].map(|word| format!("call={word} a={a} b={b} to={to}"));
+    if random.once_in(2) {
+        pair.reverse();
+    }
+    pair
 }
 
 /// The call that was accepted last, if it stands where the next joins it.
@@ -289,6 +315,20 @@ fn value(random: &mut Random) -> u32 {
     }
 }
 
+/// The a of a map and its unmap: mostly odd, so that it has an inverse.
+fn factor(random: &mut Random) -> u32 {
+    let a = if random.once_in(2) {
+        random.bits() as u32
+    } else {
+        value(random)
+    };
+    if random.once_in(5) {
+        a & !1
+    } else {
+        a | 1
+    }
+}
+
 /// A number to be compared with this one: the same or a neighbour, here or half the way
 /// round, where a difference of the two has the wrong sign.
 fn neighbour(random: &mut Random, value: u32) -> u32 {
@@ -354,6 +394,18 @@ fn target_text(random: &mut Random, session: &Session) -> String {
         keys.dedup();
     }
     text(&keys)
+}
+
+/// Mostly a few nodes, whose values an unmap then restores; else any, or eight and nine, or
+/// such that an unmap of an even a has two refusals.
+fn few_targets(random: &mut Random, session: &Session) -> String {
+    let lists: &[&str] = match random.below(10) {
+        0 => return target_text(random, session),
+        1 => &["1,2,3,4,5,6,7,8", "1,2,3,4,5,6,7,8,9"],
+        2 => &["0,1", "1,65", "2,1", "2,2", "2,2,65"],
+        _ => &["1", "2", "1,2", "1,2", "1,2,3", "1,2,64"],
+    };
+    String::from(random.choose(lists))
 }
 
 fn text<T: ToString>(keys: &[T]) -> String {

@@ -33,6 +33,8 @@ pub enum Refusal {
     Claimed = 32,
     /// The output is too short.
     NoRoom = 33,
+    /// An unmap of an even a, which no map undoes.
+    NoInverse = 40,
 }
 
 impl Refusal {

@@ -178,16 +178,48 @@ impl Station {
     }
 }
 
+impl Act {
+    /// The map that undoes the one of an odd a and this b: b goes, then a is divided out.
+    fn undoing(a: u32, b: u32) -> Act {
+        let inverse = inverse(a);
+        Act::Map {
+            a: inverse,
+            b: inverse.wrapping_mul(b).wrapping_neg(),
+        }
+    }
+}
+
+/// The inverse of an odd number modulo 4,294,967,296, by the extended Euclidean algorithm.
+///
+/// Each remainder is congruent to its coefficient times `odd`. The last is the greatest
+/// common divisor of `odd` and the modulus, 1.
+fn inverse(odd: u32) -> u32 {
+    let (mut before, mut remainder) = (1_i64 << 32, i64::from(odd));
+    let (mut coefficient_before, mut coefficient) = (0, 1);
+    while remainder > 1 {
+        let quotient = before / remainder;
+        (before, remainder) = (remainder, before % remainder);
+        let next = coefficient_before - quotient * coefficient;
+        (coefficient_before, coefficient) = (coefficient, next);
+    }
+    coefficient as u32 // the cast takes it modulo 4,294,967,296, below zero too
+}
+
 impl Waiting {
     fn new(call: Call, label: u16) -> Waiting {
         match call {
             Call::Add { value } => Waiting::Add { label, value },
-            Call::Visit { act, targets } => Waiting::Visit(Operation {
-                act,
-                targets,
-                labels: vec![label],
-            }),
+            Call::Visit { act, targets } => Waiting::visit(act, targets, label),
+            Call::Unmap { a, b, targets } => Waiting::visit(Act::undoing(a, b), targets, label),
         }
+    }
+
+    fn visit(act: Act, targets: Vec<u8>, label: u16) -> Waiting {
+        Waiting::Visit(Operation {
+            act,
+            targets,
+            labels: vec![label],
+        })
     }
 
     fn operation(&self) -> Option<&Operation> {

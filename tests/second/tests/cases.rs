@@ -2,7 +2,8 @@
 
 mod common;
 
-use common::{calls, Desk};
+use common::{calls, mapped, Desk, UNDOING};
+use second::random::Random;
 use second::{meaning, Act, Operation};
 
 /// Drains the calls, and sees that one-at-a-time processing gives the same.
@@ -361,6 +362,178 @@ fn sum_pick_and_near_have_no_sign() {
     assert_eq!(results, [2_147_483_647, 4_294_967_295, 2_147_483_647]);
 }
 
+/// The numbers of the map that a line submits.
+fn submitted(line: &str) -> (u32, u32) {
+    let desk = Desk::after(&[line]);
+    let mut operations = desk.session.operations();
+    match operations.next().expect("an accepted call").act {
+        Act::Map { a, b } => (a, b),
+        ref act => panic!("{line}: {act:?}"),
+    }
+}
+
+#[test]
+fn an_unmap_submits_the_map_that_undoes() {
+    let undoing = (2_863_311_531, 1_431_655_764);
+    assert_eq!(submitted("call=unmap a=3 b=4 to=1"), undoing);
+    assert_eq!(
+        submitted("call=unmap a=2863311531 b=1431655764 to=1"),
+        (3, 4)
+    );
+    assert_eq!(submitted("call=unmap a=1 b=0 to="), (1, 0));
+    assert_eq!(submitted("call=unmap a=1 b=4 to="), (1, 4_294_967_292));
+    assert_eq!(submitted("call=unmap a=4294967295 b=4 to="), (u32::MAX, 4));
+    let half = 2_147_483_648;
+    assert_eq!(
+        submitted("call=unmap a=2147483649 b=1 to="),
+        (half + 1, half - 1)
+    );
+    assert_eq!(
+        submitted("call=unmap a=2147483647 b=1 to="),
+        (half - 1, half + 1)
+    );
+}
+
+const ENDS: [u32; 5] = [1, 3, 2_147_483_647, 2_147_483_649, 4_294_967_295];
+
+/// Odd numbers: the ends, all small ones, those beside powers of two, and many others.
+fn odd_numbers() -> Vec<u32> {
+    let mut random = Random::new(11);
+    let small = (0..500).map(|half| 2 * half + 1);
+    let beside = (1..32).flat_map(|place| [(1 << place) - 1, (1 << place) + 1]);
+    let below_zero = (0..100).map(|half| u32::MAX - 2 * half);
+    let any = (0..2000).map(|_| random.bits() as u32 | 1);
+    let ends = ENDS.into_iter();
+    ends.chain(small)
+        .chain(beside)
+        .chain(below_zero)
+        .chain(any)
+        .collect()
+}
+
+/// The map that two make, the first followed by the second.
+fn composed((a, b): (u32, u32), second: (u32, u32)) -> (u32, u32) {
+    (second.0.wrapping_mul(a), mapped(second, b))
+}
+
+#[test]
+fn unmaps_undo_from_both_sides() {
+    for a in odd_numbers() {
+        for b in [0, 1, 4, 65_536, 2_147_483_648, 4_294_967_295, a] {
+            let unmap = submitted(&format!("call=unmap a={a} b={b} to=1,2"));
+            assert_eq!(composed((a, b), unmap), (1, 0), "{a}, {b}");
+            assert_eq!(composed(unmap, (a, b)), (1, 0), "{a}, {b}");
+            assert_eq!(unmap, UNDOING(a, b));
+        }
+    }
+}
+
+/// One-at-a-time processing looks for the former value, and so needs no inverse.
+#[test]
+fn a_map_and_its_unmap_restore_in_either_order() {
+    let mut random = Random::new(12);
+    for a in odd_numbers() {
+        let [b, first, second] = [(); 3].map(|()| random.bits() as u32);
+        let adds = [first, second].map(|value| format!("call=add value={value}"));
+        let map = format!("call=map a={a} b={b} to=1,2,9");
+        let unmap = format!("call=unmap a={a} b={b} to=1,2,9");
+        for pair in [[&map, &unmap], [&unmap, &map]] {
+            let lines = [&adds[0], &adds[1], pair[0], pair[1]].map(String::as_str);
+            let desk = drained(&lines);
+            let values = (desk.node(1).value, desk.node(2).value);
+            assert_eq!(values, (first, second), "{a}, {b}");
+            assert_eq!(desk.result(3), (0, &[9][..]));
+            assert_eq!(desk.result(4), (0, &[9][..]));
+        }
+    }
+}
+
+/// Each of them acts by itself: what stands between them meets the value in between.
+#[test]
+fn an_unmap_acts_where_it_stands() {
+    let sum = "call=sum start=0 to=1";
+    let (map, unmap) = ("call=map a=3 b=4 to=1", "call=unmap a=3 b=4 to=1");
+    let desk = drained(&["call=add value=5", sum, map, sum, unmap, sum, unmap, sum]);
+    let sums = [2, 4, 6, 8].map(|label| desk.result(label).0);
+    assert_eq!(sums, [5, 19, 5, 2_863_311_531]); // three times the last, and 4, is 5
+    let other = "call=map a=5 b=1 to=1";
+    let between = drained(&["call=add value=5", map, other, unmap]);
+    assert_eq!(between.node(1).value, 1_431_655_796); // three times it, and 4, is 96
+    let back = "call=unmap a=5 b=1 to=1";
+    let nested = drained(&["call=add value=5", map, other, back, unmap]);
+    assert_eq!(nested.node(1).value, 5);
+}
+
+/// Node 2 comes between the map and its unmap; node 3 is a target of the unmap only.
+#[test]
+fn an_unmap_restores_what_was_mapped() {
+    let desk = drained(&[
+        "call=add value=5",
+        "call=map a=3 b=4 to=1,2",
+        "call=add value=19",
+        "call=add value=34",
+        "call=unmap a=3 b=4 to=1,2,3",
+    ]);
+    let values = [1, 2, 3].map(|key| desk.node(key).value);
+    assert_eq!(values, [5, 5, 10]);
+    assert_eq!(desk.result(2), (0, &[2][..]));
+    assert_eq!(desk.result(5), (0, &[][..]));
+}
+
+#[test]
+fn an_unmap_that_meets_no_node_is_left_its_targets() {
+    let unmap = "call=unmap a=3 b=4 to=1,64";
+    assert_eq!(drained(&[unmap]).result(1), (0, &[1, 64][..]));
+    assert_eq!(drained(&["call=unmap a=3 b=4 to="]).result(1), (0, &[][..]));
+    let mut desk = Desk::after(&["call=add value=19", unmap, "step=admit", "step=admit"]);
+    desk.all(&["step=realise at=1"]);
+    assert_eq!(desk.node(1).value, 5);
+    desk.refuses(31, "claim=2");
+    desk.all(&["step=finish at=1"]);
+    assert_eq!(desk.result(2), (0, &[64][..]));
+}
+
+/// Fused, they are the identity for both labels. It goes on as any other map does.
+#[test]
+fn a_map_and_its_unmap_fuse_to_the_identity() {
+    for a in ENDS {
+        let map = format!("call=map a={a} b=4294967290 to=1,9");
+        let unmap = format!("call=unmap a={a} b=4294967290 to=1,9");
+        for pair in [[&map, &unmap], [&unmap, &map]] {
+            let mut desk = Desk::after(&["call=add value=5", pair[0], pair[1]]);
+            desk.all(&["step=admit"; 3]);
+            desk.all(&["step=fuse at=1 unit=1"]);
+            let fused = head_operation(&desk);
+            assert_eq!(fused.act, Act::Map { a: 1, b: 0 });
+            assert_eq!(
+                (&fused.targets[..], &fused.labels[..]),
+                (&[1, 9][..], &[2, 3][..])
+            );
+            desk.refuses(22, "step=finish at=1");
+            desk.all(&["step=realise at=1", "step=finish at=1"]);
+            assert_eq!(desk.node(1).value, 5);
+            assert_eq!(desk.result(2), (0, &[9][..]));
+            assert_eq!(desk.result(3), (0, &[9][..]));
+        }
+    }
+}
+
+/// They fuse as maps do: with equal targets, up to four labels.
+#[test]
+fn unmaps_fuse_up_to_four_labels() {
+    let (map, unmap) = ("call=map a=3 b=4 to=1", "call=unmap a=3 b=4 to=1");
+    let mut desk = Desk::after(&["call=add value=5", unmap, unmap, map, map, unmap]);
+    desk.all(&["call=unmap a=3 b=4 to=1,2"]);
+    desk.all(&["step=admit"; 7]);
+    desk.refuses(22, "step=fuse at=1 unit=5");
+    desk.all(&["step=fuse at=1 unit=1"; 3]);
+    assert_eq!(head_operation(&desk).act, Act::Map { a: 1, b: 0 });
+    assert_eq!(head_operation(&desk).labels, [2, 3, 4, 5]);
+    desk.refuses(22, "step=fuse at=1 unit=1");
+    desk.all(&["step=drain"]);
+    assert_eq!(desk.result(7), (0, &[2][..]));
+}
+
 #[test]
 fn p_no_nodes_leave_a_map_its_target_at_admit() {
     let mut desk = Desk::after(&["call=map a=3 b=4 to=1"]);
@@ -438,20 +611,37 @@ fn labels_4_and_5_in_a_fuse() {
 
 #[test]
 fn lines_of_255_and_256_bytes() {
-    let long = |length: usize| {
-        let mut line = String::from("call=sum start=0 to=1");
+    let long = |start: &str, length: usize| {
+        let mut line = String::from(start);
         while line.len() + 2 <= length {
             line.push_str(",1");
         }
         if line.len() < length {
             line.push('1');
         }
+        assert_eq!(line.len(), length);
         line
     };
-    assert_eq!((long(255).len(), long(256).len()), (255, 256));
     let mut desk = Desk::new();
-    desk.refuses(12, &long(255));
-    desk.refuses(10, &long(256));
+    for (start, number) in [
+        ("call=sum start=0 to=1", 12),
+        ("call=unmap a=3 b=4 to=1", 12),
+        ("call=unmap a=2 b=4 to=1", 12),
+        ("call=unmap a=3 b=4 to=65", 11),
+        ("call=unmap a=2 b=4 to=65", 11),
+        ("call=unmap a=4294967295 b=4294967295 to=64", 12),
+    ] {
+        desk.refuses(number, &long(start, 255));
+        desk.refuses(10, &long(start, 256));
+    }
+}
+
+/// No call that is served has a longer line.
+#[test]
+fn the_longest_unmap() {
+    let line = "call=unmap a=4294967295 b=4294967295 to=57,58,59,60,61,62,63,64";
+    assert_eq!(line.len(), 63);
+    assert_eq!(Desk::new().line(line), 1);
 }
 
 #[test]

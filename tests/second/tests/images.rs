@@ -4,7 +4,7 @@ mod common;
 
 use std::collections::VecDeque;
 
-use common::{top_by, Desk, SIGNED, WRONG_ORDERS};
+use common::{top_by, Desk, SIGNED, UNDOING, WRONG_ORDERS};
 use second::random::{session, Scribe};
 use second::samples::{broken, crowd, rich, sum};
 use second::{host, image, session_of, valid, IMAGE_BYTES};
@@ -463,6 +463,49 @@ fn tops_without_a_history() {
     for (told, (name, _)) in told.iter().zip(WRONG_ORDERS) {
         assert!(*told > 4, "{name}: {told}");
     }
+}
+
+/// An unmap has no kind of its own: its image is that of the map that it submits.
+#[test]
+fn an_unmap_stands_as_a_map() {
+    let mut desk = Desk::after(&["call=add value=5", "step=drain"]);
+    desk.all(&["call=unmap a=3 b=4 to=1"]);
+    let mut record = [0; 32];
+    record[..12].copy_from_slice(&[65, 1, 1, 0, 0xAB, 0xAA, 0xAA, 0xAA, 0x54, 0x55, 0x55, 0x55]);
+    record[12..14].copy_from_slice(&[1, 1]);
+    record[21..23].copy_from_slice(&[1, 2]);
+    assert_eq!(image(&desk.session)[OPERATION..][..32], record);
+}
+
+/// In any session an unmap is answered as the map that it submits is, and leaves the same;
+/// but an even a is refused, whatever is full.
+#[test]
+fn unmaps_without_a_history() {
+    let mut scribe = Scribe::new(11);
+    let (mut served, mut full, mut spent) = (0, 0, 0);
+    for _ in 0..3000 {
+        let session = session::any(&mut scribe.random);
+        let a = scribe.random.bits() as u32 | 1;
+        let b = scribe.random.bits() as u32;
+        let before = image(&session);
+        let (mut unmap, mut map, mut even) = (before, before, before);
+        let line = format!("call=unmap a={a} b={b} to=1,2,64");
+        let answer = host::call(&mut unmap, line.as_bytes(), 0);
+        let (inverse, back) = UNDOING(a, b);
+        let line = format!("call=map a={inverse} b={back} to=1,2,64");
+        assert_eq!(host::call(&mut map, line.as_bytes(), 0), answer);
+        assert_eq!(unmap, map);
+        let line = format!("call=unmap a={} b={b} to=1,2,64", a - 1);
+        assert_eq!(host::call(&mut even, line.as_bytes(), 0), -40);
+        assert_eq!(even, before);
+        served += u32::from(answer > 0);
+        full += u32::from(answer == -14);
+        spent += u32::from(answer == -15);
+    }
+    assert!(
+        served > 1000 && full > 100 && spent > 100,
+        "{served}, {full}, {spent}"
+    );
 }
 
 /// A waiting map of several labels finishes for all of them.

@@ -105,6 +105,28 @@ fn a_top_below_zero_is_printed() {
     assert_eq!(transcript(script.as_bytes()), output.as_bytes());
 }
 
+#[test]
+fn an_unmap_is_printed_as_a_map() {
+    let script = "call=add value=5\n\
+                  call=unmap a=3 b=4 to=1\n\
+                  call=unmap a=2 b=4 to=1\n\
+                  step=drain\n\
+                  claim=2\n\
+                  call=map a=3 b=4 to=1,9\n\
+                  call=unmap a=3 b=4 to=1,9\n\
+                  call=map a=3 b=4 to=1\n\
+                  step=drain\n";
+    let output = "line=3 refused=40\n\
+                  label=2 value=0 left=\n\
+                  nodes=1 results=4 pending=0\n\
+                  key=1 value=5 links=\n\
+                  label=1 value=1 left=\n\
+                  label=3 value=0 left=9\n\
+                  label=4 value=0 left=9\n\
+                  label=5 value=0 left=\n";
+    assert_eq!(transcript(script.as_bytes()), output.as_bytes());
+}
+
 /// Counts the bytes that were written and not flushed yet.
 struct Held(usize);
 

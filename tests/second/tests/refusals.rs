@@ -65,6 +65,27 @@ fn lines_10_of_calls() {
         "call=map a=3 b=4 to=01",
         "call=map a=3 b=4 to= ",
         "call=map a=3 b=4 to=1 to=2",
+        "call=unmap",
+        "call=unmap a=3 b=4",
+        "call=unmap a=3 b=4 to",
+        "call=unmap b=4 a=3 to=1",
+        "call=unmap a=3 to=1",
+        "call=unmap b=4 to=1",
+        "call=unmap key=2 to=1",
+        "call=unmap a=3 b=4 to=1 ",
+        "call=unmap a=3 b=4 to=1\r",
+        "call=unmap a=3  b=4 to=1",
+        "call=unmap a=03 b=4 to=1",
+        "call=unmap a=-3 b=4 to=1",
+        "call=unmap a= b=4 to=1",
+        "call=unmap a=4294967296 b=4 to=1",
+        "call=unmap a=4294967297 b=4 to=1",
+        "call=unmap a=3 b=4294967296 to=1",
+        "call=unmap a=3 b=4 key=2 to=1",
+        "call=unmaps a=3 b=4 to=1",
+        "call=Unmap a=3 b=4 to=1",
+        "call=un map a=3 b=4 to=1",
+        "call=unlink a=3 b=4 to=1",
         "call=link to=1",
         "call=link key=2",
         "call=link key= to=1",
@@ -166,6 +187,78 @@ fn calls_13_14_15() {
     desk.refuses(14, "call=sum start=0 to=");
 }
 
+/// An a that no map undoes, and one that some map does.
+const EVEN_AND_ODD: [(u32, u32); 5] = [
+    (0, 1),
+    (2, 3),
+    (2_147_483_648, 2_147_483_649),
+    (4_294_967_294, 4_294_967_295),
+    (2_147_483_646, 2_147_483_647),
+];
+
+#[test]
+fn unmaps_40() {
+    let mut desk = busy();
+    for (even, odd) in EVEN_AND_ODD {
+        for to in ["", "1", "1,2", "64", "1,2,3,4,5,6,7,8"] {
+            for b in [0, 1, 4, u32::MAX] {
+                desk.refuses(40, &format!("call=unmap a={even} b={b} to={to}"));
+                let served = format!("call=unmap a={odd} b={b} to={to}");
+                assert_eq!(desk.clone().line(&served), 8);
+                let map = format!("call=map a={even} b={b} to={to}");
+                assert_eq!(desk.clone().line(&map), 8); // a map need have no inverse
+            }
+        }
+    }
+}
+
+#[test]
+fn unmaps_10_11_and_12_before_40() {
+    let mut desk = busy();
+    for (even, odd) in EVEN_AND_ODD {
+        for a in [even, odd] {
+            desk.refuses(10, &format!("call=unmap a={a} b=4 to=1,"));
+            desk.refuses(10, &format!("call=unmap a={a} b=04 to=1"));
+            desk.refuses(10, &format!("call=unmap a={a} b=4 to=2,2,65 "));
+            for to in ["0", "65", "2,2,65", "1,2,3,4,5,6,7,8,65", "4294967295"] {
+                desk.refuses(11, &format!("call=unmap a={a} b=4 to={to}"));
+            }
+            for to in ["2,2", "2,1", "1,2,3,4,5,6,7,8,9", "1,64,63"] {
+                desk.refuses(12, &format!("call=unmap a={a} b=4 to={to}"));
+            }
+        }
+    }
+}
+
+#[test]
+fn unmaps_40_before_14_and_15() {
+    let (even, odd) = ("call=unmap a=2 b=4 to=1", "call=unmap a=3 b=4 to=1");
+    let mut desk = Desk::after(&["call=add value=1"; 64]);
+    desk.refuses(40, even);
+    desk.refuses(14, odd);
+    desk.refuses(12, "call=unmap a=2 b=4 to=2,1");
+    desk.all(&["step=drain"]);
+    desk.refuses(40, even);
+    desk.refuses(14, odd);
+    desk.session.last = 65_535; // 14 and 15
+    desk.refuses(40, even);
+    desk.refuses(14, odd);
+    desk.all(&["claim=1"]);
+    desk.refuses(40, even);
+    desk.refuses(15, odd);
+    desk.refuses(11, "call=unmap a=2 b=4 to=65");
+}
+
+/// 13 is about adds only, and 40 about unmaps.
+#[test]
+fn an_unmap_after_64_adds() {
+    let mut desk = Desk::after(&["call=add value=1"; 64]);
+    desk.all(&["step=drain", "claim=1"]);
+    desk.refuses(13, "call=add value=1");
+    desk.refuses(40, "call=unmap a=2 b=4 to=1");
+    assert_eq!(desk.line("call=unmap a=3 b=4 to=1"), 65);
+}
+
 #[test]
 fn steps_20_21_22() {
     let mut desk = busy();
@@ -203,8 +296,9 @@ fn steps_20_21_22() {
 }
 
 /// Each call but add, without its targets, and whether it folds.
-const CALLS: [(&str, bool); 7] = [
+const CALLS: [(&str, bool); 8] = [
     ("map a=1 b=0", false),
+    ("unmap a=3 b=4", false),
     ("link key=1", false),
     ("unlink key=1", false),
     ("sum start=0", true),
@@ -257,7 +351,7 @@ fn swap_and_fuse_are_allowed_exactly() {
                     let swaps = !shared || (first_folds && second_folds);
                     let answer = desk.line("step=swap at=1 unit=1");
                     assert_eq!(answer, if swaps { 0 } else { -22 });
-                    let maps = first.starts_with("map") && second.starts_with("map");
+                    let maps = [first, second].iter().all(|call| call.contains("map"));
                     let answer = fuse.line("step=fuse at=1 unit=1");
                     assert_eq!(answer, if maps && t1 == t2 { 0 } else { -22 });
                 }
@@ -376,4 +470,17 @@ fn hosts_1_and_2() {
     assert_eq!(host::list(&image, &mut out), -33);
     assert_eq!(host::open(&mut image), 0);
     assert_eq!(image, second::image(&Session::open()));
+}
+
+#[test]
+fn hosts_1_and_2_before_40() {
+    let mut bytes = image(&busy().session);
+    let before = bytes;
+    let frame = b"call=unmap a=2 b=4 to=1";
+    assert_eq!(host::call(&mut bytes[1..], frame, 0), -1);
+    bytes[0] = 4;
+    assert_eq!(host::call(&mut bytes, frame, 0), -2);
+    bytes[0] = 3;
+    assert_eq!(host::call(&mut bytes, frame, 0), -40);
+    assert_eq!(bytes, before);
 }

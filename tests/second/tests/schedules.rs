@@ -2,7 +2,9 @@
 
 mod common;
 
-use common::{top_by, Desk, SIGNED, WRONG_ORDERS};
+use std::collections::BTreeSet;
+
+use common::{mapped, top_by, Desk, Undoing, SIGNED, UNDOING, WRONG_ORDERS, WRONG_UNDOINGS};
 use second::random::Scribe;
 use second::{meaning, read_call, Act, Call, Node, Operation, Outcome, Session, Tally};
 
@@ -42,9 +44,22 @@ impl Run {
         answer
     }
 
+    fn call(&self, label: u16) -> &Call {
+        &self.accepted[usize::from(label) - 1]
+    }
+
+    /// The operations that are a map and its unmap fused, in either order.
+    fn fused_pairs(&self) -> impl Iterator<Item = &Operation> {
+        let operations = self.desk.session.operations();
+        operations.filter(|operation| match operation.labels[..] {
+            [first, second] => is_pair(self.call(first), self.call(second)),
+            _ => false,
+        })
+    }
+
     /// Whether an operation of one label holds something else than its call did.
     fn holds_another(&self, operation: &Operation) -> bool {
-        let call = &self.accepted[usize::from(operation.labels[0]) - 1];
+        let call = self.call(operation.labels[0]);
         matches!(call, Call::Visit { act, .. } if *act != operation.act)
     }
 
@@ -190,7 +205,7 @@ fn refusals_change_nothing() {
 /// The generator reaches every refusal, so that comparing by it compares them all.
 #[test]
 fn random_lines_meet_every_refusal() {
-    let mut met = std::collections::BTreeSet::new();
+    let mut met = BTreeSet::new();
     for seed in 0..40 {
         let mut scribe = Scribe::new(seed);
         let mut desk = Desk::new();
@@ -199,8 +214,43 @@ fn random_lines_meet_every_refusal() {
             met.insert(-desk.serve(&line).min(0));
         }
     }
-    let all = [0, 10, 11, 12, 13, 14, 20, 21, 22, 30, 31, 32];
+    let all = [0, 10, 11, 12, 13, 14, 20, 21, 22, 30, 31, 32, 40];
     assert_eq!(met.into_iter().collect::<Vec<i64>>(), all);
+}
+
+/// An unmap's line with its targets left out.
+fn without_targets(line: &[u8]) -> Option<String> {
+    let line = std::str::from_utf8(line).ok()?;
+    let (numbers, _) = line.strip_prefix("call=unmap")?.split_once(" to=")?;
+    Some(format!("call=unmap{numbers} to="))
+}
+
+/// The generator has unmaps with an even a and another refusal beside, so that comparing by
+/// it compares their order.
+#[test]
+fn random_lines_tell_the_order_of_40() {
+    let (mut keys, mut lists, mut live) = (0, 0, 0);
+    for seed in 0..40 {
+        let mut scribe = Scribe::new(seed);
+        let mut desk = Desk::new();
+        for _ in 0..2000 {
+            let line = scribe.line(&desk.session);
+            let Some(rest) = without_targets(&line) else {
+                desk.serve(&line);
+                continue;
+            };
+            let is_full = desk.session.live() >= 64;
+            let is_even = desk.clone().line(&rest) == -40;
+            let answer = desk.serve(&line);
+            keys += u32::from(is_even && answer == -11);
+            lists += u32::from(is_even && answer == -12);
+            live += u32::from(is_full && answer == -40);
+        }
+    }
+    assert!(
+        keys > 20 && lists > 20 && live > 20,
+        "{keys}, {lists}, {live}"
+    );
 }
 
 /// The generator has unlinks that remove no copy, one, several of one list, and more than
@@ -243,6 +293,84 @@ fn values_met(before: &[Call], targets: &[u8]) -> Vec<u32> {
     let (nodes, _) = meaning(before);
     let met = nodes.iter().filter(|node| targets.contains(&node.key));
     met.map(|node| node.value).collect()
+}
+
+/// Whether the second call is the unmap of the first.
+fn is_unmap_of(map: &Call, unmap: &Call) -> bool {
+    let Call::Unmap { a, b, targets } = unmap else {
+        return false;
+    };
+    let (act, targets) = (Act::Map { a: *a, b: *b }, targets.clone());
+    *map == Call::Visit { act, targets }
+}
+
+/// Whether two calls are a map and its unmap, in either order.
+fn is_pair(first: &Call, second: &Call) -> bool {
+    is_unmap_of(first, second) || is_unmap_of(second, first)
+}
+
+/// The generator's unmaps tell the right map from every wrong one.
+#[test]
+fn random_lines_tell_wrong_undoings_apart() {
+    let mut told = [0; WRONG_UNDOINGS.len()];
+    for seed in 0..40 {
+        let mut scribe = Scribe::new(seed);
+        let mut run = Run::new();
+        for _ in 0..1000 {
+            let line = scribe.line(&run.desk.session);
+            run.serve(&line);
+        }
+        for (place, call) in run.accepted.iter().enumerate() {
+            let Call::Unmap { a, b, targets } = call else {
+                continue;
+            };
+            let values = values_met(&run.accepted[..place], targets);
+            let after = values_met(&run.accepted[..=place], targets);
+            let by = |undoing: Undoing| -> Vec<u32> {
+                let map = undoing(*a, *b);
+                values.iter().map(|&value| mapped(map, value)).collect()
+            };
+            assert_eq!(after, by(UNDOING));
+            for (told, (_, undoing)) in told.iter_mut().zip(WRONG_UNDOINGS) {
+                *told += u32::from(after != by(undoing));
+            }
+        }
+    }
+    for (told, (name, _)) in told.iter().zip(WRONG_UNDOINGS) {
+        assert!(*told > 100, "{name}: {told}");
+    }
+}
+
+/// The generator takes maps back in either order, and fuses them with their unmaps, so that
+/// comparing by it compares restored values.
+#[test]
+fn random_lines_take_maps_back() {
+    let (mut restored, mut fused) = ([0; 2], BTreeSet::new());
+    for seed in 0..40 {
+        let mut scribe = Scribe::new(seed);
+        let mut run = Run::new();
+        for _ in 0..1000 {
+            let line = scribe.line(&run.desk.session);
+            run.serve(&line);
+            for operation in run.fused_pairs() {
+                assert_eq!(operation.act, Act::Map { a: 1, b: 0 });
+                fused.insert((seed, operation.labels[0]));
+            }
+        }
+        for (place, pair) in run.accepted.windows(2).enumerate() {
+            let (Call::Visit { targets, .. } | Call::Unmap { targets, .. }) = &pair[0] else {
+                continue;
+            };
+            if is_pair(&pair[0], &pair[1]) {
+                let values = |count| values_met(&run.accepted[..place + count], targets);
+                assert_eq!(values(0), values(2));
+                let order = usize::from(is_unmap_of(&pair[1], &pair[0]));
+                restored[order] += u32::from(values(0) != values(1));
+            }
+        }
+    }
+    assert!(restored.iter().all(|&times| times > 80), "{restored:?}");
+    assert!(fused.len() > 30, "{}", fused.len());
 }
 
 /// The generator's tops tell the signed order from every wrong one, and it lets them stop

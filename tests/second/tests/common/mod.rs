@@ -124,6 +124,58 @@ pub fn top_by(order: Order, start: u32, values: &[u32]) -> u32 {
     values.iter().fold(start, keep)
 }
 
+/// The numbers of the map that an unmap of these numbers submits.
+pub type Undoing = fn(u32, u32) -> (u32, u32);
+
+/// The right ones, worded unlike session and meaning word it: an odd number to the power
+/// 1,073,741,824 is 1.
+pub const UNDOING: Undoing = |a, b| {
+    let inverse = a.wrapping_pow((1 << 30) - 1);
+    (inverse, minus_product(inverse, b))
+};
+
+/// What wrong programs may submit. Random tests must tell each from the right map.
+pub const WRONG_UNDOINGS: [(&str, Undoing); 14] = [
+    ("the map itself", |a, b| (a, b)),
+    ("the identity", |_, _| (1, 0)),
+    ("a kept", |a, b| (a, minus_product(a, b))),
+    ("a kept, b negated", |a, b| (a, b.wrapping_neg())),
+    ("a and b negated", |a, b| {
+        (a.wrapping_neg(), b.wrapping_neg())
+    }),
+    ("b kept", |a, b| (UNDOING(a, 0).0, b)),
+    ("b negated only", |a, b| (UNDOING(a, 0).0, b.wrapping_neg())),
+    ("b multiplied only", |a, b| {
+        let inverse = UNDOING(a, 0).0;
+        (inverse, inverse.wrapping_mul(b))
+    }),
+    ("b multiplied by a", |a, b| {
+        (UNDOING(a, 0).0, minus_product(a, b))
+    }),
+    ("no b", |a, _| UNDOING(a, 0)),
+    ("half of the bits", |a, b| cut(UNDOING(a, 0).0, b, 16)),
+    ("a Newton step too few", |a, b| cut(UNDOING(a, 0).0, b, 24)),
+    ("a bit too few", |a, b| cut(UNDOING(a, 0).0, b, 31)),
+    ("a without its sign", |a, b| {
+        UNDOING((a as i32).unsigned_abs(), b)
+    }),
+];
+
+fn minus_product(inverse: u32, b: u32) -> u32 {
+    inverse.wrapping_mul(b).wrapping_neg()
+}
+
+/// An inverse of which only so many bits are right.
+fn cut(inverse: u32, b: u32, bits: u32) -> (u32, u32) {
+    let inverse = inverse % (1 << bits);
+    (inverse, minus_product(inverse, b))
+}
+
+/// A value after a map.
+pub fn mapped((a, b): (u32, u32), value: u32) -> u32 {
+    a.wrapping_mul(value).wrapping_add(b)
+}
+
 /// The calls of lines that are all of a good form.
 pub fn calls(lines: &[&str]) -> Vec<Call> {
     let read = |line: &&str| read_call(line.as_bytes()).expect("a good call");
