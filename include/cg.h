@@ -33,7 +33,8 @@ enum {
     CG_NEVER_GIVEN = 30,   /* a label that was never given */
     CG_STILL_PENDING = 31, /* no result yet */
     CG_CLAIMED = 32,       /* the result was claimed before */
-    CG_NO_ROOM = 33        /* an output shorter than what is to be written */
+    CG_NO_ROOM = 33,       /* an output shorter than what is to be written */
+    CG_NO_INVERSE = 40     /* an unmap of an even a; tested after 12 and before 13, 14 and 15 */
 };
 
 /* Steps taken, by kind; a drain counts each step that it takes. A count rests at 4,294,967,295. */
@@ -45,6 +46,7 @@ typedef struct cg_tally {
 int64_t cg_open(uint8_t *image, size_t image_len);
 
 /* Accepts a line such as "call=add value=5"; the call waits in the image. Gives its label.
+ * "call=unmap a=3 b=4 to=1" takes "call=map a=3 b=4 to=1" back; its a must be odd.
  * Numbers in lines have no sign: send -1 as 4294967295, that is (uint32_t)-1; read a value as a uint32_t
  * and take (int32_t) of it. Only "call=top" compares signed numbers; start=2147483648 is its least. */
 int64_t cg_call(uint8_t *image, size_t image_len, const uint8_t *frame, size_t frame_len, size_t at);

@@ -8,9 +8,9 @@ use mathlib.Core.Bool.{Bool, true, false, cond, not, _&&_, _||_, true≢false}
 use mathlib.Core.List.{List, [], _∷_}
 use mathlib.Core.Option.{some}
 use lib.Dec.{eqb, ltb, leb}
-use borrow.Author.Tests.{eq-eqb, eqb-true, eqb-false, leb-true, lt-leb, ltb-true, le-ltb, ne-eqb}
+use borrow.Author.Tests.{eq-eqb, eqb-true, eqb-false, leb-true, lt-leb, ltb-true, ltb-false, le-ltb, ne-eqb}
 use Rattle.graph.specs.Refusals.{Answer, refused, done, mapDone, andThen, Test, unless}
-use Rattle.graph.specs.RefusalOrder.{numberOf, firstOf, precedes, risesFrom, Foremost, claimTests}
+use Rattle.graph.specs.RefusalOrder.{numberOf, firstOf, precedes, risesFrom, Foremost, Lowest, claimTests}
 use Rattle.graph.specs.KeyLists.{contains}
 use Rattle.graph.specs.Calls.{Call}
 use Rattle.graph.specs.Nodes.{Result}
@@ -67,6 +67,15 @@ first-foremost n (t ∷ ts) e = go (t .applies) refl (first-foremost (t .number)
     go : (b : Bool) → t .applies ≡ b → Foremost (firstOf ts) ts → Foremost (cond b (t .number) (firstOf ts)) (t ∷ ts)
     go true f g = (λ a. place-precedes (t .number) (t .number) (omega arith), behind ts (rises-above (t .number) ts (and-right (precedes n (t .number)) _ e)))
     go false f g = (λ a. absurd (true≢false (sym a ∙ f)), g)
+
+-- 40 is the one exception
+pub foremost-lowest : (n : ℕ) (ts : List Test) → (n ≡ 40 → ⊥) → Foremost n ts → Lowest n ts
+foremost-lowest n [] d h = tt
+foremost-lowest n (t ∷ ts) d h = (λ a. go (eqb (t .number) 40) refl (ap (λ (b : Bool). cond b (leb (t .number) 12) (cond (eqb (t .number) 40) (ltb 12 n) (ltb (t .number) n))) (sym (ne-eqb n 40 d)) ∙ h .0 a), foremost-lowest n ts d (h .1))
+  where
+    go : (b : Bool) → eqb (t .number) 40 ≡ b → cond b (ltb 12 n) (ltb (t .number) n) ≡ false → n ≤ t .number
+    go true e f = omega (arith, eqb-true (t .number) 40 e, ltb-false 12 n f)
+    go false e f = ltb-false (t .number) n f
 
 -- EACH SEQUENCE RISES (of claims and the listing: host's Sequences, with 33)
 pub calls-rise : (c : Call) (s : Session) → risesFrom 2 (callTests c s) ≡ true

@@ -1,7 +1,7 @@
 -- Refusals by a sequence of tests: the number of the first that applies, sequences that rise, and a claim's tests
 -- (docs/RULES.md).
 -- Assumes nothing.
-use Prim.Native.Nat.{ℕ}
+use Prim.Native.Nat.{ℕ, _≤_}
 use mathlib.Core.Path.{_≡_}
 use mathlib.Core.Bool.{Bool, true, false, cond, _&&_, not}
 use mathlib.Core.List.{List, [], _∷_}
@@ -27,7 +27,7 @@ abbrev pub precedes : ℕ → ℕ → Bool
 precedes n m = cond (eqb m 40) (leb n 12) (cond (eqb n 40) (ltb 12 m) (ltb n m))
 
 -- each number is preceded by the one before it, and the first by n: then no test that applies precedes the first that does
--- (proofs/Sequences.antt, first-foremost); but for 40 it has the lowest number of those that do
+-- (proofs/Sequences.antt, first-foremost), and its number, if it is not 40, is the lowest of those that apply (foremost-lowest)
 abbrev pub risesFrom : ℕ → List Test → Bool
 risesFrom n [] = true
 risesFrom n (t ∷ ts) = precedes n (t .number) && risesFrom (t .number) ts
@@ -35,6 +35,10 @@ risesFrom n (t ∷ ts) = precedes n (t .number) && risesFrom (t .number) ts
 -- none of the tests that apply precedes n
 abbrev pub Foremost : ℕ → List Test → Type 0
 Foremost n ts = Each (λ (t : Test). t .applies ≡ true → precedes (t .number) n ≡ false) ts
+
+-- none of the tests that apply has a lower number than n
+abbrev pub Lowest : ℕ → List Test → Type 0
+Lowest n ts = Each (λ (t : Test). t .applies ≡ true → n ≤ t .number) ts
 
 -- "30 a label never given; 31 still pending; 32 already claimed": a claim is refused by the first of these that applies, else the result
 -- is taken (proofs/Sequences.antt, claim-tests)

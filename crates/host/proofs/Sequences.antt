@@ -9,7 +9,7 @@ use mathlib.Core.Option.{Option, some}
 use lib.Dec.{leb}
 use lib.ListN.{length}
 use Rattle.graph.specs.Refusals.{Answer, refused, done, andThen, unless}
-use Rattle.graph.specs.RefusalOrder.{numberOf, firstOf, risesFrom, Foremost}
+use Rattle.graph.specs.RefusalOrder.{numberOf, firstOf, risesFrom, Foremost, Lowest}
 use Rattle.graph.specs.KeyLists.{contains, areKeys}
 use Rattle.graph.specs.Nodes.{Result}
 use Rattle.graph.specs.Sessions.{Session, labelsOfResults, pending}
@@ -19,7 +19,7 @@ use Rattle.graph.specs.Acceptance.{accept, Claimed, takeResult}
 use Rattle.graph.specs.Counts.{resultOfLabel}
 use Rattle.graph.proofs.Answers.{Holds, holds}
 use Rattle.graph.proofs.Verdicts.{Says, step-number}
-use Rattle.graph.proofs.Sequences.{first-foremost, calls-rise, steps-rise, accept-number, take-says, take-found}
+use Rattle.graph.proofs.Sequences.{first-foremost, foremost-lowest, calls-rise, steps-rise, accept-number, take-says, take-found}
 use Rattle.lines.specs.Forms.{work, drainForm, stepKeys, stepFormTests}
 use Rattle.text.specs.Text.{pasted}
 use Rattle.print.specs.Printed.{resultText}
@@ -100,3 +100,7 @@ sequence-rises (listing out) s = refl
 -- so that no test that applies precedes the answer
 pub foremost-answers : (a : Asked) (image : List ℕ) (s : Session) → Foremost (refusalIn (answerTo a image s)) (testsOf a s)
 foremost-answers a image s = subst (λ (n : ℕ). Foremost n (testsOf a s)) (sym (first-answers a image s)) (first-foremost (numberBefore a) (testsOf a s) (sequence-rises a s))
+
+-- which, but for 40, is the lowest number of those that apply
+pub lowest-answers : (a : Asked) (image : List ℕ) (s : Session) → (refusalIn (answerTo a image s) ≡ 40 → ⊥) → Lowest (refusalIn (answerTo a image s)) (testsOf a s)
+lowest-answers a image s d = foremost-lowest (refusalIn (answerTo a image s)) (testsOf a s) d (foremost-answers a image s)

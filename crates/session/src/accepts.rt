@@ -26,6 +26,11 @@ pub fn accept(image: &mut [u8], kind: CallKind, x: u32, y: u32, to: Keys) -> u32
         CallKind::Top => accept_operation(image, Act::Top, x, to),
         CallKind::Pick => accept_operation(image, Act::Pick, x, to),
         CallKind::Near => accept_operation(image, Act::Near(x as u8), y, to),
-        CallKind::Unmap => accept_operation(image, Act::Map(Affine::inverse(Affine { a: x, b: y })), 0, to),
+        CallKind::Unmap => accept_operation(
+            image,
+            Act::Map(Affine::inverse(Affine { a: x, b: y })),
+            0,
+            to,
+        ),
     }
 }

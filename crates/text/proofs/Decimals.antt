@@ -206,6 +206,9 @@ len-le (suc k) n h = go (ltb n 10) refl (len-le k (n / 10))
         let q : 10 ^ (suc k + 1) ≡ 10 ^ (k + 1) * 10 = simp unary-clauses in
         omega (arith, len-high n (ltb-false n 10 e), ih (omega arith))
 
+pub len-two : (n : ℕ) → n < 100 → length (decimal n) ≤ 2
+len-two n h = len-le 1 n h
+
 pub len-ten : (n : ℕ) → n < modulus → length (decimal n) ≤ 10
 len-ten n h = len-le 9 n (omega arith)
 
