@@ -182,6 +182,10 @@ fn busy(nodes: u32, links: u32, targets: u32, stations: [u32; 3], counts: [u32; 
         format!("call=sum start=4294967295 to={to}"),
         format!("call=map a=65537 b=4294967295 to={to}"),
     );
+    let (unmap, even) = (
+        format!("call=unmap a=65537 b=4294967295 to={to}"),
+        format!("call=unmap a=65536 b=4294967295 to={to}"),
+    );
     let mut desk = Desk::open();
     desk.serve(&sum);
     desk.serve("step=admit"); // with no node yet: all targets are left
@@ -206,7 +210,9 @@ fn busy(nodes: u32, links: u32, targets: u32, stations: [u32; 3], counts: [u32; 
     vec![
         desk.row("open", Entry::Open, "", 0),
         with_a_place_free.row("call", Entry::Call, &map, 0),
+        with_a_place_free.row("call unmap", Entry::Call, &unmap, 0),
         desk.row("call, 10", Entry::Call, &format!("{map},"), 10),
+        desk.row("call unmap, 40", Entry::Call, &even, 40),
         step("step admit", "step=admit".into(), 0),
         step("step realise", format!("step=realise at={low}"), 0),
         with_an_unlink.row("step realise, unlink", Entry::Step, &realise, 0),

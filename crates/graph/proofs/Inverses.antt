@@ -5,8 +5,8 @@ use mathlib.Core.Path.{_≡_, refl, sym, _∙_, ap}
 use Prim.Native.Nat.{ℕ, suc, _+_, _*_, _%_, _/_, _≤_, _<_}
 use native.Mathlib.Nat.{mul-comm, mul-assoc, mul-le-mul-left, mul-mod-right, mod-lt, mod-add-mod, add-mod-mod, add-mul-mod-self-left, div-add-mod, mod-eq-of-lt}
 use native.Mathlib.Omega.{arith}
-use mathlib.Core.Bool.{true}
-use mathlib.Core.List.{_++_}
+use mathlib.Core.Bool.{Bool, true, cond}
+use mathlib.Core.List.{[], _∷_, _++_}
 use lib.Dec.{lit≤}
 use borrow.Author.Tests.{eqb-true}
 use Rattle.graph.specs.declared.affine.Affine.{Affine}
@@ -15,6 +15,8 @@ use Rattle.graph.specs.Words.{modulus}
 use Rattle.graph.specs.Affine.{mulAdd, applied, identity, composed, minusOne, nearer, inverseOf, isOdd, inverse}
 use Rattle.graph.specs.Acts.{affineOf}
 use Rattle.graph.specs.Nodes.{Op}
+use Rattle.graph.specs.Refusals.{refused, done}
+use Rattle.graph.specs.Steps.{fused}
 use Rattle.graph.specs.declared.act.Act.the-variants.{Map}
 use Rattle.graph.specs.TakenBack.{Inverts, MapAndUnmap, mapFirst, unmapFirst, FusedToIdentity}
 use Rattle.graph.proofs.AffineLaws.{mod-mul, mod-mul-add, applied-composed, applied-identity, Fits, identity-composed, composed-identity, composed-composed}
@@ -179,4 +181,6 @@ fused-numbers m o mapFirst = composed-inverse m o
 fused-numbers m o unmapFirst = inverse-composed m o
 
 pub fused-identity : (m : Affine) → isOdd (m .a) ≡ true → (o q : Op) → MapAndUnmap m (o .act) (q .act) → FusedToIdentity o q
-fused-identity m d o q p = ap (λ (f : Affine). record { act = Map f; held = 0; targets = o .targets; labels = o .labels ++ q .labels }) (fused-numbers m d p)
+fused-identity m d o q p e =
+    ap (λ (b : Bool). cond b (done ((fused o q ∷ []) ∷ [])) (refused 22)) e
+    ∙ ap (λ (f : Affine). done ((record { act = Map f; held = 0; targets = o .targets; labels = o .labels ++ q .labels } ∷ []) ∷ [])) (fused-numbers m d p)

@@ -16,7 +16,8 @@ use Rattle.graph.specs.Affine.{identity, composed, inverse}
 use Rattle.graph.specs.KeyLists.{contains}
 use Rattle.graph.specs.Calls.{Call, add, map, link, unlink, sum, top, pick, near, unmap, targetsOf}
 use Rattle.graph.specs.Nodes.{Node, Op}
-use Rattle.graph.specs.Steps.{fused}
+use Rattle.graph.specs.Refusals.{done}
+use Rattle.graph.specs.Steps.{mayFuse, fuseOps}
 use Rattle.graph.specs.CallResults.{nodesAfter}
 use Rattle.graph.specs.Valid.{Each}
 
@@ -31,10 +32,12 @@ pub data MapAndUnmap (m : Affine) : Act → Act → Type 0 where
   mapFirst : MapAndUnmap m (Map m) (Map (inverse m))
   unmapFirst : MapAndUnmap m (Map (inverse m)) (Map m)
 
--- "A pair fused is the identity": the operation that a fuse of o and q leaves is the identity map, for the labels of both, with the
--- targets that remained
+-- "A pair fused is the identity": where the two operations may fuse, they leave a unit of the identity map alone, for the labels of both,
+-- with the targets that remain
 abbrev pub FusedToIdentity : Op → Op → Type 0
-FusedToIdentity o q = fused o q ≡ record { act = Map identity; held = 0; targets = o .targets; labels = o .labels ++ q .labels }
+FusedToIdentity o q =
+    mayFuse o q ≡ true
+    → fuseOps o q ≡ done ((record { act = Map identity; held = 0; targets = o .targets; labels = o .labels ++ q .labels } ∷ []) ∷ [])
 
 -- "A map and its unmap, in either order", as calls: of the same numbers, each with targets of its own
 pub data TakesBack (a : ℕ) : Call → Call → Type 0 where

@@ -1,10 +1,10 @@
 -- The calls that the accepted lines are the texts of pass the tests of their forms, and no accepted line has more than 63 bytes.
 -- Assumes nothing.
 use mathlib.Core.Path.{_≡_, refl, subst, ap}
-use Prim.Native.Nat.{ℕ, suc, _+_, _*_, _≤_, _<_}
+use Prim.Native.Nat.{ℕ, _*_, _≤_}
 use native.Mathlib.Omega.{arith}
 use mathlib.Core.Bool.{true}
-use mathlib.Core.List.{List, [], _∷_, _++_}
+use mathlib.Core.List.{List, [], _∷_}
 use lib.Dec.{ltb}
 use lib.ListN.{length, length-append}
 use borrow.Author.Tests.{ltb-true}
@@ -19,7 +19,7 @@ use Rattle.graph.proofs.Validity.{FormFits}
 use Rattle.graph.proofs.Demand3.{accepted-formed}
 use Rattle.text.specs.Text.{ascii, decimal, further, commas}
 use Rattle.text.proofs.Decimals.{len-two, len-ten}
-use Rattle.lines.specs.Forms.{targets, callText}
+use Rattle.lines.specs.Forms.{callText}
 use Rattle.runs.specs.Runs.{Sent, Runs, opening, acceptedLines, TextsOf, noLine, aLine}
 use Rattle.runs.proofs.Demand3.{to}
 use Rattle.runs.proofs.SameEnd.{texts-same}

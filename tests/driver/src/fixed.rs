@@ -72,8 +72,13 @@ pub fn long_lines() -> Result<(), String> {
     for (length, end) in
         (240..270).flat_map(|length| [(length, ""), (length, "\n"), (length, "\n1")])
     {
-        for (first, refusal) in [("1", -12), ("65", -11)] {
-            let mut line = format!("call=unlink key=1 to={first}");
+        for (start, refusal) in [
+            ("call=unlink key=1 to=1", -12),
+            ("call=unlink key=1 to=65", -11),
+            ("call=unmap a=2 b=4 to=1", -12),
+            ("call=unmap a=2 b=4 to=65", -11),
+        ] {
+            let mut line = String::from(start);
             while line.len() + 3 < length {
                 line.push_str(",1");
             }
@@ -119,7 +124,7 @@ fn listings(bytes: &[u8], length: usize) -> Result<(), String> {
 pub fn all_met() -> Result<(), String> {
     let due: [(Entry, &[i64]); 5] = [
         (Entry::Open, &[-1, 0]),
-        (Entry::Call, &[-15, -14, -13, -12, -11, -10, -2, -1, 1]),
+        (Entry::Call, &[-40, -15, -14, -13, -12, -11, -10, -2, -1, 1]),
         (Entry::Step, &[-22, -21, -20, -11, -10, -2, -1, 0]),
         (Entry::Claim, &[-33, -32, -31, -30, -10, -2, -1, 1]),
         (Entry::List, &[-33, -2, -1, 1]),
