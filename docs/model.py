@@ -1,6 +1,6 @@
 """A small model of a session, by which docs/steps.py draws what a step leaves.
 
-It takes lines that have one of the forms and good keys (refusals 10 to 15 are not in it).
+It takes lines that have one of the forms, but for unmaps, and good keys (refusals 10 to 15 and 40 are not in it).
 docs/check_rules.py compares it with a program on every session that is drawn.
 """
 

@@ -46,7 +46,7 @@ typedef struct cg_tally {
 int64_t cg_open(uint8_t *image, size_t image_len);
 
 /* Accepts a line such as "call=add value=5"; the call waits in the image. Gives its label.
- * "call=unmap a=3 b=4 to=1" takes "call=map a=3 b=4 to=1" back; its a must be odd.
+ * "call=unmap a=3 b=4 to=1" submits the map that undoes "call=map a=3 b=4 to=1"; its a must be odd.
  * Numbers in lines have no sign: send -1 as 4294967295, that is (uint32_t)-1; read a value as a uint32_t
  * and take (int32_t) of it. Only "call=top" compares signed numbers; start=2147483648 is its least. */
 int64_t cg_call(uint8_t *image, size_t image_len, const uint8_t *frame, size_t frame_len, size_t at);

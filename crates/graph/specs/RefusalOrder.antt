@@ -1,4 +1,4 @@
--- Refusals by a sequence of tests: the number of the first that applies, sequences that rise, and a claim's tests
+-- Refusals by a sequence of tests: the number of the first that applies, the order of the numbers, sequences that rise, and a claim's tests
 -- (docs/RULES.md).
 -- Assumes nothing.
 use Prim.Native.Nat.{ℕ, _≤_}

@@ -5,5 +5,6 @@ pub mod Calls
 pub mod Steps
 pub mod Claims
 pub mod Answered
+pub mod Lengths
 pub mod Decided
 pub mod Document

@@ -17,26 +17,13 @@ use Rattle.graph.proofs.Answers.{and-left, and-right}
 use Rattle.graph.proofs.KeyLaws.{key-high}
 use Rattle.graph.proofs.Labels.{length-labels}
 use Rattle.graph.proofs.Limits.{each-right}
+use Rattle.lines.proofs.Lengths.{commas-short}
 use Rattle.print.specs.Printed.{lineOf, resultText, nodeText, headText}
 use Rattle.listing.specs.Listed.{listingOf}
 
-further-short : (ts : List ℕ) → areKeys ts ≡ true → length (further ts) ≤ 11 * length ts
-unfolding further
-further-short [] h = omega arith
-further-short (t ∷ ts) h =
-    let ih : length (further ts) ≤ 11 * length ts = further-short ts (and-right (isKey t) _ h) in
-    omega (arith, length-append (decimal t) (further ts), len-ten t (omega (arith, key-high t (and-left _ _ h))))
-
-commas-short : (ts : List ℕ) → areKeys ts ≡ true → length (commas ts) ≤ 11 * length ts
-unfolding commas
-commas-short [] h = omega arith
-commas-short (t ∷ ts) h =
-    let ih : length (further ts) ≤ 11 * length ts = further-short ts (and-right (isKey t) _ h) in
-    omega (arith, length-append (decimal t) (further ts), len-ten t (omega (arith, key-high t (and-left _ _ h))))
-
 -- two numbers and up to eight keys
 line-short : (a b c : List ℕ) (x y : ℕ) (ks : List ℕ) → length a + length b + length c ≤ 19 → x < modulus → y < modulus → length ks ≤ 8 → areKeys ks ≡ true → length (lineOf a x b y c ks) ≤ 128
-line-short a b c x y ks h k l few v = simp length-append (omega (arith, h, len-ten x k, len-ten y l, commas-short ks v, few))
+line-short a b c x y ks h k l few v = simp length-append (omega (arith, h, len-ten x k, len-ten y l, commas-short ks v few))
 
 pub result-short : (r : Result) → r .label < modulus → ValidResult r → length (resultText r) ≤ 128
 unfolding ascii
