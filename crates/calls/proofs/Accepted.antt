@@ -8,13 +8,12 @@ use mathlib.Core.List.{List, [], _∷_, _++_}
 use lib.Dec.{leb}
 use lib.ListN.{length}
 use borrow.Author.Tests.{leb-false}
-use Rattle.graph.specs.Calls.{Call, numbersOf, operandsOf, targetsOf, lacksInverse, formTests}
+use Rattle.graph.specs.Calls.{Call, formTests}
 use Rattle.graph.specs.OneAtATime.{isAdd, Labelled, labelled, isOp}
-use Rattle.graph.specs.Words.{areWords}
-use Rattle.graph.specs.KeyLists.{areKeys, rising}
 use Rattle.graph.specs.Refusals.{Answer, refused, done, Test, on, unless}
 use Rattle.graph.specs.RefusalOrder.{firstOf}
 use Rattle.graph.proofs.Validity.{Sort, adds, operates, sort}
+use Rattle.graph.proofs.Sequences.{forms-positive, none-applies, unless-passed}
 use Rattle.flat.specs.Flat.{Flat}
 use Rattle.flat.specs.Inner.Queues.{addsQueued, liveIn}
 use Rattle.flat.specs.Inner.FlatSteps.{withQueue}
@@ -75,15 +74,8 @@ is-add c l = go (sort c l)
 
 pub accept-rest : (c : Call) (f : Flat) → firstOf (formTests c) ≡ 0 → flatAccept c f ≡ flatAcceptRest (labelled c (suc (f .last))) f
 accept-rest c f e =
-    go (not (areWords (numbersOf c ++ (operandsOf c ++ targetsOf c)))) (not (areKeys (operandsOf c ++ targetsOf c))) (not (leb (length (targetsOf c)) 8 && rising (targetsOf c))) (lacksInverse c) e
+    unless-passed (formTests c) (on (isAdd c && spent f) 13 ∷ flatLiveTests f) _ (none-applies (formTests c) (forms-positive c) e)
     ∙ ap (λ (b : Bool). unless (on (b && spent f) 13 ∷ flatLiveTests f) (acceptedAs (labelled c (suc (f .last))) f)) (is-add c (suc (f .last)))
-  where
-    go : {y : Answer Flat} (a b d i : Bool) → _≡_ {A = ℕ} (cond a 10 (cond b 11 (cond d 12 (cond i 40 0)))) 0 → cond a (refused 10) (cond b (refused 11) (cond d (refused 12) (cond i (refused 40) y))) ≡ y
-    go true b d i e = absurd (omega arith)
-    go false true d i e = absurd (omega arith)
-    go false false true i e = absurd (omega arith)
-    go false false false true e = absurd (omega arith)
-    go false false false false e = refl
 
 pub accept-works : (c : Call) (f : Flat) {x : Labelled} {before after : List ℕ} {r : ℕ} → firstOf (formTests c) ≡ 0 → labelled c (suc (f .last)) ≡ x
     → Works (flatAcceptRest x f) before after r → Works (flatAccept c f) before after r

@@ -78,7 +78,6 @@ oneAtATime-append bs cs = process-append 1 bs cs _ ∙ ap (λ (m : ℕ). process
 pub oneAtATime-last : (cs : List Call) (c : Call) → oneAtATime (cs ++ (c ∷ [])) ≡ process (labelled c (suc (length cs))) (oneAtATime cs)
 oneAtATime-last cs c = oneAtATime-append cs (c ∷ [])
 
--- "A call names 0 to 8 target keys"
 -- THE RUN: what has been claimed, with the outcome of the session, is one-at-a-time processing of the accepted calls
 record Good (x : EventRun) : Type 0 where
   valid : Valid (x .now)

@@ -5,24 +5,24 @@ use mathlib.Core.Path.{_≡_, refl, sym, _∙_, ap}
 use Prim.Native.Nat.{ℕ, suc, _+_, _*_, _%_, _/_, _≤_, _<_}
 use native.Mathlib.Nat.{mul-comm, mul-assoc, mul-le-mul-left, mul-mod-right, mod-lt, mod-add-mod, add-mod-mod, add-mul-mod-self-left, div-add-mod, mod-eq-of-lt}
 use native.Mathlib.Omega.{arith}
-use mathlib.Core.Bool.{Bool, true, cond}
+use mathlib.Core.Bool.{Bool, true, false, cond}
 use mathlib.Core.List.{[], _∷_, _++_}
 use lib.Dec.{lit≤}
-use borrow.Author.Tests.{eqb-true}
+use borrow.Author.Tests.{eqb-true, eqb-false}
 use Rattle.graph.specs.declared.affine.Affine.{Affine}
 use Rattle.graph.specs.declared.act.Act.{Act}
 use Rattle.graph.specs.Words.{modulus}
-use Rattle.graph.specs.Affine.{mulAdd, applied, identity, composed, minusOne, nearer, inverseOf, isOdd, inverse}
+use Rattle.graph.specs.Affine.{mulAdd, applied, identity, composed, minusOne, newtonStep, inverseOf, isOdd, inverse}
 use Rattle.graph.specs.Acts.{affineOf}
 use Rattle.graph.specs.Nodes.{Op}
 use Rattle.graph.specs.Refusals.{refused, done}
 use Rattle.graph.specs.Steps.{fused}
 use Rattle.graph.specs.declared.act.Act.the-variants.{Map}
-use Rattle.graph.specs.TakenBack.{Inverts, MapAndUnmap, mapFirst, unmapFirst, FusedToIdentity}
+use Rattle.graph.specs.TakenBack.{Inverts, LacksInverse, MapAndUnmap, mapFirst, unmapFirst, FusedToIdentity}
 use Rattle.graph.proofs.AffineLaws.{mod-mul, mod-mul-add, applied-composed, applied-identity, Fits, identity-composed, composed-identity, composed-composed}
 
--- 1 more than a multiple of d
-record OneUpTo (d t : ℕ) : Type 0 where
+-- t is 1 modulo d, and not 0
+record OneModulo (d t : ℕ) : Type 0 where
   times : ℕ
   is : t ≡ 1 + d * times
 
@@ -48,7 +48,7 @@ square n s = omega arith
 gather : (d q n z : ℕ) → 1 + d * d * q * (1 + 2 * (d * z)) + n * (d * z * (d * z)) ≡ 1 + d * d * (q * (1 + 2 * (d * z)) + n * (z * z))
 gather d q n z = omega arith
 
-squared : (d q n t : ℕ) → n + 1 ≡ d * d * q → 1 < d * d → 0 < q → OneUpTo d t → OneUpTo (d * d) ((t * (n * t + 2)) % (d * d * q))
+squared : (d q n t : ℕ) → n + 1 ≡ d * d * q → 1 < d * d → 0 < q → OneModulo d t → OneModulo (d * d) ((t * (n * t + 2)) % (d * d * q))
 squared d q n t e h g f =
     let z = f .times in
     let w : ℕ = q * (1 + 2 * (d * z)) + n * (z * z) in
@@ -70,7 +70,7 @@ next-mod m n a x =
     ∙ ap (λ (k : ℕ). k % m) (mul-comm u t)
     ∙ mod-mul m t (n * t + 2)
 
-step : (d q : ℕ) → d * d * q ≡ modulus → 1 < d * d → 0 < q → (a x : ℕ) → OneUpTo d (mulAdd a x 0) → OneUpTo (d * d) (mulAdd a (nearer a x) 0)
+step : (d q : ℕ) → d * d * q ≡ modulus → 1 < d * d → 0 < q → (a x : ℕ) → OneModulo d (mulAdd a x 0) → OneModulo (d * d) (mulAdd a (newtonStep a x) 0)
 step d q e h g a x f =
     let r = squared d q minusOne (mulAdd a x 0) (sym e) h g f in
     record { times = r .times; is = next-mod modulus minusOne a x ∙ ap (λ (k : ℕ). (mulAdd a x 0 * (minusOne * mulAdd a x 0 + 2)) % k) (sym e) ∙ r .is }
@@ -82,23 +82,23 @@ odd-square c a e = ap (λ (k : ℕ). k * k + 0) (sym e) ∙ go c
     go : (c : ℕ) → (2 * c + 1) * (2 * c + 1) + 0 ≡ 1 + 4 * (c * c + c)
     go c = omega arith
 
-first : (a : ℕ) → isOdd a ≡ true → OneUpTo 4 (mulAdd a a 0)
+first : (a : ℕ) → isOdd a ≡ true → OneModulo 4 (mulAdd a a 0)
 first a o =
     let c : ℕ = a / 2 in
     let e : 2 * c + 1 ≡ a = ap (λ (k : ℕ). 2 * c + k) (sym (eqb-true (a % 2) 1 o)) ∙ div-add-mod a 2 in
     record { times = (c * c + c) % 1073741824; is = ap (λ (k : ℕ). k % modulus) (odd-square c a e) ∙ one-mod 4 1073741824 (c * c + c) (omega arith) (omega arith) }
 
--- "a × its inverse is 1"
+-- a × its inverse is 1
 pub inverse-times : (a : ℕ) → isOdd a ≡ true → mulAdd a (inverseOf a) 0 ≡ 1
 inverse-times a o =
-    let x1 = nearer a a in
-    let x2 = nearer a x1 in
-    let x3 = nearer a x2 in
+    let x1 = newtonStep a a in
+    let x2 = newtonStep a x1 in
+    let x3 = newtonStep a x2 in
     let e1 = step 4 268435456 refl (omega arith) (omega arith) a a (first a o) in
     let e2 = step 16 16777216 refl (omega arith) (omega arith) a x1 e1 in
     let e3 = step 256 65536 refl (omega arith) (omega arith) a x2 e2 in
     let e4 = step 65536 1 refl (omega arith) (omega arith) a x3 e3 in
-    only-one (mulAdd a (nearer a x3) 0) (mod-lt (a * nearer a x3 + 0) (lit≤ tt)) (e4 .times) (e4 .is)
+    only-one (mulAdd a (newtonStep a x3) 0) (mod-lt (a * newtonStep a x3 + 0) (lit≤ tt)) (e4 .times) (e4 .is)
   where
     only-one : (t : ℕ) → t < 4294967296 → (z : ℕ) → t ≡ 1 + 4294967296 * z → t ≡ 1
     only-one t h z e = omega (arith, e)
@@ -160,7 +160,7 @@ redone m v o h = sym (applied-composed (inverse m) m v) ∙ ap (λ (f : Affine).
 -- its numbers fit 32 bits
 pub inverse-fits : (m : Affine) → Fits (inverse m)
 inverse-fits m =
-    let x3 = nearer (m .a) (nearer (m .a) (nearer (m .a) (m .a))) in
+    let x3 = newtonStep (m .a) (newtonStep (m .a) (newtonStep (m .a) (m .a))) in
     record { scale = mod-lt (x3 * mulAdd minusOne (mulAdd (m .a) x3 0) 2 + 0) (lit≤ tt); shift = mod-lt (minusOne * mulAdd (inverseOf (m .a)) (m .b) 0 + 0) (lit≤ tt) }
 
 -- "the map that undoes": there is no other
@@ -174,6 +174,22 @@ inverse-only m n o f e =
 
 pub inverts : (m : Affine) → isOdd (m .a) ≡ true → Inverts m (inverse m)
 inverts m o = record { after = composed-inverse m o; before = inverse-composed m o; only = λ n h g e. inverse-only m n o (record { scale = h; shift = g }) e }
+
+-- no map undoes one whose a is even: a product with an even number is no odd one
+odd-product : (x y n q z : ℕ) → 2 * y + 0 ≡ n → x * n + 0 ≡ z → 4294967296 * q + 1 ≡ z → ⊥
+odd-product x y n q z e f g = omega (arith, ap (λ (k : ℕ). x * k + 0) e, f, g, mul-assoc x 2 y)
+
+zero-left : (r : ℕ) → r < 2 → (r ≡ 1 → ⊥) → r ≡ 0
+zero-left r h d = omega (arith, h, d)
+
+pub even-lacks : (m : Affine) → isOdd (m .a) ≡ false → LacksInverse m
+even-lacks m o n e =
+    let c : ℕ = m .a / 2 in
+    let z : ℕ = n .a * m .a + 0 in
+    let low : m .a % 2 < 2 = mod-lt (m .a) (lit≤ tt) in
+    let even : m .a % 2 ≡ 0 = zero-left (m .a % 2) low (eqb-false (m .a % 2) 1 o) in
+    odd-product (n .a) c (m .a) (z / 4294967296) z (ap (λ (k : ℕ). 2 * c + k) (sym even) ∙ div-add-mod (m .a) 2) refl
+    (ap (λ (k : ℕ). 4294967296 * (z / 4294967296) + k) (sym (ap (λ (f : Affine). f .a) e)) ∙ div-add-mod z 4294967296)
 
 -- A PAIR FUSED
 fused-numbers : (m : Affine) → isOdd (m .a) ≡ true → {f g : Act} → MapAndUnmap m f g → composed (affineOf f) (affineOf g) ≡ identity

@@ -5,14 +5,14 @@ use mathlib.Core.Path.{_≡_, refl, sym, _∙_, ap}
 use Prim.Native.Nat.{ℕ, _+_, _≤_, _<_}
 use native.Mathlib.Omega.{arith}
 use mathlib.Core.Bool.{Bool, true, false, cond, not, _&&_, _||_, true≢false}
-use mathlib.Core.List.{List, [], _∷_}
+use mathlib.Core.List.{List, [], _∷_, _++_}
 use mathlib.Core.Option.{some}
 use lib.Dec.{eqb, ltb, leb}
 use borrow.Author.Tests.{eq-eqb, eqb-true, eqb-false, leb-true, lt-leb, ltb-true, ltb-false, le-ltb, ne-eqb}
 use Rattle.graph.specs.Refusals.{Answer, refused, done, mapDone, andThen, Test, unless}
 use Rattle.graph.specs.RefusalOrder.{numberOf, firstOf, precedes, risesFrom, Foremost, Lowest, claimTests}
 use Rattle.graph.specs.KeyLists.{contains}
-use Rattle.graph.specs.Calls.{Call}
+use Rattle.graph.specs.Calls.{Call, formTests}
 use Rattle.graph.specs.Nodes.{Result}
 use Rattle.graph.specs.Sessions.{Session, labelsOfResults, pending}
 use Rattle.graph.specs.Steps.{Step, admit, realise, move, finish, join, split, swap, fuse}
@@ -22,14 +22,15 @@ use Rattle.graph.specs.Valid.{Each}
 use Rattle.graph.specs.Counts.{resultOfLabel}
 use Rattle.graph.proofs.Answers.{Holds, refuses, holds, holds-map, and-left, and-right}
 use Rattle.graph.proofs.Verdicts.{Says, says-map}
+use Rattle.graph.proofs.Validity.{FormFits, form-passes}
 
 -- THE FOREMOST NUMBER
--- a number's place in the order of the tests: twice the number, which leaves room for 40 between 12 and 13
-abbrev place : ℕ → ℕ
-place n = cond (eqb n 40) 25 (n + n)
+-- a number's rank in the order of the tests: twice the number, which leaves room for 40 between 12 and 13
+abbrev rank : ℕ → ℕ
+rank n = cond (eqb n 40) 25 (n + n)
 
-precedes-place : (n m : ℕ) → precedes n m ≡ true → place n < place m
-precedes-place n m = go (eqb m 40) (eqb n 40) refl refl
+precedes-rank : (n m : ℕ) → precedes n m ≡ true → rank n < rank m
+precedes-rank n m = go (eqb m 40) (eqb n 40) refl refl
   where
     go : (a b : Bool) → eqb m 40 ≡ a → eqb n 40 ≡ b → cond a (leb n 12) (cond b (ltb 12 m) (ltb n m)) ≡ true → cond b 25 (n + n) < cond a 25 (m + m)
     go true true f g e = absurd (omega (arith, eqb-true n 40 g, leb-true n 12 e))
@@ -37,8 +38,8 @@ precedes-place n m = go (eqb m 40) (eqb n 40) refl refl
     go false true f g e = omega (arith, ltb-true 12 m e)
     go false false f g e = omega (arith, ltb-true n m e)
 
-place-precedes : (n m : ℕ) → place m ≤ place n → precedes n m ≡ false
-place-precedes n m = go (eqb m 40) (eqb n 40) refl refl
+rank-precedes : (n m : ℕ) → rank m ≤ rank n → precedes n m ≡ false
+rank-precedes n m = go (eqb m 40) (eqb n 40) refl refl
   where
     go : (a b : Bool) → eqb m 40 ≡ a → eqb n 40 ≡ b → cond a 25 (m + m) ≤ cond b 25 (n + n) → cond a (leb n 12) (cond b (ltb 12 m) (ltb n m)) ≡ false
     go true true f g h = lt-leb n 12 (omega (arith, eqb-true n 40 g))
@@ -46,13 +47,13 @@ place-precedes n m = go (eqb m 40) (eqb n 40) refl refl
     go false true f g h = le-ltb 12 m (omega arith)
     go false false f g h = le-ltb n m (omega arith)
 
-rises-above : (n : ℕ) (ts : List Test) → risesFrom n ts ≡ true → Each (λ (t : Test). place n < place (t .number)) ts
+rises-above : (n : ℕ) (ts : List Test) → risesFrom n ts ≡ true → Each (λ (t : Test). rank n < rank (t .number)) ts
 rises-above n [] e = tt
 rises-above n (t ∷ ts) e =
-    let h : place n < place (t .number) = precedes-place n (t .number) (and-left _ _ e) in
-    (h, weaker (place n) (place (t .number)) h ts (rises-above (t .number) ts (and-right (precedes n (t .number)) _ e)))
+    let h : rank n < rank (t .number) = precedes-rank n (t .number) (and-left _ _ e) in
+    (h, weaker (rank n) (rank (t .number)) h ts (rises-above (t .number) ts (and-right (precedes n (t .number)) _ e)))
   where
-    weaker : (a b : ℕ) → a < b → (us : List Test) → Each (λ (u : Test). b < place (u .number)) us → Each (λ (u : Test). a < place (u .number)) us
+    weaker : (a b : ℕ) → a < b → (us : List Test) → Each (λ (u : Test). b < rank (u .number)) us → Each (λ (u : Test). a < rank (u .number)) us
     weaker a b l [] g = tt
     weaker a b l (u ∷ us) g = (omega (arith, l, g .0), weaker a b l us (g .1))
 
@@ -60,12 +61,12 @@ pub first-foremost : (n : ℕ) (ts : List Test) → risesFrom n ts ≡ true → 
 first-foremost n [] e = tt
 first-foremost n (t ∷ ts) e = go (t .applies) refl (first-foremost (t .number) ts (and-right (precedes n (t .number)) _ e))
   where
-    behind : (us : List Test) → Each (λ (u : Test). place (t .number) < place (u .number)) us → Foremost (t .number) us
+    behind : (us : List Test) → Each (λ (u : Test). rank (t .number) < rank (u .number)) us → Foremost (t .number) us
     behind [] g = tt
-    behind (u ∷ us) g = (λ a. place-precedes (u .number) (t .number) (omega (arith, g .0)), behind us (g .1))
+    behind (u ∷ us) g = (λ a. rank-precedes (u .number) (t .number) (omega (arith, g .0)), behind us (g .1))
 
     go : (b : Bool) → t .applies ≡ b → Foremost (firstOf ts) ts → Foremost (cond b (t .number) (firstOf ts)) (t ∷ ts)
-    go true f g = (λ a. place-precedes (t .number) (t .number) (omega arith), behind ts (rises-above (t .number) ts (and-right (precedes n (t .number)) _ e)))
+    go true f g = (λ a. rank-precedes (t .number) (t .number) (omega arith), behind ts (rises-above (t .number) ts (and-right (precedes n (t .number)) _ e)))
     go false f g = (λ a. absurd (true≢false (sym a ∙ f)), g)
 
 -- 40 is the one exception
@@ -81,7 +82,11 @@ foremost-lowest n (t ∷ ts) d h = (λ a. go (eqb (t .number) 40) refl (ap (λ (
 pub calls-rise : (c : Call) (s : Session) → risesFrom 2 (callTests c s) ≡ true
 calls-rise c s = refl
 
--- none of a call's numbers is 0, which answers that it is accepted
+-- none of the numbers of a call's form is 0
+pub forms-positive : (c : Call) → Each (λ (t : Test). 1 ≤ t .number) (formTests c)
+forms-positive c = (omega arith, (omega arith, (omega arith, (omega arith, tt))))
+
+-- nor of a call's, where 0 says that it is accepted
 pub calls-positive : (c : Call) (s : Session) → Each (λ (t : Test). 1 ≤ t .number) (callTests c s)
 calls-positive c s = (omega arith, (omega arith, (omega arith, (omega arith, (omega arith, (omega arith, (omega arith, tt)))))))
 
@@ -103,6 +108,24 @@ unless-number (t ∷ ts) a = go (t .applies) (unless-number ts a)
     go : (b : Bool) → numberOf (unless ts a) ≡ firstOf ts → numberOf (cond b (refused (t .number)) (unless ts a)) ≡ cond b (t .number) (firstOf ts)
     go true h = refl
     go false h = h
+
+-- where the first number is 0, no test applies
+pub none-applies : (ts : List Test) → Each (λ (t : Test). 1 ≤ t .number) ts → firstOf ts ≡ 0 → Each (λ (t : Test). t .applies ≡ false) ts
+none-applies [] h e = tt
+none-applies (t ∷ ts) h e = go (t .applies) refl e (none-applies ts (h .1))
+  where
+    go : (b : Bool) → t .applies ≡ b → cond b (t .number) (firstOf ts) ≡ 0 → (firstOf ts ≡ 0 → Each (λ (u : Test). u .applies ≡ false) ts) →
+        (t .applies ≡ false) × Each (λ (u : Test). u .applies ≡ false) ts
+    go true f q ih = absurd (omega (arith, q, h .0))
+    go false f q ih = (f, ih q)
+
+-- and those after them decide
+pub unless-passed : {A : Type 0} (ts us : List Test) (a : A) → Each (λ (t : Test). t .applies ≡ false) ts → unless (ts ++ us) a ≡ unless us a
+unless-passed [] us a h = refl
+unless-passed (t ∷ ts) us a h = ap (λ (b : Bool). cond b (refused (t .number)) (unless (ts ++ us) a)) (h .0) ∙ unless-passed ts us a (h .1)
+
+pub form-fits : (c : Call) → firstOf (formTests c) ≡ 0 → FormFits c
+form-fits c e = form-passes c (none-applies (formTests c) (forms-positive c) e)
 
 pub accept-number : (c : Call) (s : Session) → numberOf (accept c s) ≡ firstOf (callTests c s)
 accept-number c s = unless-number (callTests c s) (accepted c s)

@@ -1,5 +1,5 @@
--- A map and its unmap, in either order, restore the value of every target present at both, if no call between them acts on it (S-6): of
--- one-at-a-time processing.
+-- A map and its unmap, in either order, restore the value of every target present at both, if no other call from the first on acts on it
+-- (S-6): of one-at-a-time processing.
 -- Assumes nothing.
 use mathlib.Core.Path.{_≡_, refl, sym, _∙_, ap}
 use Prim.Native.Nat.{ℕ, suc, _≤_}
@@ -19,8 +19,7 @@ use Rattle.graph.specs.KeyLists.{contains}
 use Rattle.graph.specs.Calls.{Call, add, map, link, unlink, sum, top, pick, near, unmap, targetsOf}
 use Rattle.graph.specs.Nodes.{Node, Op, actOn, actBy, visitNode, visitOp}
 use Rattle.graph.specs.OneAtATime.{Labelled, World, operation, labelled, passNodes, process, processFrom, oneAtATime}
-use Rattle.graph.specs.Valid.{Each}
-use Rattle.graph.specs.TakenBack.{TakesBack, unmapAfter, unmapBefore, actsOnValue, valueAt, TakenBack, withPair, Restores}
+use Rattle.graph.specs.TakenBack.{MapAndUnmapCalls, mapCallFirst, unmapCallFirst, actsOnValue, valueAt, NoneActs, withPair, TakenBack, Restores}
 use Rattle.graph.specs.CallResults.{nodesAfter}
 use Rattle.graph.proofs.Striking.{contains-strike}
 use Rattle.graph.proofs.Meeting.{visit-key}
@@ -78,8 +77,8 @@ module _ (k v : ℕ) where
   keeps-operation : (a : Act) (h : ℕ) (ts : List ℕ) → valueBy k (op a h ts []) v ≡ v → (l : ℕ) (x : World) → valueAt k (x .nodes) ≡ some v → valueAt k ((process (operation a h ts l) x) .nodes) ≡ some v
   keeps-operation a h ts s l x e = pass-value k (op a h ts (l ∷ [])) (x .nodes) v e ∙ ap some s
 
-  keeps-unread : (a : Act) (h : ℕ) (ts : List ℕ) → newValue a v ≡ v → (l : ℕ) (x : World) → valueAt k (x .nodes) ≡ some v → valueAt k ((process (operation a h ts l) x) .nodes) ≡ some v
-  keeps-unread a h ts s = keeps-operation a h ts (go (contains k ts))
+  keeps-unchanged : (a : Act) (h : ℕ) (ts : List ℕ) → newValue a v ≡ v → (l : ℕ) (x : World) → valueAt k (x .nodes) ≡ some v → valueAt k ((process (operation a h ts l) x) .nodes) ≡ some v
+  keeps-unchanged a h ts s = keeps-operation a h ts (go (contains k ts))
     where
       go : (b : Bool) → cond b (newValue a v) v ≡ v
       go true = s
@@ -88,44 +87,50 @@ module _ (k v : ℕ) where
   keeps : (c : Call) → actsOnValue k c ≡ false → Keeps c
   keeps (add w) f l x m e = ap (λ (b : Bool). cond b (some w) (valueAt k (x .nodes))) (ne-eqb (suc (length (x .nodes))) k (λ q. omega (arith, at-most k (x .nodes) v m e, q))) ∙ e
   keeps (map a b ts) f l x m e = keeps-operation _ 0 ts (ap (λ (t : Bool). cond t (applied (record { a = a; b = b }) v) v) f) l x e
-  keeps (link j ts) f l x m e = keeps-unread _ 0 ts refl l x e
-  keeps (unlink j ts) f l x m e = keeps-unread _ 0 ts refl l x e
-  keeps (sum s ts) f l x m e = keeps-unread _ s ts refl l x e
-  keeps (top s ts) f l x m e = keeps-unread _ s ts refl l x e
-  keeps (pick s ts) f l x m e = keeps-unread _ s ts refl l x e
-  keeps (near j s ts) f l x m e = keeps-unread _ s ts refl l x e
+  keeps (link j ts) f l x m e = keeps-unchanged _ 0 ts refl l x e
+  keeps (unlink j ts) f l x m e = keeps-unchanged _ 0 ts refl l x e
+  keeps (sum s ts) f l x m e = keeps-unchanged _ s ts refl l x e
+  keeps (top s ts) f l x m e = keeps-unchanged _ s ts refl l x e
+  keeps (pick s ts) f l x m e = keeps-unchanged _ s ts refl l x e
+  keeps (near j s ts) f l x m e = keeps-unchanged _ s ts refl l x e
   keeps (unmap a b ts) f l x m e = keeps-operation _ 0 ts (ap (λ (t : Bool). cond t (applied (inverse (record { a = a; b = b })) v) v) f) l x e
 
--- a map of the value, after calls that leave it
-module _ (k : ℕ) (ts : List ℕ) (t : contains k ts ≡ true) where
-  mapped : (f : Affine) (v l : ℕ) (x : World) → valueAt k (x .nodes) ≡ some v → valueAt k ((process (operation (Map f) 0 ts l) x) .nodes) ≡ some (applied f v)
-  mapped f v l x e = pass-value k (op (Map f) 0 ts (l ∷ [])) (x .nodes) v e ∙ ap (λ (b : Bool). some (cond b (applied f v) v)) t
+  keeps-all : (l : ℕ) (cs : List Call) (x : World) → Made (x .nodes) → NoneActs k cs → valueAt k (x .nodes) ≡ some v → valueAt k ((processFrom l cs x) .nodes) ≡ some v
+  keeps-all l [] x m h e = e
+  keeps-all l (c ∷ cs) x m h e = keeps-all (suc l) cs (process (labelled c l) x) (made-process c l x m) (h .1) (keeps c (h .0) l x m e)
 
-  mapped-last : (d : Call) (f : Affine) → ((l : ℕ) → labelled d l ≡ operation (Map f) 0 ts l) → (v l : ℕ) (between : List Call) (x : World) → Made (x .nodes) → Each (λ e. actsOnValue k e ≡ false) between →
-      valueAt k (x .nodes) ≡ some v → valueAt k ((processFrom l (between ++ (d ∷ [])) x) .nodes) ≡ some (applied f v)
-  mapped-last d f is v l [] x m h e = ap (λ (y : Labelled). valueAt k ((process y x) .nodes)) (is l) ∙ mapped f v l x e
-  mapped-last d f is v l (c ∷ cs) x m h e = mapped-last d f is v (suc l) cs (process (labelled c l) x) (made-process c l x m) (h .1) (keeps k v c (h .0) l x m e)
+-- a map of the value, between calls that leave it
+module _ (k : ℕ) (d : Call) (t : contains k (targetsOf d) ≡ true) (f : Affine) (is : (l : ℕ) → labelled d l ≡ operation (Map f) 0 (targetsOf d) l) where
+  mapped : (v l : ℕ) (x : World) → valueAt k (x .nodes) ≡ some v → valueAt k ((process (labelled d l) x) .nodes) ≡ some (applied f v)
+  mapped v l x e =
+      ap (λ (y : Labelled). valueAt k ((process y x) .nodes)) (is l)
+      ∙ pass-value k (op (Map f) 0 (targetsOf d) (l ∷ [])) (x .nodes) v e
+      ∙ ap (λ (b : Bool). some (cond b (applied f v) v)) t
+
+  mapped-among : (v l : ℕ) (between later : List Call) (x : World) → Made (x .nodes) → NoneActs k between → NoneActs k later →
+      valueAt k (x .nodes) ≡ some v → valueAt k ((processFrom l (between ++ (d ∷ later)) x) .nodes) ≡ some (applied f v)
+  mapped-among v l [] later x m h g e = keeps-all k (applied f v) (suc l) later (process (labelled d l) x) (made-process d l x m) g (mapped v l x e)
+  mapped-among v l (c ∷ cs) later x m h g e = mapped-among v (suc l) cs later (process (labelled c l) x) (made-process c l x m) (h .1) g (keeps k v c (h .0) l x m e)
 
 -- THE PAIR
-module _ (k : ℕ) (before between : List Call) (h : Each (λ e. actsOnValue k e ≡ false) between) where
-  both : (c d : Call) (f g : Affine) → ((l : ℕ) → labelled c l ≡ operation (Map f) 0 (targetsOf c) l) → ((l : ℕ) → labelled d l ≡ operation (Map g) 0 (targetsOf d) l) →
-      contains k (targetsOf c) ≡ true → contains k (targetsOf d) ≡ true → (v : ℕ) → applied g (applied f v) ≡ v → valueAt k (nodesAfter before) ≡ some v → valueAt k (nodesAfter (withPair before c between d)) ≡ some v
-  both c d f g ic id tc td v r e =
-      let l : ℕ = suc (length before) in
-      let x : World = oneAtATime before in
-      let y : World = process (labelled c l) x in
-      let once : valueAt k (y .nodes) ≡ some (applied f v) = ap (λ (z : Labelled). valueAt k ((process z x) .nodes)) (ic l) ∙ mapped k (targetsOf c) tc f v l x e in
-      ap (λ (z : World). valueAt k (z .nodes)) (oneAtATime-append before (c ∷ (between ++ (d ∷ []))))
-      ∙ mapped-last k (targetsOf d) td d g id (applied f v) (suc l) between y (made-process c l x (made before)) h once
-      ∙ ap some r
-
-pub restores : (a k : ℕ) (before : List Call) (c : Call) (between : List Call) (d : Call) → isOdd a ≡ true → TakenBack a k c between d → Restores k before c between d
-restores a k before c between d o t v small e = go c d (t .pair) (t .first) (t .second)
+pub restores : (a k : ℕ) (before : List Call) (c : Call) (between : List Call) (d : Call) (later : List Call) → isOdd a ≡ true → TakenBack a k c between d later →
+    Restores k before c between d later
+restores a k before c between d later o t v small e = go c d (t .pair) (t .first) (t .second)
   where
-    go : (c d : Call) → TakesBack a c d → contains k (targetsOf c) ≡ true → contains k (targetsOf d) ≡ true → valueAt k (nodesAfter (withPair before c between d)) ≡ some v
-    go (map _ _ _) (unmap _ _ _) (unmapAfter {b = b}) tc td =
+    both : (c d : Call) (f g : Affine) → ((l : ℕ) → labelled c l ≡ operation (Map f) 0 (targetsOf c) l) → ((l : ℕ) → labelled d l ≡ operation (Map g) 0 (targetsOf d) l) →
+        contains k (targetsOf c) ≡ true → contains k (targetsOf d) ≡ true → applied g (applied f v) ≡ v → valueAt k (nodesAfter (withPair before c between d later)) ≡ some v
+    both c d f g ic id tc td r =
+        let l : ℕ = suc (length before) in
+        let x : World = oneAtATime before in
+        let y : World = process (labelled c l) x in
+        ap (λ (z : World). valueAt k (z .nodes)) (oneAtATime-append before (c ∷ (between ++ (d ∷ later))))
+        ∙ mapped-among k d td g id (applied f v) (suc l) between later y (made-process c l x (made before)) (t .nothingElse) (t .nothingAfter) (mapped k c tc f ic v l x e)
+        ∙ ap some r
+
+    go : (c d : Call) → MapAndUnmapCalls a c d → contains k (targetsOf c) ≡ true → contains k (targetsOf d) ≡ true → valueAt k (nodesAfter (withPair before c between d later)) ≡ some v
+    go (map _ _ _) (unmap _ _ _) (mapCallFirst {b = b}) tc td =
         let m : Affine = record { a = a; b = b } in
-        both k before between (t .nothingElse) _ _ m (inverse m) (λ l. refl) (λ l. refl) tc td v (undone m v o small) e
-    go (unmap _ _ _) (map _ _ _) (unmapBefore {b = b}) tc td =
+        both _ _ m (inverse m) (λ l. refl) (λ l. refl) tc td (undone m v o small)
+    go (unmap _ _ _) (map _ _ _) (unmapCallFirst {b = b}) tc td =
         let m : Affine = record { a = a; b = b } in
-        both k before between (t .nothingElse) _ _ (inverse m) m (λ l. refl) (λ l. refl) tc td v (redone m v o small) e
+        both _ _ (inverse m) m (λ l. refl) (λ l. refl) tc td (redone m v o small)

@@ -12,7 +12,7 @@ use Rattle.graph.specs.declared.act.Act.{Act}
 use Rattle.graph.specs.Refusals.{Answer, refused, done, mapDone, Test, unless}
 use Rattle.graph.specs.Words.{modulus, areWords}
 use Rattle.graph.specs.KeyLists.{isKey, areKeys, above, rising, contains, count}
-use Rattle.graph.specs.Calls.{Call, add, map, link, unlink, sum, top, pick, near, unmap, numbersOf, operandsOf, targetsOf, lacksInverse}
+use Rattle.graph.specs.Calls.{Call, add, map, link, unlink, sum, top, pick, near, unmap, numbersOf, operandsOf, targetsOf, lacksInverse, formTests}
 use Rattle.graph.specs.OneAtATime.{isAdd, Labelled, addOf, opOf, operation, labelled}
 use Rattle.graph.specs.Nodes.{Op, Result, addResult}
 use Rattle.graph.specs.Sessions.{Station, Session, fresh, insert, store, labelsOfStations, labelsOfCalls, labelsOfResults, pending, live, addsIn}
@@ -263,7 +263,7 @@ pub record FormFits (c : Call) : Type 0 where
   pub keys : areKeys (operandsOf c ++ targetsOf c) ≡ true
   pub few : length (targetsOf c) ≤ 8
   pub rise : rising (targetsOf c) ≡ true
-  pub undone : lacksInverse c ≡ false
+  pub invertible : lacksInverse c ≡ false
 
 -- the facts of a call that is accepted: no test applied
 pub record Fits (c : Call) (s : Session) : Type 0 where
@@ -280,23 +280,27 @@ and-room : (a : Bool) (n : ℕ) → (a && leb 64 n) ≡ false → a ≡ true →
 and-room true n e h = leb-false 64 n e
 and-room false n e h = absurd (true≢false (sym h))
 
+pub form-passes : (c : Call) → Each (λ (t : Test). t .applies ≡ false) (formTests c) → FormFits c
+form-passes c h =
+    let targets : (leb (length (targetsOf c)) 8 && rising (targetsOf c)) ≡ true = not-false _ (h .1 .1 .0) in
+    record {
+      words = not-false _ (h .0);
+      keys = not-false _ (h .1 .0);
+      few = leb-true (length (targetsOf c)) 8 (and-left _ _ targets);
+      rise = and-right (leb (length (targetsOf c)) 8) _ targets;
+      invertible = h .1 .1 .1 .0;
+    }
+
 accept-fits : (c : Call) (s : Session) → Holds (λ t. Fits c s × (t ≡ accepted c s)) (accept c s)
-accept-fits c s = holds-unless (callTests c s) (accepted c s) (λ h.
-    let targets : (leb (length (targetsOf c)) 8 && rising (targetsOf c)) ≡ true = not-false _ (h .1 .1 .0) in (
-      record {
-        form = record {
-          words = not-false _ (h .0);
-          keys = not-false _ (h .1 .0);
-          few = leb-true (length (targetsOf c)) 8 (and-left _ _ targets);
-          rise = and-right (leb (length (targetsOf c)) 8) _ targets;
-          undone = h .1 .1 .1 .0;
-        };
-        room = and-room (isAdd c) _ (h .1 .1 .1 .1 .0);
-        free = leb-false 64 (length (live s)) (h .1 .1 .1 .1 .1 .0);
-        more = leb-false 65535 (s .last) (h .1 .1 .1 .1 .1 .1 .0);
-      },
-      refl,
-    ))
+accept-fits c s = holds-unless (callTests c s) (accepted c s) (λ h. (
+  record {
+    form = form-passes c (h .0, (h .1 .0, (h .1 .1 .0, (h .1 .1 .1 .0, tt))));
+    room = and-room (isAdd c) _ (h .1 .1 .1 .1 .0);
+    free = leb-false 64 (length (live s)) (h .1 .1 .1 .1 .1 .0);
+    more = leb-false 65535 (s .last) (h .1 .1 .1 .1 .1 .1 .0);
+  },
+  refl,
+))
 
 word : (v : ℕ) (vs : List ℕ) → areWords (v ∷ vs) ≡ true → v < modulus
 word v vs e = ltb-true v modulus (and-left _ _ e)

@@ -27,6 +27,10 @@ pub record Inverts (m n : Affine) : Type 0 where
   pub before : composed n m ≡ identity
   pub only : (o : Affine) → o .a < modulus → o .b < modulus → composed m o ≡ identity → o ≡ n
 
+-- "40 an even a": no map undoes m
+abbrev pub LacksInverse : Affine → Type 0
+LacksInverse m = (n : Affine) → composed m n ≡ identity → ⊥
+
 -- "A map and its unmap, in either order": the acts of the operations that they become
 pub data MapAndUnmap (m : Affine) : Act → Act → Type 0 where
   mapFirst : MapAndUnmap m (Map m) (Map (inverse m))
@@ -39,10 +43,10 @@ FusedToIdentity o q =
     mayFuse o q ≡ true
     → fuseOps o q ≡ done ((record { act = Map identity; held = 0; targets = o .targets; labels = o .labels ++ q .labels } ∷ []) ∷ [])
 
--- "A map and its unmap, in either order", as calls: of the same numbers, each with targets of its own
-pub data TakesBack (a : ℕ) : Call → Call → Type 0 where
-  unmapAfter : {b : ℕ} {ts us : List ℕ} → TakesBack a (map a b ts) (unmap a b us)
-  unmapBefore : {b : ℕ} {ts us : List ℕ} → TakesBack a (unmap a b ts) (map a b us)
+-- the same of calls: they have the same numbers, and each has targets of its own
+pub data MapAndUnmapCalls (a : ℕ) : Call → Call → Type 0 where
+  mapCallFirst : {b : ℕ} {ts us : List ℕ} → MapAndUnmapCalls a (map a b ts) (unmap a b us)
+  unmapCallFirst : {b : ℕ} {ts us : List ℕ} → MapAndUnmapCalls a (unmap a b ts) (map a b us)
 
 -- does the call act on the value of the node with this key, if there is one?
 abbrev pub actsOnValue : ℕ → Call → Bool
@@ -61,19 +65,24 @@ abbrev pub valueAt : ℕ → List Node → Option ℕ
 valueAt k [] = none
 valueAt k (n ∷ ns) = cond (eqb (n .key) k) (some (n .value)) (valueAt k ns)
 
--- k is a target of the two calls c and d, and "nothing else acting on the targets between them" acts on its value
-pub record TakenBack (a k : ℕ) (c : Call) (between : List Call) (d : Call) : Type 0 where
-  pub pair : TakesBack a c d
+abbrev pub NoneActs : ℕ → List Call → Type 0
+NoneActs k cs = Each (λ e. actsOnValue k e ≡ false) cs
+
+-- c and d, with calls before, between and after them
+abbrev pub withPair : (before : List Call) (c : Call) (between : List Call) (d : Call) (later : List Call) → List Call
+withPair before c between d later = before ++ (c ∷ (between ++ (d ∷ later)))
+
+-- c and d are a map and its unmap, k is a target of both, and no call between them acts on its value: "nothing else acting on the targets
+-- between them". Nor does one after d
+pub record TakenBack (a k : ℕ) (c : Call) (between : List Call) (d : Call) (later : List Call) : Type 0 where
+  pub pair : MapAndUnmapCalls a c d
   pub first : contains k (targetsOf c) ≡ true
   pub second : contains k (targetsOf d) ≡ true
-  pub nothingElse : Each (λ e. actsOnValue k e ≡ false) between
+  pub nothingElse : NoneActs k between
+  pub nothingAfter : NoneActs k later
 
--- c and d, with these calls before and between them
-abbrev pub withPair : (before : List Call) (c : Call) (between : List Call) (d : Call) → List Call
-withPair before c between d = before ++ (c ∷ (between ++ (d ∷ [])))
-
--- "restore the value of every target present at both": where node k is there before c, its value after d is what it was, any 32-bit
+-- "restore the value of every target present at both": where node k is there before c, its value at the end is what it was, any 32-bit
 -- number
-abbrev pub Restores : ℕ → (before : List Call) (c : Call) (between : List Call) (d : Call) → Type 0
-Restores k before c between d =
-    (v : ℕ) → v < modulus → valueAt k (nodesAfter before) ≡ some v → valueAt k (nodesAfter (withPair before c between d)) ≡ some v
+abbrev pub Restores : ℕ → (before : List Call) (c : Call) (between : List Call) (d : Call) (later : List Call) → Type 0
+Restores k before c between d later =
+    (v : ℕ) → v < modulus → valueAt k (nodesAfter before) ≡ some v → valueAt k (nodesAfter (withPair before c between d later)) ≡ some v

@@ -134,7 +134,7 @@ by-tests f true true i w ea eb = rw (w, ea, eb, i)
 by-tests f true false i w ea eb = rw (w, ea, eb)
 by-tests f false b i w ea eb = rw (w, ea)
 
--- the answer to a call of 32-bit numbers, but for an unmap that is 40
+-- the answer to a call of 32-bit numbers, but for an unmap of an even a
 answered : (f : Call) → lacksInverse f ≡ false → Below (callNumbers f) → callAnswer f ≡ cond (areKeys (operandsOf f ++ targetsOf f)) (cond (leb (length (targetsOf f)) 8 && rising (targetsOf f)) (callRead f) (refusedCall 12)) (refusedCall 11)
 answered f i w = by-tests f (areKeys (operandsOf f ++ targetsOf f)) (leb (length (targetsOf f)) 8 && rising (targetsOf f)) i (below-words (callNumbers f) w) refl refl
 

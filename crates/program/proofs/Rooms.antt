@@ -6,15 +6,13 @@ use mathlib.Core.List.{List, [], _∷_, _++_}
 use Prim.Native.Nat.{ℕ, suc, _+_, _*_, _≤_, _<_}
 use native.Mathlib.Omega.{arith}
 use lib.ListN.{length, length-append}
-use Rattle.text.specs.Text.{ascii, decimal, further, commas, texts}
+use Rattle.text.specs.Text.{ascii, texts}
 use Rattle.text.proofs.Decimals.{len-ten}
 use Rattle.graph.specs.Words.{modulus}
-use Rattle.graph.specs.KeyLists.{isKey, areKeys}
+use Rattle.graph.specs.KeyLists.{areKeys}
 use Rattle.graph.specs.Nodes.{Node, Result}
 use Rattle.graph.specs.Sessions.{Station, Session, graphOf, labelsOfResults, pending, live}
 use Rattle.graph.specs.Valid.{Each, ValidNode, ValidStation, ValidResult, KeysFall, Given, Valid}
-use Rattle.graph.proofs.Answers.{and-left, and-right}
-use Rattle.graph.proofs.KeyLaws.{key-high}
 use Rattle.graph.proofs.Labels.{length-labels}
 use Rattle.graph.proofs.Limits.{each-right}
 use Rattle.lines.proofs.Lengths.{commas-short}

@@ -15,8 +15,8 @@ use Rattle.runs.specs.Runs.{Sent, Runs, opening, acceptedLines, TextsOf,
 use Rattle.runs.proofs.Demand3.{to}
 use Rattle.runs.proofs.SameEnd.{texts-same}
 
-pub accepted-fit : (es : List Sent) (h : Runs opening es) (cs : List Call) → TextsOf (acceptedLines es) cs → Each FormFits cs
-accepted-fit es h cs t =
+pub lines-formed : (es : List Sent) (h : Runs opening es) (cs : List Call) → TextsOf (acceptedLines es) cs → Each FormFits cs
+lines-formed es h cs t =
     subst (Each FormFits) (texts-same refl (to es h .texts) t)
     (subst (λ (x : EventRun). Each FormFits (x .accepted)) (to es h .moved) (accepted-formed (to es h .made)))
 
@@ -25,4 +25,4 @@ lines-short noLine h = tt
 lines-short (aLine {c = c} i t) h = (omega (arith, ap length (i .same), call-short c (h .0)), lines-short t (h .1))
 
 pub accepted-short : (es : List Sent) → Runs opening es → Each (λ (line : List ℕ). length line ≤ 63) (acceptedLines es)
-accepted-short es h = lines-short (to es h .texts) (accepted-fit es h (to es h .calls) (to es h .texts))
+accepted-short es h = lines-short (to es h .texts) (lines-formed es h (to es h .calls) (to es h .texts))

@@ -13,13 +13,13 @@ use Rattle.graph.proofs.CountResults as counts
 use Rattle.graph.proofs.TopResult as tops
 use Rattle.runs.specs.Runs.{Sent, Runs, opening, acceptedLines, TextsOf}
 use Rattle.runs.specs.Demand.{ResultOf}
-use Rattle.runs.proofs.AcceptedForms.{accepted-fit}
+use Rattle.runs.proofs.AcceptedForms.{lines-formed}
 use Rattle.runs.proofs.OneResult.{call-meant}
 
 -- the accepted lines are the texts of these calls, of which c is one; its label is one above the number of those before it
 module _ (es : List Sent) (h : Runs opening es) (before later : List Call) (c : Call) (t : TextsOf (acceptedLines es) (before ++ (c ∷ later))) where
   few : length (targetsOf c) ≤ 8
-  few = each-right FormFits before (c ∷ later) (accepted-fit es h (before ++ (c ∷ later)) t) .0 .few
+  few = each-right FormFits before (c ∷ later) (lines-formed es h (before ++ (c ∷ later)) t) .0 .few
 
 module _ (es : List Sent) (h : Runs opening es) (before later : List Call) (k : ℕ) (ts : List ℕ) where
   pub link-result : TextsOf (acceptedLines es) (before ++ (link k ts ∷ later)) → (r : Result) → ResultOf es (suc (length before)) r → LinkResult before ts r

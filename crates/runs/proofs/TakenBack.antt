@@ -1,6 +1,6 @@
 -- A map and its unmap restore the value of every target present at both (S-6), of every list of lines sent to a fresh session: whatever
 -- the schedules of two lists that end with none pending, of which the one accepts the calls before the pair, and the other these, the
--- pair, and calls between that act on no value of the target.
+-- pair, and calls between and after that do not act on the target's value.
 -- Assumes nothing.
 use mathlib.Core.Path.{_≡_, refl, sym, _∙_, ap, subst}
 use Prim.Native.Nat.{ℕ, _<_}
@@ -16,7 +16,7 @@ use Rattle.graph.specs.Nodes.{Node}
 use Rattle.graph.specs.Sessions.{Station, Session, graphOf}
 use Rattle.graph.specs.Valid.{Each, ValidStation}
 use Rattle.graph.specs.CallResults.{nodesAfter}
-use Rattle.graph.specs.TakenBack.{TakesBack, unmapAfter, unmapBefore, valueAt, TakenBack, withPair}
+use Rattle.graph.specs.TakenBack.{MapAndUnmapCalls, mapCallFirst, unmapCallFirst, valueAt, withPair, TakenBack}
 use Rattle.graph.proofs.Limits.{each-right}
 use Rattle.graph.proofs.Validity.{FormFits}
 use Rattle.graph.proofs.TakenBack.{restores}
@@ -25,7 +25,7 @@ use Rattle.runs.specs.Runs.{Sent, Runs, opening, after, acceptedLines, T
 use Rattle.runs.specs.Demand.{NonePending}
 use Rattle.runs.proofs.Demand3.{demand3}
 use Rattle.runs.proofs.SameEnd.{texts-same}
-use Rattle.runs.proofs.AcceptedForms.{accepted-fit}
+use Rattle.runs.proofs.AcceptedForms.{lines-formed}
 
 -- an image has one graph, that of one-at-a-time processing where none is pending
 graph-is : (es : List Sent) → Runs opening es → NonePending es → (cs : List Call) → TextsOf (acceptedLines es) cs → (ns : List Node) → GraphOf (after opening es) ns → ns ≡ nodesAfter cs
@@ -46,19 +46,22 @@ value-small k v (s ∷ ss) h e = go (eqb (s .node .key) k) e (value-small k v ss
     go false f ih = ih f
 
 -- an unmap that was accepted has an odd a
-odd-accepted : (a : ℕ) (before : List Call) (c : Call) (between : List Call) (d : Call) → TakesBack a c d → Each FormFits (withPair before c between d) → isOdd a ≡ true
-odd-accepted a before c between d p all = go p (each-right FormFits before (c ∷ (between ++ (d ∷ []))) all .0) (each-right FormFits between (d ∷ []) (each-right FormFits before (c ∷ (between ++ (d ∷ []))) all .1) .0)
+odd-accepted : (a : ℕ) (before : List Call) (c : Call) (between : List Call) (d : Call) (later : List Call) → MapAndUnmapCalls a c d → Each FormFits (withPair before c between d later) → isOdd a ≡ true
+odd-accepted a before c between d later p all =
+    let from = each-right FormFits before (c ∷ (between ++ (d ∷ later))) all in
+    go p (from .0) (each-right FormFits between (d ∷ later) (from .1) .0)
   where
-    go : {c d : Call} → TakesBack a c d → FormFits c → FormFits d → isOdd a ≡ true
-    go unmapAfter f g = not-false (isOdd a) (g .undone)
-    go unmapBefore f g = not-false (isOdd a) (f .undone)
+    go : {c d : Call} → MapAndUnmapCalls a c d → FormFits c → FormFits d → isOdd a ≡ true
+    go mapCallFirst f g = not-false (isOdd a) (g .invertible)
+    go unmapCallFirst f g = not-false (isOdd a) (f .invertible)
 
 module _ (es fs : List Sent) (h : Runs opening es) (g : Runs opening fs) (p : NonePending es) (q : NonePending fs) where
-  pub values-restored : (before : List Call) (c : Call) (between : List Call) (d : Call) → TextsOf (acceptedLines es) before → TextsOf (acceptedLines fs) (withPair before c between d) →
-      (a k : ℕ) → TakenBack a k c between d → (ns ms : List Node) → GraphOf (after opening es) ns → GraphOf (after opening fs) ms →
+  pub values-restored : (before : List Call) (c : Call) (between : List Call) (d : Call) (later : List Call) →
+      TextsOf (acceptedLines es) before → TextsOf (acceptedLines fs) (withPair before c between d later) →
+      (a k : ℕ) → TakenBack a k c between d later → (ns ms : List Node) → GraphOf (after opening es) ns → GraphOf (after opening fs) ms →
       (v : ℕ) → valueAt k ns ≡ some v → valueAt k ms ≡ some v
-  values-restored before c between d t u a k pair ns ms x y v e =
+  values-restored before c between d later t u a k pair ns ms x y v e =
       let small : v < modulus = value-small k v (x .session .stations) (x .holds .valid .stations) (ap (valueAt k) (x .graph) ∙ e) in
-      let odd : isOdd a ≡ true = odd-accepted a before c between d (pair .pair) (accepted-fit fs g (withPair before c between d) u) in
-      ap (valueAt k) (graph-is fs g q (withPair before c between d) u ms y)
-      ∙ restores a k before c between d odd pair v small (ap (valueAt k) (sym (graph-is es h p before t ns x)) ∙ e)
+      let odd : isOdd a ≡ true = odd-accepted a before c between d later (pair .pair) (lines-formed fs g (withPair before c between d later) u) in
+      ap (valueAt k) (graph-is fs g q (withPair before c between d later) u ms y)
+      ∙ restores a k before c between d later odd pair v small (ap (valueAt k) (sym (graph-is es h p before t ns x)) ∙ e)

@@ -1,16 +1,14 @@
 -- A call line of each kind is accepted as the call that it holds.
 -- Assumes nothing.
-use mathlib.Core.Path.{_≡_, refl, sym, _∙_, ap, subst}
+use mathlib.Core.Path.{_≡_, sym, _∙_, ap, subst}
 use Prim.Native.Nat.{ℕ, suc, _≤_, _<_}
 use native.Mathlib.Omega.{arith}
-use mathlib.Core.Bool.{Bool, true, false, cond, not, _&&_}
+use mathlib.Core.Bool.{true}
 use mathlib.Core.List.{List, _∷_, _++_}
 use lib.Dec.{leb}
-use lib.ListN.{length}
 use borrow.Author.Tests.{leb-true}
-use Rattle.graph.specs.Calls.{Call, numbersOf, operandsOf, targetsOf, lacksInverse, formTests}
-use Rattle.graph.specs.Words.{areWords}
-use Rattle.graph.specs.KeyLists.{isKey, areKeys, rising}
+use Rattle.graph.specs.Calls.{Call, operandsOf, targetsOf, formTests}
+use Rattle.graph.specs.KeyLists.{isKey, areKeys}
 use Rattle.graph.specs.declared.act.Act.the-variants.{Map}
 use Rattle.graph.specs.declared.affine.Affine.{Affine}
 use Rattle.graph.specs.Affine.{inverse}
@@ -18,6 +16,7 @@ use Rattle.graph.specs.OneAtATime.{Labelled, operation, labelled}
 use Rattle.graph.specs.RefusalOrder.{firstOf}
 use Rattle.graph.specs.Acceptance.{accept}
 use Rattle.graph.proofs.Answers.{and-left, and-right}
+use Rattle.graph.proofs.Sequences.{form-fits}
 use Rattle.records.proofs.Codecs.{Bytes}
 use Rattle.valid.specs.Inner.Decoded.{sessionOf}
 use Rattle.state.specs.Inner.State.{flatIn}
@@ -43,16 +42,8 @@ pub unmap-as : (k : CallKind) (x y : ℕ) (ts : List ℕ) → k ≡ Unmap → (m
 unmap-as k x y ts e m i l = labelled-as k Unmap x y ts e l ∙ ap (λ (f : Affine). operation (Map f) 0 ts l) (sym i)
 
 -- a good call's key is at most 64
-keys-good : (c : Call) → firstOf (formTests c) ≡ 0 → areKeys (operandsOf c ++ targetsOf c) ≡ true
-keys-good c e = go (not (areWords (numbersOf c ++ (operandsOf c ++ targetsOf c)))) (areKeys (operandsOf c ++ targetsOf c)) (not (leb (length (targetsOf c)) 8 && rising (targetsOf c))) (lacksInverse c) e
-  where
-    go : (a b d i : Bool) → _≡_ {A = ℕ} (cond a 10 (cond (not b) 11 (cond d 12 (cond i 40 0)))) 0 → b ≡ true
-    go true b d i e = absurd (omega arith)
-    go false true d i e = refl
-    go false false d i e = absurd (omega arith)
-
 pub key-small : (c kind : CallKind) (x y : ℕ) (us : List ℕ) (k : ℕ) (ts : List ℕ) → c ≡ kind → firstOf (formTests (callForm c x y us)) ≡ 0 → operandsOf (callForm kind x y us) ++ targetsOf (callForm kind x y us) ≡ k ∷ ts → k < 256
 key-small c kind x y us k ts e g q =
-    let all : areKeys (k ∷ ts) ≡ true = subst (λ (xs : List ℕ). areKeys xs ≡ true) (ap (λ (j : CallKind). operandsOf (callForm j x y us) ++ targetsOf (callForm j x y us)) e ∙ q) (keys-good (callForm c x y us) g) in
+    let all : areKeys (k ∷ ts) ≡ true = subst (λ (xs : List ℕ). areKeys xs ≡ true) (ap (λ (j : CallKind). operandsOf (callForm j x y us) ++ targetsOf (callForm j x y us)) e ∙ q) (form-fits (callForm c x y us) g .keys) in
     let high : k ≤ 64 = leb-true k 64 (and-right (leb 1 k) (leb k 64) (and-left (isKey k) (areKeys ts) all)) in
     omega arith

@@ -159,7 +159,7 @@ Starts kind = (kind ≡ Sum) ⊎ ((kind ≡ Top) ⊎ (kind ≡ Pick))
 abbrev pub callMade : CallKind → ℕ → ℕ → List ℕ → CallLine
 callMade kind x y ts = cond (areKeys ts) (cond (leb (length ts) 8 && rising ts) (callLine kind x y ts) (refusedCall 12)) (refusedCall 11)
 
--- the answer to the unmap of a map that was not refused: 40, else the call
+-- the answer to the unmap of a map that was not refused: 40 for an even a, else the call
 abbrev pub unmapMade : ℕ → ℕ → Keys → CallLine
 unmapMade a b to = cond (isOdd a) (record { answer = AnswerIs Unmap a b; to = to }) (refusedCall 40)
 
