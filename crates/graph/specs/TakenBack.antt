@@ -43,7 +43,7 @@ FusedToIdentity o q =
     mayFuse o q ≡ true
     → fuseOps o q ≡ done ((record { act = Map identity; held = 0; targets = o .targets; labels = o .labels ++ q .labels } ∷ []) ∷ [])
 
--- the same of calls: they have the same numbers, and each has targets of its own
+-- "A map and its unmap, in either order", as calls: they have the same numbers, and each has targets of its own
 pub data MapAndUnmapCalls (a : ℕ) : Call → Call → Type 0 where
   mapCallFirst : {b : ℕ} {ts us : List ℕ} → MapAndUnmapCalls a (map a b ts) (unmap a b us)
   unmapCallFirst : {b : ℕ} {ts us : List ℕ} → MapAndUnmapCalls a (unmap a b ts) (map a b us)
@@ -60,13 +60,14 @@ actsOnValue k (pick s ts) = false
 actsOnValue k (near j s ts) = false
 actsOnValue k (unmap a b ts) = contains k ts
 
+-- none of the calls does
+abbrev pub NoneActs : ℕ → List Call → Type 0
+NoneActs k cs = Each (λ e. actsOnValue k e ≡ false) cs
+
 -- the value of the node with this key
 abbrev pub valueAt : ℕ → List Node → Option ℕ
 valueAt k [] = none
 valueAt k (n ∷ ns) = cond (eqb (n .key) k) (some (n .value)) (valueAt k ns)
-
-abbrev pub NoneActs : ℕ → List Call → Type 0
-NoneActs k cs = Each (λ e. actsOnValue k e ≡ false) cs
 
 -- c and d, with calls before, between and after them
 abbrev pub withPair : (before : List Call) (c : Call) (between : List Call) (d : Call) (later : List Call) → List Call
