@@ -1,18 +1,22 @@
 -- The first task rule that holds for one operation, case by case, at the station with key 1, the last, or with key 2.
 -- Assumes nothing.
 use mathlib.Core.Path.{_≡_, refl}
-use mathlib.Core.Bool.{true, false}
+use mathlib.Core.Bool.{Bool, true, false}
 use mathlib.Core.List.{List, [], _∷_}
 use Prim.Native.Nat.{ℕ}
 use Rattle.graph.specs.declared.act.Act.{Act}
 use Rattle.graph.specs.declared.act.Act.the-variants as act
 use Rattle.graph.specs.declared.task.TaskRule.the-variants.{Map, Fold, Complete, Last, Propagate}
 use Rattle.graph.specs.Affine.{identity}
+use Rattle.graph.specs.Targets.{these, all}
 use Rattle.graph.specs.Nodes.{Op}
 use Rattle.graph.specs.Tasks.{ruleFor, unitPropagates}
 
 abbrev op : Act → List ℕ → Op
-op a targets = record { act = a; held = 0; targets = targets; labels = 1 ∷ [] }
+op a targets = record { act = a; held = 0; targets = these targets; labels = 1 ∷ [] }
+
+abbrev allCall : Act → Bool → Op
+allCall a mark = record { act = a; held = 0; targets = all mark; labels = 1 ∷ [] }
 
 -- map, and link and unlink with it
 pub map-here : ruleFor (op (act.Map identity) (1 ∷ [])) 1 true ≡ Map
@@ -44,3 +48,13 @@ last-with-a-target = refl
 
 pub propagates : ruleFor (op act.Sum (1 ∷ [])) 2 false ≡ Propagate
 propagates = refl
+
+-- an all-call (S-3): it acts, then it finishes at the last station and moves on from any other
+pub all-acts : ruleFor (allCall act.Sum false) 1 true ≡ Fold
+all-acts = refl
+
+pub all-last : ruleFor (allCall act.Sum true) 1 true ≡ Last
+all-last = refl
+
+pub all-propagates : ruleFor (allCall act.Sum true) 2 false ≡ Propagate
+all-propagates = refl

@@ -13,7 +13,8 @@ use lib.ListN.{length, length-append}
 use borrow.Author.Tests.{eqb-true, eqb-false, ne-eqb, eq-eqb}
 use Rattle.graph.specs.Refusals.{Answer, refused, done}
 use Rattle.graph.specs.KeyLists.{contains, count, sameKeys}
-use Rattle.graph.specs.Calls.{Call, targetsOf}
+use Rattle.graph.specs.Targets.{To, named, whole, listedIn, untouched}
+use Rattle.graph.specs.Calls.{Call, toOf}
 use Rattle.graph.specs.Nodes.{Node, Op, Result, visitOp, stored}
 use Rattle.graph.specs.OneAtATime.{Labelled, labelled, World, passOp, process, processFrom, oneAtATime}
 use Rattle.graph.specs.Sessions.{Station, Session, graphOf, labelsOfResults, pending, live}
@@ -22,7 +23,7 @@ use Rattle.graph.specs.Acceptance.{accepted, accept, Claimed, claim}
 use Rattle.graph.specs.Drain.{backmost, drain}
 use Rattle.graph.specs.Valid.{Each, Valid}
 use Rattle.graph.specs.EventRuns.{Event, calls, steps, drains, claims, EventRun, onCall, onStep, onDrain, onClaim, events, start, run, SameSessionResult, SessionDemand3, SameOutcome}
-use Rattle.graph.specs.Counts.{quotedSteps, resultOfLabel}
+use Rattle.graph.specs.Counts.{quotedSteps, quoteFor, quoted, resultOfLabel}
 use Rattle.graph.proofs.Answers.{Holds, holds, holds-at, and-left, and-right, eqb-same}
 use Rattle.graph.proofs.Striking.{same-eq, same-refl}
 use Rattle.graph.proofs.Effects.{costs}
@@ -30,7 +31,7 @@ use Rattle.graph.proofs.Limits.{each-append}
 use Rattle.graph.proofs.Outcome.{Seen, plus, seen-path, sum, through, admitting, outcome, seen, processSeen, sum-append, process-seen, process-plus, outcome-accepted}
 use Rattle.graph.proofs.OutcomeKept.{Same, step-same}
 use Rattle.graph.proofs.Labels.{byLabel, is, total, total-append, total-is, total-results, count-out, visit-labels, live-total}
-use Rattle.graph.proofs.Weights.{weightOfCall, weightOfCalls, weightOf, Lighter, step-lighter}
+use Rattle.graph.proofs.Weights.{waitingTo, weightOfCall, weightOfCalls, weightOf, Lighter, step-lighter}
 use Rattle.graph.proofs.Validity.{valid-fresh, Stepped, step-valid, claim-valid, ValidClaim, Accepts, accept-valid, FormFits, Fits, Sort, adds, operates, sort}
 use Rattle.graph.proofs.Drains.{no-units, pending-resting, valid-progress, work-cons, work-append, drain-drains, drain-ends}
 
@@ -64,7 +65,7 @@ plain-process c n x h = go (sort c (suc n))
     go : Sort c (suc n) → Plain (suc n) (process (labelled c (suc n)) x)
     go (adds v i e) = rw e (plain-snoc n x _ _ h refl)
     go (operates a v i e) =
-        let o : Op = record { act = a; held = v; targets = targetsOf c; labels = suc n ∷ [] } in
+        let o : Op = record { act = a; held = v; targets = untouched (toOf c); labels = suc n ∷ [] } in
         rw e (one o (passOp o (x .nodes)) _ (pass-labels o (x .nodes)))
 
 process-append : (l : ℕ) (bs cs : List Call) (x : World) → processFrom l (bs ++ cs) x ≡ processFrom (l + length bs) cs (processFrom l bs x)
@@ -82,7 +83,7 @@ oneAtATime-last cs c = oneAtATime-append cs (c ∷ [])
 record Good (x : EventRun) : Type 0 where
   valid : Valid (x .now)
   balance : (w : Result → ℕ) → plus (sum w (x .claimed)) (outcome w (x .now)) ≡ seen w (oneAtATime (x .accepted))
-  bound : quotedSteps (x .taken) + weightOf (x .now) ≤ 73 * length (x .accepted)
+  bound : quotedSteps (x .taken) + weightOf (x .now) ≤ quoted (x .accepted)
   labels : x .now .last ≡ length (x .accepted)
   plain : Plain (length (x .accepted)) (oneAtATime (x .accepted))
   formed : Each FormFits (x .accepted)
@@ -101,13 +102,34 @@ weight-last : (cs : List Labelled) (c : Labelled) → weightOfCalls (cs ++ (c �
 weight-last [] c = omega arith
 weight-last (d ∷ cs) c = omega (arith, weight-last cs c)
 
+quoted-last : (cs : List Call) (c : Call) → quoted (cs ++ (c ∷ [])) ≡ quoted cs + quoteFor (toOf c)
+quoted-last [] c = omega arith
+quoted-last (d ∷ cs) c = omega (arith, quoted-last cs c)
+
+-- so at most 129 for each call
+pub quoted-most : (cs : List Call) → quoted cs ≤ 129 * length cs
+quoted-most [] = omega arith
+quoted-most (c ∷ cs) = go (toOf c) (quoted-most cs)
+  where
+    go : (to : To) → quoted cs ≤ 129 * length cs → quoteFor to + quoted cs ≤ 129 * suc (length cs)
+    go (named ts) h = omega arith
+    go whole h = omega arith
+
 -- 73 = 65 + 8
-weight-call : (c : Call) (l : ℕ) → FormFits c → weightOfCall (labelled c l) ≤ 73
+quote-covers : (to : To) → length (listedIn to) ≤ 8 → waitingTo (untouched to) ≤ quoteFor to
+quote-covers (named ts) h = omega arith
+quote-covers whole h = omega arith
+
+quote-some : (to : To) → 1 ≤ quoteFor to
+quote-some (named ts) = omega arith
+quote-some whole = omega arith
+
+weight-call : (c : Call) (l : ℕ) → FormFits c → weightOfCall (labelled c l) ≤ quoteFor (toOf c)
 weight-call c l f = go (sort c l)
   where
-    go : Sort c l → weightOfCall (labelled c l) ≤ 73
-    go (adds v i e) = rw e (omega arith)
-    go (operates a h i e) = rw e (omega (arith, f .few))
+    go : Sort c l → weightOfCall (labelled c l) ≤ quoteFor (toOf c)
+    go (adds v i e) = rw e (quote-some (toOf c))
+    go (operates a h i e) = rw e (quote-covers (toOf c) (f .few))
 
 good-accepted : (c : Call) (x : EventRun) → Good x → Fits c (x .now) → Valid (accepted c (x .now)) → Good (onCall c x (done (accepted c (x .now))))
 good-accepted c x g f v =
@@ -122,7 +144,7 @@ good-accepted c x g f v =
           ∙ ap (processSeen w d) (g .balance w)
           ∙ sym (process-seen w d (oneAtATime (x .accepted)))
           ∙ ap (seen w) (ap (λ (k : ℕ). process (labelled c (suc k)) (oneAtATime (x .accepted))) (g .labels) ∙ sym (oneAtATime-last (x .accepted) c));
-      bound = omega (arith, g .bound, size, weight-call c (suc (s .last)) (f .form), weight-last (s .topStream) d);
+      bound = omega (arith, g .bound, quoted-last (x .accepted) c, weight-call c (suc (s .last)) (f .form), weight-last (s .topStream) d);
       labels = omega (arith, g .labels, size);
       plain = rw (oneAtATime-last (x .accepted) c, size) (plain-process c (length (x .accepted)) (oneAtATime (x .accepted)) (g .plain));
       formed = each-append FormFits (x .accepted) (c ∷ []) (g .formed) (f .form, tt);

@@ -11,19 +11,20 @@ use lib.ListN.{length, length-append}
 use borrow.Author.Tests.{ne-eqb}
 use Rattle.graph.specs.Refusals.{Answer, refused, done, mapDone}
 use Rattle.graph.specs.KeyLists.{isNil, contains}
-use Rattle.graph.specs.Nodes.{Node, Op, Result, hits}
+use Rattle.graph.specs.Targets.{Targets, these, all}
+use Rattle.graph.specs.Nodes.{Node, Op, Result, hits, nothingLeft}
 use Rattle.graph.specs.OneAtATime.{Labelled, addOf, opOf}
 use Rattle.graph.specs.Sessions.{Station, station, Session, labelsOfUnit, labelsOfUnits, labelsOfStations, labelsOfCalls, labelsOfResults, pending}
 use Rattle.graph.specs.Steps.{Step, admit, realise, move, finish, join, split, swap, fuse, step, anyHits}
 use Rattle.graph.specs.Allowed.{fromKey, anyFinishes, rule, allowed}
 use Rattle.graph.specs.Drain.{orHere, backmost, AfterStep, taking, orElse, drainStepAt, drainStep, Drained, drainOn, drainFor, enoughSteps, drain}
-use Rattle.graph.specs.Valid.{Each, ValidOp, ValidUnit, ValidStation, ValidCall, KeysFall, Valid}
+use Rattle.graph.specs.Valid.{Each, ValidRemaining, ValidOp, ValidUnit, ValidStation, ValidCall, KeysFall, Valid}
 use Rattle.graph.specs.Counts.{quotedSteps}
 use Rattle.graph.specs.EventRuns.{stepAll, SessionProgress}
 use Rattle.graph.proofs.Answers.{Holds, refuses, holds, holds-at, isDone, isDone-map, or-left, eqb-same}
 use Rattle.graph.proofs.Effects.{costs}
 use Rattle.graph.proofs.OutcomeKept.{Same, step-same}
-use Rattle.graph.proofs.Weights.{weightOfUnit, weightOfUnits, weightOfStations, weightOfCalls, weightOf, Lighter, step-lighter}
+use Rattle.graph.proofs.Weights.{weightTo, waitingTo, weightOfUnit, weightOfUnits, weightOfStations, weightOfCalls, weightOf, Lighter, step-lighter}
 use Rattle.graph.proofs.Validity.{Stepped, step-valid}
 use Rattle.graph.proofs.Verdicts.{step-done}
 
@@ -35,7 +36,7 @@ data Able (k : ℕ) (ss : List Station) : Type 0 where
   moves : rule (move k) ss ≡ true → Able k ss
 
 last-finishes : (n : Node) (o : Op) (os : List Op) → hits o n ≡ false → anyFinishes (o ∷ os) n true ≡ true
-last-finishes n o os e = rw e (go (isNil (o .targets)))
+last-finishes n o os e = rw e (go (nothingLeft o))
   where
     go : (b : Bool) → ((b || true) || anyFinishes os n true) ≡ true
     go true = refl
@@ -110,7 +111,7 @@ no-labels-stations (s ∷ ss) g e =
 no-labels-calls : (cs : List Labelled) → Each ValidCall cs → length (labelsOfCalls cs) ≡ 0 → cs ≡ []
 no-labels-calls [] g e = refl
 no-labels-calls (addOf l v ∷ cs) g e = absurd (omega arith)
-no-labels-calls (opOf o ∷ cs) g e = absurd (omega (arith, g .0 .named, length-append (o .labels) (labelsOfCalls cs)))
+no-labels-calls (opOf o ∷ cs) g e = absurd (omega (arith, g .0 .op .named, length-append (o .labels) (labelsOfCalls cs)))
 
 pub pending-resting : (s : Session) → Valid s → pending s ≡ [] → Resting s
 pending-resting s g e =
@@ -263,25 +264,34 @@ ends-for (suc n) s g h = go (drainStep s) refl (drain-took s) (ends-for n)
         let x = next s g t k in
         ih (t .to) (x .valid) (omega (arith, x .lighter))
 
--- BOUND: a valid session weighs at most 73 for each live label
-unit-bound : (d : ℕ) (os : List Op) → d ≤ 63 → Each ValidOp os → weightOfUnit d os ≤ 73 * length (labelsOfUnit os)
-unit-bound d [] h g = omega arith
-unit-bound d (o ∷ os) h g = omega (arith, unit-bound d os h (g .1), g .0 .named, g .0 .targets .few, length-append (o .labels) (labelsOfUnit os))
+-- BOUND: a valid session weighs at most 129 for each live label
+weight-most : (d : ℕ) (t : Targets) → d ≤ 63 → ValidRemaining t → weightTo d t ≤ 129
+weight-most d (these ts) h g = omega (arith, g .few)
+weight-most d (all true) h g = omega arith
+weight-most d (all false) h g = omega arith
 
-units-bound : (d : ℕ) (us : List (List Op)) → d ≤ 63 → Each ValidUnit us → weightOfUnits d us ≤ 73 * length (labelsOfUnits us)
+waiting-most : (t : Targets) → ValidRemaining t → waitingTo t ≤ 129
+waiting-most (these ts) g = omega (arith, g .few)
+waiting-most (all m) g = omega arith
+
+unit-bound : (d : ℕ) (os : List Op) → d ≤ 63 → Each ValidOp os → weightOfUnit d os ≤ 129 * length (labelsOfUnit os)
+unit-bound d [] h g = omega arith
+unit-bound d (o ∷ os) h g = omega (arith, unit-bound d os h (g .1), g .0 .named, weight-most d (o .targets) h (g .0 .targets), length-append (o .labels) (labelsOfUnit os))
+
+units-bound : (d : ℕ) (us : List (List Op)) → d ≤ 63 → Each ValidUnit us → weightOfUnits d us ≤ 129 * length (labelsOfUnits us)
 units-bound d [] h g = omega arith
 units-bound d (u ∷ us) h g = omega (arith, unit-bound d u h (g .0 .ops), units-bound d us h (g .1), length-append (labelsOfUnit u) (labelsOfUnits us))
 
-stations-bound : (ss : List Station) → length ss ≤ 64 → Each ValidStation ss → weightOfStations ss ≤ 73 * length (labelsOfStations ss)
+stations-bound : (ss : List Station) → length ss ≤ 64 → Each ValidStation ss → weightOfStations ss ≤ 129 * length (labelsOfStations ss)
 stations-bound [] h g = omega arith
 stations-bound (s ∷ ss) h g = omega (arith, units-bound (length ss) (s .units) (omega arith) (g .0 .units), stations-bound ss (omega arith) (g .1), length-append (labelsOfUnits (s .units)) (labelsOfStations ss))
 
-calls-bound : (cs : List Labelled) → Each ValidCall cs → weightOfCalls cs ≤ 73 * length (labelsOfCalls cs)
+calls-bound : (cs : List Labelled) → Each ValidCall cs → weightOfCalls cs ≤ 129 * length (labelsOfCalls cs)
 calls-bound [] g = omega arith
 calls-bound (addOf l v ∷ cs) g = omega (arith, calls-bound cs (g .1))
-calls-bound (opOf o ∷ cs) g = omega (arith, calls-bound cs (g .1), g .0 .named, g .0 .targets .few, length-append (o .labels) (labelsOfCalls cs))
+calls-bound (opOf o ∷ cs) g = omega (arith, calls-bound cs (g .1), g .0 .op .named, waiting-most (o .targets) (g .0 .op .targets), length-append (o .labels) (labelsOfCalls cs))
 
-pub weight-bound : (s : Session) → Valid s → weightOf s ≤ 73 * 64
+pub weight-bound : (s : Session) → Valid s → weightOf s ≤ 129 * 64
 weight-bound s g =
     omega (
       arith,
@@ -327,7 +337,7 @@ enough (suc n) (suc m) s g h k = go (drainStep s) (drain-took s) (enough n m)
 -- one step, and what is left of the steps that are enough
 drain-once : (s : Session) → (n : ℕ) × (enoughSteps ≡ suc n) × (drain s ≡ drainOn (drainFor n) (drainStep s) s)
 unfolding enoughSteps
-drain-once s = (4671, refl, refl)
+drain-once s = (8255, refl, refl)
 
 pub drain-next : (s : Session) → Valid s → (t : AfterStep) → drainStep s ≡ done t → drain s ≡ record { end = (drain (t .to)) .end; took = t .what ∷ (drain (t .to)) .took }
 drain-next s g t e =

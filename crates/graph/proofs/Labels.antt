@@ -10,6 +10,7 @@ use lib.ListN.{length}
 use borrow.Author.Tests.{leb-true, le-leb, ltb-false, lt-ltb, eq-eqb}
 use Rattle.graph.specs.Refusals.{Answer, refused, done}
 use Rattle.graph.specs.KeyLists.{contains, count, above, rising}
+use Rattle.graph.specs.Targets.{leftOf}
 use Rattle.graph.specs.Acts.{resultValue}
 use Rattle.graph.specs.Nodes.{Node, Op, Result, hits, actBy, visitNode, visitOp, resultsFor, newNode}
 use Rattle.graph.specs.OneAtATime.{Labelled, addOf, opOf}
@@ -86,7 +87,7 @@ stored-total v (l ∷ ls) x ts = omega (arith, stored-total v ls x ts)
 
 ops-total : (v : ℕ → ℕ) (os : List Op) → sumOps (byLabel v) os ≡ total v (labelsOfUnit os)
 ops-total v [] = refl
-ops-total v (o ∷ os) = omega (arith, stored-total v (o .labels) (resultValue (o .act) (o .held)) (o .targets), ops-total v os, total-append v (o .labels) (labelsOfUnit os))
+ops-total v (o ∷ os) = omega (arith, stored-total v (o .labels) (resultValue (o .act) (o .held)) (leftOf (o .targets)), ops-total v os, total-append v (o .labels) (labelsOfUnit os))
 
 cond-labels : (b : Bool) (p o : Op) → p .labels ≡ o .labels → (cond b p o) .labels ≡ o .labels
 cond-labels true p o e = e
@@ -118,7 +119,7 @@ units-append v [] vs = omega arith
 units-append v (u ∷ us) vs = omega (arith, units-append v us vs, total-append v (labelsOfUnit u) (labelsOfUnits (us ++ vs)), total-append v (labelsOfUnit u) (labelsOfUnits us))
 
 enter-total : (v : ℕ → ℕ) (o : Op) (ss : List Station) → sum (byLabel v) ((enter o ss) .newResults) + total v (labelsOfStations ((enter o ss) .now)) ≡ total v (o .labels) + total v (labelsOfStations ss)
-enter-total v o [] = omega (arith, stored-total v (o .labels) (resultValue (o .act) (o .held)) (o .targets))
+enter-total v o [] = omega (arith, stored-total v (o .labels) (resultValue (o .act) (o .held)) (leftOf (o .targets)))
 enter-total v o (s ∷ ss) =
     let new = (o ∷ []) ∷ [] in
     omega (arith, total-append v (labelsOfUnits (s .units ++ new)) (labelsOfStations ss), total-append v (labelsOfUnits (s .units)) (labelsOfStations ss), units-append v (s .units) new, total-append v (o .labels ++ []) [], total-append v (o .labels) [])

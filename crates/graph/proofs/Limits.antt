@@ -1,6 +1,6 @@
 -- The limits of nodes, operations and results: what acts and fuses keep, so does every effect.
 -- Assumes nothing.
-use mathlib.Core.Path.{_≡_, refl, _∙_}
+use mathlib.Core.Path.{_≡_, refl, _∙_, ap}
 use Prim.Native.Nat.{ℕ, zero, suc, _+_, _*_, _≤_, _<_}
 use native.Mathlib.Nat.{mod-lt}
 use native.Mathlib.Omega.{arith}
@@ -15,12 +15,13 @@ use Rattle.graph.specs.declared.act.Act.{Act}
 use Rattle.graph.specs.declared.act.Act.the-variants.{Map, Link, Unlink, Sum, Top, Pick, Near}
 use Rattle.graph.specs.Words.{modulus, signed}
 use Rattle.graph.specs.Affine.{plus}
-use Rattle.graph.specs.KeyLists.{isKey, areKeys, contains, count, strike, above, rising, isFull, sameKeys}
+use Rattle.graph.specs.KeyLists.{isKey, areKeys, contains, count, strike, above, rising, isFull}
+use Rattle.graph.specs.Targets.{Targets, these, all, struck, cleared, leftOf, sameTargets}
 use Rattle.graph.specs.Acts.{isMap, affineOf, newValue, newLinks, newHeld, resultValue}
 use Rattle.graph.specs.Nodes.{Node, Op, actOn, actBy, resultsFor, stored, newNode, addResult}
 use Rattle.graph.specs.Sessions.{Station}
-use Rattle.graph.specs.Steps.{Change, putUnit, mayFuse, fused}
-use Rattle.graph.specs.Valid.{Each, ValidTargets, ValidNode, ValidAct, ValidHeld, ValidOp, ValidUnit, ValidStation, ValidResult}
+use Rattle.graph.specs.Steps.{Change, onwards, putUnit, mayFuse, fused}
+use Rattle.graph.specs.Valid.{Each, ValidTargets, ValidRemaining, ValidNode, ValidAct, ValidHeld, ValidOp, ValidUnit, ValidStation, ValidResult}
 use Rattle.graph.proofs.Answers.{and-left, and-right, and-both}
 use Rattle.graph.proofs.Striking.{strike-le}
 use Rattle.graph.proofs.KeyLaws.{areKeys-snoc, areKeys-strike}
@@ -78,6 +79,21 @@ rising-strike k (t ∷ ts) e = go (eqb k t) (above-strike k t ts e)
 
 valid-strike : (k : ℕ) (ts : List ℕ) → ValidTargets ts → ValidTargets (strike k ts)
 valid-strike k ts h = record { few = omega (arith, strike-le k ts, h .few); keys = areKeys-strike k ts (h .keys); rise = rising-strike k ts (h .rise) }
+
+valid-struck : (k : ℕ) (t : Targets) → ValidRemaining t → ValidRemaining (struck k t)
+valid-struck k (these ts) h = valid-strike k ts h
+valid-struck k (all m) h = tt
+
+valid-cleared : (t : Targets) → ValidRemaining t → ValidRemaining (cleared t)
+valid-cleared (these ts) h = h
+valid-cleared (all m) h = tt
+
+valid-none : ValidTargets []
+valid-none = record { few = omega arith; keys = refl; rise = refl }
+
+valid-left : (t : Targets) → ValidRemaining t → ValidTargets (leftOf t)
+valid-left (these ts) h = h
+valid-left (all m) h = valid-none
 
 -- acts
 valid-value : (a : Act) (v : ℕ) → v < modulus → newValue a v < modulus
@@ -140,7 +156,7 @@ valid-actBy : (o : Op) (n : Node) → ValidOp o → ValidNode n → ValidOp (act
 valid-actBy o n g h = record {
   act = g .act;
   held = valid-held (o .act) (o .held) (n .value) (n .links) (h .value) (g .held);
-  targets = valid-strike (n .key) (o .targets) (g .targets);
+  targets = valid-struck (n .key) (o .targets) (g .targets);
   named = g .named;
   few = g .few;
 }
@@ -154,21 +170,21 @@ valid-fused o q e g =
       held = refl;
       targets = g .targets;
       named = omega (arith, g .named, length-append (o .labels) (q .labels));
-      few = leb-true (length (o .labels ++ q .labels)) 4 (and-right (sameKeys (o .targets) (q .targets)) _ (and-right (isMap (o .act) && isMap (q .act)) _ e));
+      few = leb-true (length (o .labels ++ q .labels)) 4 (and-right (sameTargets (o .targets) (q .targets)) _ (and-right (isMap (o .act) && isMap (q .act)) _ e));
     }
 
 pub valid-stored : (o : Op) → ValidOp o → Each ValidResult (stored o)
 valid-stored o g = go (o .labels)
   where
-    go : (ls : List ℕ) → Each ValidResult (resultsFor ls (resultValue (o .act) (o .held)) (o .targets))
+    go : (ls : List ℕ) → Each ValidResult (resultsFor ls (resultValue (o .act) (o .held)) (leftOf (o .targets)))
     go [] = tt
-    go (l ∷ ls) = (record { value = valid-result-value (o .act) (o .held) (g .held); left = g .targets }, go ls)
+    go (l ∷ ls) = (record { value = valid-result-value (o .act) (o .held) (g .held); left = valid-left (o .targets) (g .targets) }, go ls)
 
 pub valid-newNode : (n v : ℕ) → v < modulus → ValidNode (newNode n v)
 valid-newNode n v h = record { value = h; few = omega arith; keys = refl }
 
 pub valid-addResult : (l n : ℕ) → n < 64 → ValidResult (addResult l n)
-valid-addResult l n h = record { value = omega (arith, lit≤ {m = 65} {n = modulus} tt); left = record { few = omega arith; keys = refl; rise = refl } }
+valid-addResult l n h = record { value = omega (arith, lit≤ {m = 65} {n = modulus} tt); left = valid-none }
 
 -- units
 valid-reshaped : {us vs : List (List Op)} → Reshaped us vs → Each ValidUnit us → Each ValidUnit vs
@@ -185,6 +201,20 @@ valid-put : (u : List Op) (us : List (List Op)) → Each ValidOp u → Each Vali
 valid-put [] us g h = h
 valid-put (o ∷ os) us g h = (record { some = omega arith; ops = g }, h)
 
+valid-onwards : (u : List Op) → Each ValidOp u → Each ValidOp (onwards u)
+valid-onwards [] g = tt
+valid-onwards (o ∷ os) g = (
+  record { act = g .0 .act; held = g .0 .held; targets = valid-cleared (o .targets) (g .0 .targets); named = g .0 .named; few = g .0 .few },
+  valid-onwards os (g .1),
+)
+
+onwards-length : (u : List Op) → length (onwards u) ≡ length u
+onwards-length [] = refl
+onwards-length (o ∷ os) = ap suc (onwards-length os)
+
+valid-moved : (u : List Op) → ValidUnit u → ValidUnit (onwards u)
+valid-moved u g = record { some = omega (arith, g .some, onwards-length u); ops = valid-onwards u (g .ops) }
+
 pub record ValidChange (c : Change) : Type 0 where
   pub now : Each ValidStation (c .now)
   pub newResults : Each ValidResult (c .newResults)
@@ -199,7 +229,7 @@ valid-effect (realised n pre o post us ss e h) g =
       newResults = tt;
     }
 valid-effect (moved n u us s ss e) g = record {
-  now = (record { node = g .0 .node; units = g .0 .units .1 }, (record { node = g .1 .0 .node; units = each-append ValidUnit (s .units) (u ∷ []) (g .1 .0 .units) (g .0 .units .0, tt) }, g .1 .1));
+  now = (record { node = g .0 .node; units = g .0 .units .1 }, (record { node = g .1 .0 .node; units = each-append ValidUnit (s .units) (onwards u ∷ []) (g .1 .0 .units) (valid-moved u (g .0 .units .0), tt) }, g .1 .1));
   newResults = tt;
 }
 valid-effect (finished n pre o post us ss e) g =

@@ -1,14 +1,18 @@
 -- Nodes that calls make from nothing, one at a time: keys fall to 1, and no list has more than eight, whatever the calls. So a target
--- struck at one node is that of no node behind it. Assumes nothing.
+-- struck at one node is that of no node behind it. And how the operation of a call that waited meets them, listed or for all.
+-- Assumes nothing.
 use mathlib.Core.Path.{_≡_, refl, sym, _∙_, ap}
 use Prim.Native.Nat.{ℕ, suc, _<_, _≤_}
 use native.Mathlib.Omega.{arith}
 use mathlib.Core.Bool.{Bool, true, false, cond}
 use mathlib.Core.List.{List, [], _∷_}
 use lib.ListN.{length}
-use Rattle.graph.specs.KeyLists.{strike}
+use Rattle.graph.specs.KeyLists.{contains, strike}
+use Rattle.graph.specs.declared.act.Act.{Act}
+use Rattle.graph.specs.Acts.{newHeld}
+use Rattle.graph.specs.Targets.{To, named, whole, isTarget, untouched}
 use Rattle.graph.specs.Calls.{Call}
-use Rattle.graph.specs.Nodes.{Node, Op, hits, actOn, visitOp}
+use Rattle.graph.specs.Nodes.{Node, Op, hits, actOn, actBy, onward, visitNode, visitOp}
 use Rattle.graph.specs.OneAtATime.{World, labelled, passNodes, process, processFrom}
 use Rattle.graph.specs.CallResults.{nodesAfter, targeted}
 use Rattle.graph.proofs.Striking.{contains-strike}
@@ -46,11 +50,34 @@ made-from l (c ∷ cs) x h = made-from (suc l) cs (process (labelled c l) x) (ma
 pub made : (cs : List Call) → Made (nodesAfter cs)
 made cs = made-from 1 cs _ tt
 
-struck-key : (to : List ℕ) (k : ℕ) (ns : List Node) → length ns < k → Made ns → targeted (strike k to) ns ≡ targeted to ns
-struck-key to k [] l h = refl
-struck-key to k (n ∷ ns) l h =
-    let behind : targeted (strike k to) ns ≡ targeted to ns = struck-key to k ns (omega arith) (h .2) in
-    λ i. cond (contains-strike (n .key) k to (λ e. omega (arith, e, h .0, l)) i) (n ∷ behind i) (behind i)
+-- A CALL'S OPERATION
+abbrev pub op : Act → ℕ → To → List ℕ → Op
+op a h to ls = record { act = a; held = h; targets = untouched to; labels = ls }
 
-pub struck : (to : List ℕ) (n : Node) (ns : List Node) → Made (n ∷ ns) → targeted (strike (n .key) to) ns ≡ targeted to ns
-struck to n ns m = struck-key to (n .key) ns (omega (arith, m .0)) (m .2)
+-- the call's targets past a node that it acted at
+abbrev pub past : ℕ → To → To
+past k (named ts) = named (strike k ts)
+past k whole = whole
+
+pub visit-at : (a : Act) (h : ℕ) (to : To) (ls : List ℕ) (n : Node) → visitNode (op a h to ls) n ≡ cond (isTarget (n .key) to) (actOn (op a h to ls) n) n
+visit-at a h (named ts) ls n = refl
+visit-at a h whole ls n = refl
+
+pub visit-to : (a : Act) (h : ℕ) (to : To) (ls : List ℕ) (n : Node) →
+    visitOp (op a h to ls) n ≡ cond (isTarget (n .key) to) (op a (newHeld a h (n .value) (n .links)) (past (n .key) to) ls) (op a h to ls)
+visit-to a h (named ts) ls n = go (contains (n .key) ts)
+  where
+    go : (b : Bool) → onward (cond b (actBy (op a h (named ts) ls) n) (op a h (named ts) ls)) ≡ cond b (op a (newHeld a h (n .value) (n .links)) (named (strike (n .key) ts)) ls) (op a h (named ts) ls)
+    go true = refl
+    go false = refl
+visit-to a h whole ls n = refl
+
+struck-key : (ts : List ℕ) (k : ℕ) (ns : List Node) → length ns < k → Made ns → targeted (named (strike k ts)) ns ≡ targeted (named ts) ns
+struck-key ts k [] l h = refl
+struck-key ts k (n ∷ ns) l h =
+    let behind : targeted (named (strike k ts)) ns ≡ targeted (named ts) ns = struck-key ts k ns (omega arith) (h .2) in
+    λ i. cond (contains-strike (n .key) k ts (λ e. omega (arith, e, h .0, l)) i) (n ∷ behind i) (behind i)
+
+pub past-same : (to : To) (n : Node) (ns : List Node) → Made (n ∷ ns) → targeted (past (n .key) to) ns ≡ targeted to ns
+past-same (named ts) n ns m = struck-key ts (n .key) ns (omega (arith, m .0)) (m .2)
+past-same whole n ns m = refl

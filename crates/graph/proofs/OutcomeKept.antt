@@ -13,14 +13,15 @@ use Rattle.graph.specs.declared.affine.Affine.{Affine}
 use Rattle.graph.specs.declared.act.Act.{Act}
 use Rattle.graph.specs.declared.act.Act.the-variants.{Map}
 use Rattle.graph.specs.Affine.{composed}
-use Rattle.graph.specs.KeyLists.{isNil, contains, strike, sameKeys}
-use Rattle.graph.specs.Acts.{isMap, affineOf}
-use Rattle.graph.specs.Nodes.{Node, Op, Result, hits, actOn, actBy, visitNode, visitOp, mayFinish, resultsFor, stored, newNode}
+use Rattle.graph.specs.KeyLists.{isNil}
+use Rattle.graph.specs.Targets.{Targets, reaches, struck, cleared, leftOf, sameTargets}
+use Rattle.graph.specs.Acts.{isMap, affineOf, resultValue}
+use Rattle.graph.specs.Nodes.{Node, Op, Result, hits, actOn, actBy, onward, visitNode, visitOp, nothingLeft, mayFinish, resultsFor, stored, newNode}
 use Rattle.graph.specs.OneAtATime.{Labelled, addOf, opOf}
 use Rattle.graph.specs.Sessions.{Station, station, Session, store}
-use Rattle.graph.specs.Steps.{Step, Change, anyHits, putUnit, mayFuse, fused, enter, admitted, admitHead, stepAt, step}
+use Rattle.graph.specs.Steps.{Step, Change, anyHits, onwards, putUnit, mayFuse, fused, enter, admitted, admitHead, stepAt, step}
 use Rattle.graph.proofs.Answers.{Holds, refuses, holds, holds-map, by-bool, and-left, and-right}
-use Rattle.graph.proofs.Striking.{same-eq, struck-out, nil-out}
+use Rattle.graph.proofs.Targeting.{same-targets, struck-misses, none-misses, none-cleared, left-cleared}
 use Rattle.graph.proofs.AffineLaws.{applied-composed, map-of}
 use Rattle.graph.proofs.Effects.{Reshaped, joined, cut, swapped, fusing, before, after, Effect, realised, moved, finished, reshaped, further, effect-at, effect-size, by-station}
 use Rattle.graph.proofs.Outcome.{flat, flowNode, flowOps, Seen, front, plus, seen-path, plus-zero, plus-plus, plus-swap, flat-append, flowNode-append, flowOps-append, sum, through, admitting, outcome, sum-store, sumOps-append, through-enter}
@@ -29,17 +30,17 @@ use Rattle.graph.proofs.Meeting.{flow-key, pass-node, pass-op, hit-node
 -- an operation that targets none of the nodes that it has yet to meet
 abbrev Idle : Op → List Station → Type 0
 Idle o [] = Unit {0}
-Idle o (s ∷ ss) = (hits o (s .node) ≡ false) × Idle o ss
+Idle o (s ∷ ss) = (hits o (s .node) ≡ false) × Idle (onward o) ss
 
-idle-nil : (o : Op) (ss : List Station) → ((k : ℕ) → contains k (o .targets) ≡ false) → Idle o ss
+idle-nil : (o : Op) (ss : List Station) → nothingLeft o ≡ true → Idle o ss
 idle-nil o [] h = tt
-idle-nil o (s ∷ ss) h = (h (s .node .key), idle-nil o ss h)
+idle-nil o (s ∷ ss) h = (none-misses (o .targets) h (s .node .key), idle-nil (onward o) ss (none-cleared (o .targets) ∙ h))
 
 finish-idle : (o : Op) (n : Node) (ss : List Station) → mayFinish o n (isNil ss) ≡ true → Idle o (station n [] ∷ ss)
-finish-idle o n ss e = go (isNil (o .targets)) refl ss e
+finish-idle o n ss e = go (nothingLeft o) refl ss e
   where
-    go : (b : Bool) → isNil (o .targets) ≡ b → (ss : List Station) → (b || (isNil ss && not (hits o n))) ≡ true → Idle o (station n [] ∷ ss)
-    go true f ss e = idle-nil o (station n [] ∷ ss) (nil-out (o .targets) f)
+    go : (b : Bool) → nothingLeft o ≡ b → (ss : List Station) → (b || (isNil ss && not (hits o n))) ≡ true → Idle o (station n [] ∷ ss)
+    go true f ss e = idle-nil o (station n [] ∷ ss) f
     go false f [] e = (not-true (hits o n) e, tt)
     go false f (s ∷ ss) e = absurd (true≢false (sym e))
 
@@ -52,17 +53,20 @@ acted-node : (n : Node) (pre : List Op) (o : Op) (rest : List Op) → anyHits pr
     flowNode (pre ++ (o ∷ rest)) n ≡ flowNode (pre ++ (actBy o n ∷ rest)) (actOn o n)
 acted-node n pre o rest e h =
     flowNode-passes pre (o ∷ rest) n e ∙ ap (flowNode rest) (hit-node o n h)
-    ∙ sym (flowNode-passes pre (actBy o n ∷ rest) (actOn o n) (anyHits-key pre (actOn o n) n refl ∙ e) ∙ flowNode-pass (actBy o n) rest (actOn o n) (struck-out (n .key) (o .targets)))
+    ∙ sym (flowNode-passes pre (actBy o n ∷ rest) (actOn o n) (anyHits-key pre (actOn o n) n refl ∙ e) ∙ flowNode-pass (actBy o n) rest (actOn o n) (struck-misses (n .key) (o .targets)))
 
 acted-ops : (n : Node) (pre : List Op) (o : Op) (rest : List Op) → anyHits pre n ≡ false → hits o n ≡ true →
     flowOps (pre ++ (o ∷ rest)) n ≡ flowOps (pre ++ (actBy o n ∷ rest)) (actOn o n)
 acted-ops n pre o rest e h =
-    flowOps-passes pre (o ∷ rest) n e ∙ (λ i. pre ++ (hit-op o n h i ∷ flowOps rest (hit-node o n h i)))
-    ∙ sym (flowOps-passes pre (actBy o n ∷ rest) (actOn o n) (anyHits-key pre (actOn o n) n refl ∙ e) ∙ ap (λ (r : List Op). pre ++ r) (flowOps-pass (actBy o n) rest (actOn o n) (struck-out (n .key) (o .targets))))
+    flowOps-passes pre (o ∷ rest) n e ∙ (λ i. onwards pre ++ (hit-op o n h i ∷ flowOps rest (hit-node o n h i)))
+    ∙ sym (flowOps-passes pre (actBy o n ∷ rest) (actOn o n) (anyHits-key pre (actOn o n) n refl ∙ e) ∙ ap (λ (r : List Op). onwards pre ++ r) (flowOps-pass (actBy o n) rest (actOn o n) (struck-misses (n .key) (o .targets))))
 
 -- an operation with an act of the same targets and labels
-abbrev with : Act → ℕ → List ℕ → List ℕ → Op
+abbrev with : Act → ℕ → Targets → List ℕ → Op
 with a h ts ls = record { act = a; held = h; targets = ts; labels = ls }
+
+stored-onward : (o : Op) → stored (onward o) ≡ stored o
+stored-onward o = λ i. resultsFor (o .labels) (resultValue (o .act) (o .held)) (left-cleared (o .targets) i)
 
 module _ (w : Result → ℕ) where
   -- FINISH: an idle operation may as well go at once
@@ -72,9 +76,10 @@ module _ (w : Result → ℕ) where
       let n = s .node in
       let xs = flat (s .units) ++ pre in
       let m = flowNode xs n in
-      let e : hits o m ≡ false = ap (λ (k : ℕ). contains k (o .targets)) (flow-key xs n) ∙ h .0 in
+      let e : hits o m ≡ false = ap (λ (k : ℕ). reaches k (o .targets)) (flow-key xs n) ∙ h .0 in
       rw (← append-assoc (flat (s .units)) pre (o ∷ post), ← append-assoc (flat (s .units)) pre post, flowNode-append xs (o ∷ post) n, flowOps-append xs (o ∷ post) n, flowNode-append xs post n, flowOps-append xs post n)
-      ((λ i. front (flowNode-pass o post m e i) (through w ss (flowOps xs n ++ flowOps-pass o post m e i))) ∙ ap (front _) (through-drop ss (flowOps xs n) (flowOps post m) o (h .1)))
+      ((λ i. front (flowNode-pass o post m e i) (through w ss (flowOps xs n ++ flowOps-pass o post m e i))) ∙ ap (front _) (through-drop ss (flowOps xs n) (flowOps post m) (onward o) (h .1))
+      ∙ (λ i. front (flowNode post m) (plus (sum w (stored-onward o i)) (through w ss (flowOps xs n ++ flowOps post m)))))
 
   -- SWAP
   through-swap : (ss : List Station) (pre post : List Op) (o q : Op) → Commute o q → through w ss (pre ++ (o ∷ q ∷ post)) ≡ through w ss (pre ++ (q ∷ o ∷ post))
@@ -94,13 +99,13 @@ module _ (w : Result → ℕ) where
   sum-labels [] ms v ts = sym (zero-add _)
   sum-labels (l ∷ ls) ms v ts = omega (arith, sum-labels ls ms v ts)
 
-  through-fuse : (ss : List Station) (pre post : List Op) (f g : Affine) (h1 h2 : ℕ) (ts ls ms : List ℕ) →
+  through-fuse : (ss : List Station) (pre post : List Op) (f g : Affine) (h1 h2 : ℕ) (ts : Targets) (ls ms : List ℕ) →
       through w ss (pre ++ (with (Map f) h1 ts ls ∷ with (Map g) h2 ts ms ∷ post)) ≡ through w ss (pre ++ (with (Map (composed f g)) 0 ts (ls ++ ms) ∷ post))
   through-fuse [] pre post f g h1 h2 ts ls ms =
       let o = with (Map f) h1 ts ls in
       let q = with (Map g) h2 ts ms in
       let r = with (Map (composed f g)) 0 ts (ls ++ ms) in
-      seen-path refl (omega (arith, sumOps-append w pre (o ∷ q ∷ post), sumOps-append w pre (r ∷ post), sum-labels ls ms 0 ts))
+      seen-path refl (omega (arith, sumOps-append w pre (o ∷ q ∷ post), sumOps-append w pre (r ∷ post), sum-labels ls ms 0 (leftOf ts)))
   through-fuse (s ∷ ss) pre post f g h1 h2 ts ls ms =
       let o = with (Map f) h1 ts ls in
       let q = with (Map g) h2 ts ms in
@@ -109,27 +114,27 @@ module _ (w : Result → ℕ) where
       let xs = flat (s .units) ++ pre in
       let m = flowNode xs n in
       rw (← append-assoc (flat (s .units)) pre (o ∷ q ∷ post), ← append-assoc (flat (s .units)) pre (r ∷ post), flowNode-append xs (o ∷ q ∷ post) n, flowOps-append xs (o ∷ q ∷ post) n, flowNode-append xs (r ∷ post) n, flowOps-append xs (r ∷ post) n)
-      (by-bool (contains (m .key) ts)
+      (by-bool (reaches (m .key) ts)
       (λ e.
       let pN : visitNode q (visitNode o m) ≡ actOn r m = ap (visitNode q) (hit-node o m e) ∙ hit-node q (actOn o m) e ∙ (λ i. record { key = m .key; value = sym (applied-composed f g (m .value)) i; links = m .links }) in
-      let pO : visitOp q (visitNode o m) ≡ actBy q m = ap (visitOp q) (hit-node o m e) ∙ hit-op q (actOn o m) e in
+      let pO : visitOp q (visitNode o m) ≡ onward (actBy q m) = ap (visitOp q) (hit-node o m e) ∙ hit-op q (actOn o m) e in
       (λ i. front (flowNode post (pN i)) (through w ss (flowOps xs n ++ (hit-op o m e i ∷ pO i ∷ flowOps post (pN i)))))
-      ∙ ap (front _) (through-fuse ss (flowOps xs n) (flowOps post (actOn r m)) f g h1 h2 (strike (m .key) ts) ls ms)
+      ∙ ap (front _) (through-fuse ss (flowOps xs n) (flowOps post (actOn r m)) f g h1 h2 (cleared (struck (m .key) ts)) ls ms)
       ∙ sym (λ i. front (flowNode post (hit-node r m e i)) (through w ss (flowOps xs n ++ (hit-op r m e i ∷ flowOps post (hit-node r m e i))))))
       (λ e.
       let pN : visitNode q (visitNode o m) ≡ m = ap (visitNode q) (pass-node o m e) ∙ pass-node q m e in
-      let pO : visitOp q (visitNode o m) ≡ q = ap (visitOp q) (pass-node o m e) ∙ pass-op q m e in
+      let pO : visitOp q (visitNode o m) ≡ onward q = ap (visitOp q) (pass-node o m e) ∙ pass-op q m e in
       (λ i. front (flowNode post (pN i)) (through w ss (flowOps xs n ++ (pass-op o m e i ∷ pO i ∷ flowOps post (pN i)))))
-      ∙ ap (front _) (through-fuse ss (flowOps xs n) (flowOps post m) f g h1 h2 ts ls ms)
+      ∙ ap (front _) (through-fuse ss (flowOps xs n) (flowOps post m) f g h1 h2 (cleared ts) ls ms)
       ∙ sym (λ i. front (flowNode post (pass-node r m e i)) (through w ss (flowOps xs n ++ (pass-op r m e i ∷ flowOps post (pass-node r m e i)))))))
 
   fused-through : (ss : List Station) (pre post : List Op) (o q : Op) → mayFuse o q ≡ true → through w ss (pre ++ (o ∷ q ∷ post)) ≡ through w ss (pre ++ (fused o q ∷ post))
   fused-through ss pre post o q e =
       let maps : (isMap (o .act) && isMap (q .act)) ≡ true = and-left _ _ e in
-      let same : (sameKeys (o .targets) (q .targets) && leb (length (o .labels ++ q .labels)) 4) ≡ true = and-right (isMap (o .act) && isMap (q .act)) _ e in
+      let same : (sameTargets (o .targets) (q .targets) && leb (length (o .labels ++ q .labels)) 4) ≡ true = and-right (isMap (o .act) && isMap (q .act)) _ e in
       let p : o .act ≡ Map (affineOf (o .act)) = map-of (o .act) (and-left _ _ maps) in
       let r : q .act ≡ Map (affineOf (q .act)) = map-of (q .act) (and-right (isMap (o .act)) _ maps) in
-      let k : q .targets ≡ o .targets = same-eq (o .targets) (q .targets) (and-left _ _ same) in
+      let k : q .targets ≡ o .targets = same-targets (o .targets) (q .targets) (and-left _ _ same) in
       (λ i. through w ss (pre ++ (with (p i) (o .held) (o .targets) (o .labels) ∷ with (r i) (q .held) (k i) (q .labels) ∷ post)))
       ∙ through-fuse ss pre post (affineOf (o .act)) (affineOf (q .act)) (o .held) (q .held) (o .targets) (o .labels) (q .labels)
 
@@ -151,7 +156,7 @@ module _ (w : Result → ℕ) where
       rw (append-assoc (pre ++ (o ∷ post)) (flat us) os, append-assoc (pre ++ (actBy o n ∷ post)) (flat us) os, append-assoc pre (o ∷ post) (flat us ++ os), append-assoc pre (actBy o n ∷ post) (flat us ++ os))
       ((λ i. front (acted-node n pre o X e h i) (through w ss (acted-ops n pre o X e h i))) ∙ sym (plus-zero _))
   effect-kept (moved n u us s ss e) os =
-      rw (append-assoc u (flat us) os, flat-append (s .units) (u ∷ []), append-nil u, append-assoc (flat (s .units)) u)
+      rw (append-assoc u (flat us) os, flat-append (s .units) (onwards u ∷ []), append-nil (onwards u), append-assoc (flat (s .units)) (onwards u))
       ((λ i. front (flowNode-passes u (flat us ++ os) n e i) (through w (s ∷ ss) (flowOps-passes u (flat us ++ os) n e i))) ∙ sym (plus-zero _))
   effect-kept (finished n pre o post us ss e) os =
       let X = flat us ++ os in

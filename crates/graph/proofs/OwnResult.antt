@@ -8,7 +8,8 @@ use mathlib.Core.Option.{none, some}
 use lib.ListN.{length}
 use Rattle.graph.specs.declared.act.Act.{Act}
 use Rattle.graph.specs.Acts.{resultValue}
-use Rattle.graph.specs.Calls.{Call, targetsOf}
+use Rattle.graph.specs.Targets.{To, leftOf}
+use Rattle.graph.specs.Calls.{Call, toOf}
 use Rattle.graph.specs.Nodes.{Node, Op, Result, visitOp, addResult}
 use Rattle.graph.specs.OneAtATime.{World, operation, labelled, passOp, process, processFrom, oneAtATime}
 use Rattle.graph.specs.Counts.{resultOfLabel}
@@ -16,10 +17,8 @@ use Rattle.graph.specs.CallResults.{nodesAfter}
 use Rattle.graph.proofs.Found.{some-same, find-here, find-skip, find-after}
 use Rattle.graph.proofs.Meeting.{visit-act}
 use Rattle.graph.proofs.Validity.{Sort, adds, operates, sort}
+use Rattle.graph.proofs.MadeNodes.{op}
 use Rattle.graph.proofs.Demand3.{pass-labels, oneAtATime-append}
-
-abbrev pub op : Act → ℕ → List ℕ → List ℕ → Op
-op a h to ls = record { act = a; held = h; targets = to; labels = ls }
 
 pass-act : (o : Op) (ns : List Node) → (passOp o ns) .act ≡ o .act
 pass-act o [] = refl
@@ -37,9 +36,9 @@ process-one c l x = go (sort c l)
     go : Sort c l → AddsOne l x (process (labelled c l) x)
     go (adds v i e) = rw e (record { result = addResult l (length (x .nodes)); label = refl; more = refl })
     go (operates a h i e) =
-        let o : Op = op a h (targetsOf c) (l ∷ []) in
+        let o : Op = op a h (toOf c) (l ∷ []) in
         let q : Op = passOp o (x .nodes) in
-        rw e (record { result = record { label = l; value = resultValue (q .act) (q .held); left = q .targets }; label = refl; more = rw (pass-labels o (x .nodes)) })
+        rw e (record { result = record { label = l; value = resultValue (q .act) (q .held); left = leftOf (q .targets) }; label = refl; more = rw (pass-labels o (x .nodes)) })
 
 later-keep : (m l : ℕ) (cs : List Call) (x : World) (q : Result) → resultOfLabel m (x .results) ≡ some q → resultOfLabel m ((processFrom l cs x) .results) ≡ some q
 later-keep m l [] x q e = e
@@ -53,7 +52,7 @@ earlier-miss m l (c ∷ cs) x h e =
     let a = process-one c l x in
     earlier-miss m (suc l) cs (process (labelled c l) x) (omega arith) (find-after m (x .results) (a .result ∷ []) none (a .more) e ∙ find-skip m (a .result) [] (λ q. omega (arith, a .label, q)))
 
-module _ (a : Act) (h : ℕ) (to : List ℕ) where
+module _ (a : Act) (h : ℕ) (to : To) where
   pub own-value : (before later : List Call) (c : Call) → ((m : ℕ) → labelled c m ≡ operation a h to m) →
       (r : Result) → resultOfLabel (suc (length before)) ((oneAtATime (before ++ (c ∷ later))) .results) ≡ some r →
       r .value ≡ resultValue a ((passOp (op a h to (suc (length before) ∷ [])) (nodesAfter before)) .held)
@@ -61,7 +60,7 @@ module _ (a : Act) (h : ℕ) (to : List ℕ) where
       let m : ℕ = suc (length before) in
       let x : World = oneAtATime before in
       let q : Op = passOp (op a h to (m ∷ [])) (x .nodes) in
-      let own : Result = record { label = m; value = resultValue (q .act) (q .held); left = q .targets } in
+      let own : Result = record { label = m; value = resultValue (q .act) (q .held); left = leftOf (q .targets) } in
       let new : (process (labelled c m) x) .results ≡ x .results ++ (own ∷ []) = rw (is m, pass-labels (op a h to (m ∷ [])) (x .nodes)) in
       let none-yet : resultOfLabel m (x .results) ≡ none = earlier-miss m 1 before _ (omega arith) refl in
       let found : resultOfLabel m ((process (labelled c m) x) .results) ≡ some own = find-after m (x .results) (own ∷ []) none new none-yet ∙ find-here m own [] refl in

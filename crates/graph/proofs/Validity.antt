@@ -12,13 +12,14 @@ use Rattle.graph.specs.declared.act.Act.{Act}
 use Rattle.graph.specs.Refusals.{Answer, refused, done, mapDone, Test, unless}
 use Rattle.graph.specs.Words.{modulus, areWords}
 use Rattle.graph.specs.KeyLists.{isKey, areKeys, above, rising, contains, count}
-use Rattle.graph.specs.Calls.{Call, add, map, link, unlink, sum, top, pick, near, unmap, numbersOf, operandsOf, targetsOf, lacksInverse, formTests}
+use Rattle.graph.specs.Targets.{To, named, whole, listedIn, untouched, isMarked}
+use Rattle.graph.specs.Calls.{Call, add, map, link, unlink, sum, top, pick, near, unmap, numbersOf, operandsOf, toOf, targetsOf, lacksInverse, formTests}
 use Rattle.graph.specs.OneAtATime.{isAdd, Labelled, addOf, opOf, operation, labelled}
 use Rattle.graph.specs.Nodes.{Op, Result, addResult}
 use Rattle.graph.specs.Sessions.{Station, Session, fresh, insert, store, labelsOfStations, labelsOfCalls, labelsOfResults, pending, live, addsIn}
 use Rattle.graph.specs.Steps.{Step, Change, enter, admitted, changed, admitHead, stepAt, step}
 use Rattle.graph.specs.Acceptance.{callTests, accepted, accept, Claimed, takeResult, claim, keeping}
-use Rattle.graph.specs.Valid.{Each, ValidAct, ValidHeld, mostLabels, ValidOp, ValidUnit, ValidStation, ValidCall, ValidResult, KeysFall, Given, Valid}
+use Rattle.graph.specs.Valid.{Each, ValidTargets, ValidRemaining, ValidAct, ValidHeld, mostLabels, ValidOp, ValidUnit, ValidStation, ValidCall, ValidResult, KeysFall, Given, Valid}
 use Rattle.graph.proofs.Answers.{Holds, refuses, holds, holds-map, holds-cond, by-bool, and-left, and-right, and-both, test-most}
 use Rattle.graph.proofs.Inverses.{inverse-fits}
 use Rattle.graph.proofs.Effects.{Effect, realised, moved, finished, reshaped, further, effect-at, effect-size, by-station}
@@ -106,7 +107,7 @@ local-admit s (addOf l x ∷ cs) v r g = holds {a = changed s cs (admitted (addO
   room = omega arith;
 })
 local-admit s (opOf o ∷ cs) v r g =
-    let x = entered o (s .stations) (v .0) (g .falling) (g .stations) in
+    let x = entered o (s .stations) (v .0 .op) (g .falling) (g .stations) in
     holds {a = changed s cs (enter o (s .stations))} (record {
       falling = x .falling;
       stations = x .change .now;
@@ -305,37 +306,48 @@ accept-fits c s = holds-unless (callTests c s) (accepted c s) (λ h. (
 word : (v : ℕ) (vs : List ℕ) → areWords (v ∷ vs) ≡ true → v < modulus
 word v vs e = ltb-true v modulus (and-left _ _ e)
 
-valid-operation : (a : Act) (h : ℕ) (ts : List ℕ) (l : ℕ) → ValidAct a → ValidHeld a h → 1 ≤ mostLabels a → areKeys ts ≡ true → length ts ≤ 8 → rising ts ≡ true → ValidCall (operation a h ts l)
-valid-operation a h ts l va vh m k f r = record { act = va; held = vh; targets = record { few = f; keys = k; rise = r }; named = omega arith; few = m }
+valid-untouched : (to : To) → ValidTargets (listedIn to) → ValidRemaining (untouched to)
+valid-untouched (named ts) h = h
+valid-untouched whole h = tt
+
+untouched-unmarked : (to : To) → isMarked (untouched to) ≡ false
+untouched-unmarked (named ts) = refl
+untouched-unmarked whole = refl
+
+valid-operation : (a : Act) (h : ℕ) (to : To) (l : ℕ) → ValidAct a → ValidHeld a h → 1 ≤ mostLabels a → areKeys (listedIn to) ≡ true → length (listedIn to) ≤ 8 → rising (listedIn to) ≡ true → ValidCall (operation a h to l)
+valid-operation a h to l va vh m k f r = record {
+  op = record { act = va; held = vh; targets = valid-untouched to (record { few = f; keys = k; rise = r }); named = omega arith; few = m };
+  unmarked = untouched-unmarked to;
+}
 
 valid-labelled : (c : Call) (l : ℕ) → FormFits c → ValidCall (labelled c l)
 valid-labelled (add v) l f = word v [] (f .words)
-valid-labelled (map a b ts) l f = valid-operation _ 0 ts l (word a (b ∷ ts) (f .words), word b ts (and-right (ltb a modulus) _ (f .words))) refl (omega arith) (f .keys) (f .few) (f .rise)
-valid-labelled (link k ts) l f = valid-operation _ 0 ts l (and-left _ _ (f .keys)) (lit≤ tt) (omega arith) (and-right (isKey k) _ (f .keys)) (f .few) (f .rise)
-valid-labelled (unlink k ts) l f = valid-operation _ 0 ts l (and-left _ _ (f .keys)) (lit≤ tt) (omega arith) (and-right (isKey k) _ (f .keys)) (f .few) (f .rise)
-valid-labelled (sum x ts) l f = valid-operation _ x ts l tt (word x ts (f .words)) (omega arith) (f .keys) (f .few) (f .rise)
-valid-labelled (top x ts) l f = valid-operation _ x ts l tt (word x ts (f .words)) (omega arith) (f .keys) (f .few) (f .rise)
-valid-labelled (pick x ts) l f = valid-operation _ x ts l tt (word x ts (f .words)) (omega arith) (f .keys) (f .few) (f .rise)
-valid-labelled (near k x ts) l f = valid-operation _ x ts l (and-left _ _ (f .keys)) (word x (k ∷ ts) (f .words)) (omega arith) (and-right (isKey k) _ (f .keys)) (f .few) (f .rise)
-valid-labelled (unmap a b ts) l f =
+valid-labelled (map a b to) l f = valid-operation _ 0 to l (word a (b ∷ listedIn to) (f .words), word b (listedIn to) (and-right (ltb a modulus) _ (f .words))) refl (omega arith) (f .keys) (f .few) (f .rise)
+valid-labelled (link k to) l f = valid-operation _ 0 to l (and-left _ _ (f .keys)) (lit≤ tt) (omega arith) (and-right (isKey k) _ (f .keys)) (f .few) (f .rise)
+valid-labelled (unlink k to) l f = valid-operation _ 0 to l (and-left _ _ (f .keys)) (lit≤ tt) (omega arith) (and-right (isKey k) _ (f .keys)) (f .few) (f .rise)
+valid-labelled (sum x to) l f = valid-operation _ x to l tt (word x (listedIn to) (f .words)) (omega arith) (f .keys) (f .few) (f .rise)
+valid-labelled (top x to) l f = valid-operation _ x to l tt (word x (listedIn to) (f .words)) (omega arith) (f .keys) (f .few) (f .rise)
+valid-labelled (pick x to) l f = valid-operation _ x to l tt (word x (listedIn to) (f .words)) (omega arith) (f .keys) (f .few) (f .rise)
+valid-labelled (near k x to) l f = valid-operation _ x to l (and-left _ _ (f .keys)) (word x (k ∷ listedIn to) (f .words)) (omega arith) (and-right (isKey k) _ (f .keys)) (f .few) (f .rise)
+valid-labelled (unmap a b to) l f =
     let i = inverse-fits (record { a = a; b = b }) in
-    valid-operation _ 0 ts l (i .scale, i .shift) refl (omega arith) (f .keys) (f .few) (f .rise)
+    valid-operation _ 0 to l (i .scale, i .shift) refl (omega arith) (f .keys) (f .few) (f .rise)
 
 -- a call with its label is an add, or an operation with that label alone
 pub data Sort (c : Call) (l : ℕ) : Type 0 where
   adds : (v : ℕ) → isAdd c ≡ true → labelled c l ≡ addOf l v → Sort c l
-  operates : (a : Act) (h : ℕ) → isAdd c ≡ false → labelled c l ≡ operation a h (targetsOf c) l → Sort c l
+  operates : (a : Act) (h : ℕ) → isAdd c ≡ false → labelled c l ≡ operation a h (toOf c) l → Sort c l
 
 pub sort : (c : Call) (l : ℕ) → Sort c l
 sort (add v) l = adds v refl refl
-sort (map a b ts) l = operates _ 0 refl refl
-sort (link k ts) l = operates _ 0 refl refl
-sort (unlink k ts) l = operates _ 0 refl refl
-sort (sum x ts) l = operates _ x refl refl
-sort (top x ts) l = operates _ x refl refl
-sort (pick x ts) l = operates _ x refl refl
-sort (near k x ts) l = operates _ x refl refl
-sort (unmap a b ts) l = operates _ 0 refl refl
+sort (map a b to) l = operates _ 0 refl refl
+sort (link k to) l = operates _ 0 refl refl
+sort (unlink k to) l = operates _ 0 refl refl
+sort (sum x to) l = operates _ x refl refl
+sort (top x to) l = operates _ x refl refl
+sort (pick x to) l = operates _ x refl refl
+sort (near k x to) l = operates _ x refl refl
+sort (unmap a b to) l = operates _ 0 refl refl
 
 labels-one : (v : ℕ → ℕ) (c : Call) (l : ℕ) → total v (labelsOfCalls (labelled c l ∷ [])) ≡ v l
 labels-one v c l = go (sort c l)

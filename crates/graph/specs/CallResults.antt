@@ -10,6 +10,7 @@ use lib.ListN.{length}
 use lib.Signed.{_≤ℤ_}
 use Rattle.graph.specs.Words.{signed}
 use Rattle.graph.specs.KeyLists.{contains, count, isFull}
+use Rattle.graph.specs.Targets.{To, named, whole, isTarget}
 use Rattle.graph.specs.Calls.{Call, unlink}
 use Rattle.graph.specs.Nodes.{Node, Result}
 use Rattle.graph.specs.OneAtATime.{oneAtATime}
@@ -19,10 +20,15 @@ use Rattle.graph.specs.Valid.{Each}
 abbrev pub nodesAfter : List Call → List Node
 nodesAfter cs = (oneAtATime cs) .nodes
 
--- the nodes that are targets
-abbrev pub targeted : List ℕ → List Node → List Node
+-- the nodes that are targets: each of them for an all-call (S-3)
+abbrev pub targeted : To → List Node → List Node
 targeted to [] = []
-targeted to (n ∷ ns) = cond (contains (n .key) to) (n ∷ targeted to ns) (targeted to ns)
+targeted to (n ∷ ns) = cond (isTarget (n .key) to) (n ∷ targeted to ns) (targeted to ns)
+
+-- their number is at most that of the keys listed, or of the nodes
+abbrev pub mostTargets : To → List Node → ℕ
+mostTargets (named ts) ns = length ts
+mostTargets whole ns = length ns
 
 -- the sum of a number for each node's list of links, without a modulus
 module _ (f : List ℕ → ℕ) where
@@ -34,18 +40,18 @@ abbrev pub oneIfFull : List ℕ → ℕ
 oneIfFull ls = cond (isFull ls) 1 0
 
 -- "The result is the number of targets whose list had eight"
-pub record LinkResult (before : List Call) (to : List ℕ) (r : Result) : Type 0 where
+pub record LinkResult (before : List Call) (to : To) (r : Result) : Type 0 where
   pub exact : r .value ≡ overLists oneIfFull (targeted to (nodesAfter before))
-  pub few : r .value ≤ length to
+  pub few : r .value ≤ mostTargets to (nodesAfter before)
 
 -- S-2: "Its result becomes the number of copies removed, over all its targets."
-pub record UnlinkResult (before : List Call) (k : ℕ) (to : List ℕ) (r : Result) : Type 0 where
+pub record UnlinkResult (before : List Call) (k : ℕ) (to : To) (r : Result) : Type 0 where
   pub exact : r .value ≡ overLists (count k) (targeted to (nodesAfter before))
   -- by so many links the nodes, all their lists together, have fewer after it
   pub removed : overLists length (nodesAfter before) ≡ r .value + overLists length (nodesAfter (before ++ (unlink k to ∷ [])))
   -- "Tool writers must know whether an unlink did something": with 0 it did nothing
   pub idle : r .value ≡ 0 → nodesAfter (before ++ (unlink k to ∷ [])) ≡ nodesAfter before
-  pub few : r .value ≤ 8 * length to
+  pub few : r .value ≤ 8 * mostTargets to (nodesAfter before)
 
 abbrev pub valuesOf : List Node → List ℕ
 valuesOf ns = map (λ (n : Node). n .value) ns
@@ -57,5 +63,5 @@ pub record SignedGreatest (vs : List ℕ) (g : ℕ) : Type 0 where
 
 -- the result of a top is the greatest of its start and its targets' values, since it "compares values and `start` as signed 32-bit
 -- numbers" (S-5)
-abbrev pub TopResult : List Call → ℕ → List ℕ → Result → Type 0
+abbrev pub TopResult : List Call → ℕ → To → Result → Type 0
 TopResult before start to r = SignedGreatest (start ∷ valuesOf (targeted to (nodesAfter before))) (r .value)

@@ -1,6 +1,6 @@
 -- Lists of calls, steps, drains and claims sent to a fresh session, and demand 3 of them: document 01, section 'Whole runs'.
 -- Assumes nothing.
-use Prim.Native.Nat.{ℕ, _*_, _≤_}
+use Prim.Native.Nat.{ℕ, _≤_}
 use mathlib.Core.Path.{_≡_}
 use mathlib.Core.Bool.{true, false}
 use mathlib.Core.List.{List, [], _∷_, _++_}
@@ -17,7 +17,7 @@ use Rattle.graph.specs.Allowed.{allowed}
 use Rattle.graph.specs.Acceptance.{accept, Claimed, claim, keeping}
 use Rattle.graph.specs.Drain.{Drained, drain}
 use Rattle.graph.specs.Valid.{Valid}
-use Rattle.graph.specs.Counts.{quotedSteps, resultOfLabel}
+use Rattle.graph.specs.Counts.{quotedSteps, quoted, resultOfLabel}
 
 pub data Event : Type 0 where
   calls : Call → Event
@@ -94,8 +94,8 @@ pub record SessionDemand3 (x : EventRun) : Type 0 where
   pub graph : pending (x .now) ≡ [] → graphOf (x .now .stations) ≡ (oneAtATime (x .accepted)) .nodes
   -- "While a call is pending, an admit, realise, move or finish is allowed."
   pub progress : (l : ℕ) → contains l (pending (x .now)) ≡ true → SessionProgress (x .now)
-  -- "The admits, realises, moves and finishes taken come together to at most 73 times the calls accepted"
-  pub bound : quotedSteps (x .taken) ≤ 73 * length (x .accepted)
+  -- "The admits, realises, moves and finishes taken come together to at most" what the licence quotes for the calls accepted
+  pub bound : quotedSteps (x .taken) ≤ quoted (x .accepted)
   -- a drain's steps, sent one by one, are each answered 0 and lead to the same; it leaves none pending
   pub oneByOne : stepAll ((drain (x .now)) .took) (x .now) ≡ done ((drain (x .now)) .end)
   pub cleared : pending ((drain (x .now)) .end) ≡ []

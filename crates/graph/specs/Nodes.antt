@@ -5,7 +5,7 @@ use mathlib.Core.Bool.{Bool, cond, not, _&&_, _||_}
 use mathlib.Core.List.{List, [], _∷_}
 use Rattle.graph.specs.declared.act.Act.{Act}
 use Rattle.graph.specs.Acts.{newValue, newLinks, newHeld, resultValue}
-use Rattle.graph.specs.KeyLists.{isNil, contains, strike}
+use Rattle.graph.specs.Targets.{Targets, reaches, struck, cleared, noneLeft, leftOf}
 
 -- "a node (key, 32-bit unsigned value, list of linked keys)"
 pub record Node : Type 0 where
@@ -17,7 +17,7 @@ pub record Node : Type 0 where
 pub record Op : Type 0 where
   pub act : Act
   pub held : ℕ
-  pub targets : List ℕ
+  pub targets : Targets
   pub labels : List ℕ
 
 -- a call's result: its value, and `left`, "the keys left unstruck"
@@ -28,27 +28,32 @@ pub record Result : Type 0 where
 
 -- does the operation target this node?
 abbrev pub hits : Op → Node → Bool
-hits o n = contains (n .key) (o .targets)
+hits o n = reaches (n .key) (o .targets)
 
--- "At each target it acts and strikes that key": the node and the operation after the act (CG Calculus: MAP, FOLD)
+-- "At each target it acts and strikes that key", an all-call is marked: the node and the operation after the act (CG Calculus: MAP, FOLD)
 abbrev pub actOn : Op → Node → Node
 actOn o n = record { key = n .key; value = newValue (o .act) (n .value); links = newLinks (o .act) (n .links) }
 
 abbrev pub actBy : Op → Node → Op
-actBy o n = record { act = o .act; held = newHeld (o .act) (o .held) (n .value) (n .links); targets = strike (n .key) (o .targets); labels = o .labels }
+actBy o n = record { act = o .act; held = newHeld (o .act) (o .held) (n .value) (n .links); targets = struck (n .key) (o .targets); labels = o .labels }
 
--- the node and the operation after they met: as they were, where the operation doesn't target the node
+-- the operation as it goes on to another station: without a mark
+abbrev pub onward : Op → Op
+onward o = record { act = o .act; held = o .held; targets = cleared (o .targets); labels = o .labels }
+
+-- the node after they met, and the operation as it goes on: as they were, where the operation doesn't target the node
 abbrev pub visitNode : Op → Node → Node
 visitNode o n = cond (hits o n) (actOn o n) n
 
 abbrev pub visitOp : Op → Node → Op
-visitOp o n = cond (hits o n) (actBy o n) o
+visitOp o n = onward (cond (hits o n) (actBy o n) o)
 
 -- "no targets left"
 abbrev pub nothingLeft : Op → Bool
-nothingLeft o = isNil (o .targets)
+nothingLeft o = noneLeft (o .targets)
 
--- "has no targets left, or, at the last station, doesn't target this node" (CG Calculus: COMPLETE, LAST)
+-- "has no targets left, or, at the last station, doesn't target this node" (CG Calculus: COMPLETE, LAST). So an all-call "may finish only at
+-- the last station, marked done there" (S-3)
 abbrev pub mayFinish : Op → Node → Bool → Bool
 mayFinish o n isLast = nothingLeft o || (isLast && not (hits o n))
 
@@ -58,7 +63,7 @@ resultsFor [] v ts = []
 resultsFor (l ∷ ls) v ts = record { label = l; value = v; left = ts } ∷ resultsFor ls v ts
 
 abbrev pub stored : Op → List Result
-stored o = resultsFor (o .labels) (resultValue (o .act) (o .held)) (o .targets)
+stored o = resultsFor (o .labels) (resultValue (o .act) (o .held)) (leftOf (o .targets))
 
 -- an add's node, where there are n: "with its value, no links and a key one above the number of nodes"
 abbrev pub newNode : ℕ → ℕ → Node

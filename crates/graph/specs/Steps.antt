@@ -8,9 +8,10 @@ use lib.ListN.{length, take, drop}
 use Rattle.graph.specs.declared.act.Act.the-variants.{Map}
 use Rattle.graph.specs.Refusals.{Answer, refused, done, mapDone}
 use Rattle.graph.specs.Affine.{composed}
-use Rattle.graph.specs.KeyLists.{isNil, disjoint, sameKeys}
+use Rattle.graph.specs.KeyLists.{isNil}
+use Rattle.graph.specs.Targets.{apart, sameTargets}
 use Rattle.graph.specs.Acts.{isMap, affineOf, mayShare}
-use Rattle.graph.specs.Nodes.{Node, Op, Result, hits, actOn, actBy, mayFinish, stored, newNode, addResult}
+use Rattle.graph.specs.Nodes.{Node, Op, Result, hits, actOn, actBy, onward, mayFinish, stored, newNode, addResult}
 use Rattle.graph.specs.OneAtATime.{Labelled, addOf, opOf}
 use Rattle.graph.specs.Sessions.{Station, station, Session, store}
 
@@ -88,13 +89,17 @@ abbrev pub realiseAt : Node → List Station → List (List Op) → Answer Chang
 realiseAt n ss us = mapDone (afterRealise n (drop 1 us) ss) (firstUnit (refused 21) (firstOp (λ o. hits o n)) us)
 
 -- MOVE (PROP): "the head unit goes to the next station's tail. Allowed where no operation in it targets this node and the
--- station isn't last."
+-- station isn't last." An all-call's mark is "cleared when it moves" (S-3).
+abbrev pub onwards : List Op → List Op
+onwards [] = []
+onwards (o ∷ os) = onward o ∷ onwards os
+
 abbrev pub atTail : List Op → Station → Station
 atTail u s = station (s .node) (s .units ++ (u ∷ []))
 
 abbrev pub moveUnit : Node → List Op → List (List Op) → List Station → Answer Change
 moveUnit n u us [] = refused 22
-moveUnit n u us (s ∷ ss) = cond (anyHits u n) (refused 22) (done (only (station n us ∷ atTail u s ∷ ss)))
+moveUnit n u us (s ∷ ss) = cond (anyHits u n) (refused 22) (done (only (station n us ∷ atTail (onwards u) s ∷ ss)))
 
 abbrev pub moveAt : Node → List Station → List (List Op) → Answer Change
 moveAt n ss us = firstUnit (refused 21) (λ u. moveUnit n u (drop 1 us) ss) us
@@ -139,17 +144,19 @@ module _ {A : Type 0} where
   onSingles other f (o ∷ []) (q ∷ r ∷ os) = other
   onSingles other f (o ∷ []) (q ∷ []) = f o q
 
--- SWAP (REORDERD, REORDERRR; not REORDERRW): "Allowed where their remaining targets are disjoint or both are folds."
+-- SWAP (REORDERD, REORDERRR; not REORDERRW): "Allowed where their remaining targets are disjoint or both are folds." An all-call's are
+-- disjoint only from those of an operation that has none left (S-3)
 abbrev pub maySwap : Op → Op → Bool
-maySwap o q = disjoint (o .targets) (q .targets) || mayShare (o .act) (q .act)
+maySwap o q = apart (o .targets) (q .targets) || mayShare (o .act) (q .act)
 
 abbrev pub swapOps : Op → Op → Answer (List (List Op))
 swapOps o q = cond (maySwap o q) (done ((q ∷ []) ∷ (o ∷ []) ∷ [])) (refused 22)
 
 -- FUSE (FUSEM, amended: no FUSEMID, and the second label keeps its `left`): "both maps with equal remaining targets and
--- together at most 4 labels, become one map, the first followed by the second"
+-- together at most 4 labels, become one map, the first followed by the second"; two all-calls "only when both are unmarked or both are
+-- marked" (S-3)
 abbrev pub mayFuse : Op → Op → Bool
-mayFuse o q = (isMap (o .act) && isMap (q .act)) && (sameKeys (o .targets) (q .targets) && leb (length (o .labels ++ q .labels)) 4)
+mayFuse o q = (isMap (o .act) && isMap (q .act)) && (sameTargets (o .targets) (q .targets) && leb (length (o .labels ++ q .labels)) 4)
 
 abbrev pub fused : Op → Op → Op
 fused o q = record { act = Map (composed (affineOf (o .act)) (affineOf (q .act))); held = 0; targets = o .targets; labels = o .labels ++ q .labels }

@@ -13,8 +13,8 @@ use Rattle.graph.specs.declared.act.Act.{Act}
 use Rattle.graph.specs.declared.act.Act.the-variants.{Map}
 use Rattle.graph.specs.Words.{modulus}
 use Rattle.graph.specs.Affine.{identity, composed, inverse}
-use Rattle.graph.specs.KeyLists.{contains}
-use Rattle.graph.specs.Calls.{Call, add, map, link, unlink, sum, top, pick, near, unmap, targetsOf}
+use Rattle.graph.specs.Targets.{To, isTarget}
+use Rattle.graph.specs.Calls.{Call, add, map, link, unlink, sum, top, pick, near, unmap, toOf}
 use Rattle.graph.specs.Nodes.{Node, Op}
 use Rattle.graph.specs.Refusals.{done}
 use Rattle.graph.specs.Steps.{mayFuse, fuseOps}
@@ -45,20 +45,20 @@ FusedToIdentity o q =
 
 -- "A map and its unmap, in either order", as calls: they have the same numbers, and each has targets of its own
 pub data MapAndUnmapCalls (a : ℕ) : Call → Call → Type 0 where
-  mapCallFirst : {b : ℕ} {ts us : List ℕ} → MapAndUnmapCalls a (map a b ts) (unmap a b us)
-  unmapCallFirst : {b : ℕ} {ts us : List ℕ} → MapAndUnmapCalls a (unmap a b ts) (map a b us)
+  mapCallFirst : {b : ℕ} {to also : To} → MapAndUnmapCalls a (map a b to) (unmap a b also)
+  unmapCallFirst : {b : ℕ} {to also : To} → MapAndUnmapCalls a (unmap a b to) (map a b also)
 
 -- does the call act on the value of the node with this key, if there is one?
 abbrev pub actsOnValue : ℕ → Call → Bool
 actsOnValue k (add v) = false
-actsOnValue k (map a b ts) = contains k ts
-actsOnValue k (link j ts) = false
-actsOnValue k (unlink j ts) = false
-actsOnValue k (sum s ts) = false
-actsOnValue k (top s ts) = false
-actsOnValue k (pick s ts) = false
-actsOnValue k (near j s ts) = false
-actsOnValue k (unmap a b ts) = contains k ts
+actsOnValue k (map a b to) = isTarget k to
+actsOnValue k (link j to) = false
+actsOnValue k (unlink j to) = false
+actsOnValue k (sum s to) = false
+actsOnValue k (top s to) = false
+actsOnValue k (pick s to) = false
+actsOnValue k (near j s to) = false
+actsOnValue k (unmap a b to) = isTarget k to
 
 -- none of the calls does
 abbrev pub NoneActs : ℕ → List Call → Type 0
@@ -77,8 +77,8 @@ withPair before c between d later = before ++ (c ∷ (between ++ (d ∷ later)))
 -- between them". Nor does one after d
 pub record TakenBack (a k : ℕ) (c : Call) (between : List Call) (d : Call) (later : List Call) : Type 0 where
   pub pair : MapAndUnmapCalls a c d
-  pub first : contains k (targetsOf c) ≡ true
-  pub second : contains k (targetsOf d) ≡ true
+  pub first : isTarget k (toOf c) ≡ true
+  pub second : isTarget k (toOf d) ≡ true
   pub nothingElse : NoneActs k between
   pub nothingAfter : NoneActs k later
 

@@ -2,12 +2,13 @@
 -- Assumes nothing.
 use Prim.Native.Nat.{ℕ, suc, _+_, _≤_, _<_}
 use mathlib.Core.Path.{_≡_}
-use mathlib.Core.Bool.{true}
+use mathlib.Core.Bool.{true, false}
 use mathlib.Core.List.{List, [], _∷_}
 use lib.ListN.{length}
 use Rattle.graph.specs.declared.act.Act.{Act}
 use Rattle.graph.specs.declared.act.Act.the-variants.{Map, Link, Unlink, Sum, Top, Pick, Near}
 use Rattle.graph.specs.KeyLists.{isKey, areKeys, count, rising}
+use Rattle.graph.specs.Targets.{Targets, these, all, isMarked}
 use Rattle.graph.specs.Words.{modulus}
 use Rattle.graph.specs.Nodes.{Node, Op, Result}
 use Rattle.graph.specs.OneAtATime.{Labelled, addOf, opOf}
@@ -23,6 +24,11 @@ pub record ValidTargets (ts : List ℕ) : Type 0 where
   pub few : length ts ≤ 8
   pub keys : areKeys ts ≡ true
   pub rise : rising ts ≡ true
+
+-- an operation's: listed, or all, marked or not
+abbrev pub ValidRemaining : Targets → Type 0
+ValidRemaining (these ts) = ValidTargets ts
+ValidRemaining (all mark) = Unit {0}
 
 -- "A link list holds at most 8 keys, repeats allowed"
 pub record ValidNode (n : Node) : Type 0 where
@@ -62,7 +68,7 @@ mostLabels (Near k) = 1
 pub record ValidOp (o : Op) : Type 0 where
   pub act : ValidAct (o .act)
   pub held : ValidHeld (o .act) (o .held)
-  pub targets : ValidTargets (o .targets)
+  pub targets : ValidRemaining (o .targets)
   pub named : 1 ≤ length (o .labels)
   pub few : length (o .labels) ≤ mostLabels (o .act)
 
@@ -76,9 +82,14 @@ pub record ValidStation (s : Station) : Type 0 where
   pub node : ValidNode (s .node)
   pub units : Each ValidUnit (s .units)
 
+-- a mark "on anything but an all-call at a station .. is refusal 2" (S-3): listed targets have none by their form, and a waiting call has none
+pub record ValidWaiting (o : Op) : Type 0 where
+  pub op : ValidOp o
+  pub unmarked : isMarked (o .targets) ≡ false
+
 abbrev pub ValidCall : Labelled → Type 0
 ValidCall (addOf l v) = v < modulus
-ValidCall (opOf o) = ValidOp o
+ValidCall (opOf o) = ValidWaiting o
 
 pub record ValidResult (r : Result) : Type 0 where
   pub value : r .value < modulus

@@ -1,0 +1,43 @@
+-- Laws of the struct that holds an operation's targets.
+-- Assumes nothing.
+use mathlib.Core.Path.{_≡_, refl, _∙_, ap}
+use Prim.Native.Nat.{ℕ, suc}
+use native.Mathlib.Omega.{arith}
+use mathlib.Core.Bool.{Bool, false}
+use mathlib.Core.List.{List, [], _∷_}
+use lib.Dec.{eqb}
+use lib.ListN.{length}
+use borrow.Author.Tests.{ne-eqb}
+use Rattle.graph.specs.declared.remaining.Remaining.{Remaining}
+use Rattle.graph.specs.KeyLists.{isNil}
+use Rattle.graph.specs.Targets.{Targets, these, all, cleared, noneLeft, leftOf, apart}
+use Rattle.graph.specs.Packed.{packed, targetsIn, packedTargets}
+
+-- no targets left, by their number
+pub nil-length : (ts : List ℕ) → eqb (length ts) 0 ≡ isNil ts
+nil-length [] = refl
+nil-length (t ∷ ts) = ne-eqb (suc (length ts)) 0 (λ (e : suc (length ts) ≡ 0). omega arith)
+
+-- an all-call shares a target with all but those that have none left
+pub apart-all : (mark : Bool) (t : Targets) → apart (all mark) t ≡ noneLeft t
+apart-all mark (these ts) = refl
+apart-all mark (all other) = refl
+
+abbrev without : Remaining → Remaining
+without a = record { all = a .all; mark = false; keys = a .keys }
+
+packed-cleared : (t : Targets) → without (packedTargets t) ≡ packedTargets (cleared t)
+packed-cleared (these ts) = refl
+packed-cleared (all mark) = refl
+
+packed-left : (t : Targets) → (packedTargets t) .keys ≡ packed (leftOf t)
+packed-left (these ts) = refl
+packed-left (all mark) = refl
+
+-- a struct in the normal form
+module _ (a : Remaining) (p : a ≡ packedTargets (targetsIn a)) where
+  pub normal-cleared : without a ≡ packedTargets (cleared (targetsIn a))
+  normal-cleared = ap without p ∙ packed-cleared (targetsIn a)
+
+  pub normal-left : a .keys ≡ packed (leftOf (targetsIn a))
+  normal-left = ap (λ (x : Remaining). x .keys) p ∙ packed-left (targetsIn a)

@@ -1,0 +1,28 @@
+-- Calls over the whole scene (S-3): one-at-a-time processing of an all-call, said without marks. proofs/WholeScene.antt proves it.
+-- Assumes nothing.
+use Prim.Native.Nat.{ℕ}
+use mathlib.Core.Path.{_≡_}
+use mathlib.Core.List.{List, [], _∷_, _++_}
+use Rattle.graph.specs.declared.act.Act.{Act}
+use Rattle.graph.specs.Acts.{newValue, newLinks, newHeld, resultValue}
+use Rattle.graph.specs.Targets.{whole}
+use Rattle.graph.specs.Nodes.{Node}
+use Rattle.graph.specs.OneAtATime.{operation, World, process}
+
+-- the nodes after the act at each of them, and what the call holds after the last, where it holds h at first
+abbrev pub everyNode : Act → List Node → List Node
+everyNode a [] = []
+everyNode a (n ∷ ns) = record { key = n .key; value = newValue a (n .value); links = newLinks a (n .links) } ∷ everyNode a ns
+
+abbrev pub heldThrough : Act → ℕ → List Node → ℕ
+heldThrough a h [] = h
+heldThrough a h (n ∷ ns) = heldThrough a (newHeld a h (n .value) (n .links)) ns
+
+-- "Such a call acts at each station that it meets, and its `left` is empty": one at a time it meets every node, from front to back
+abbrev pub ActsAtEveryNode : Type 0
+ActsAtEveryNode =
+    (a : Act) (h l : ℕ) (x : World) → process (operation a h whole l) x
+    ≡ record {
+      nodes = everyNode a (x .nodes);
+      results = x .results ++ (record { label = l; value = resultValue a (heldThrough a h (x .nodes)); left = [] } ∷ []);
+    }
