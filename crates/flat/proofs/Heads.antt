@@ -11,18 +11,18 @@ use lib.Seq.{slice, take-append-seam, getD-at, set-at}
 use borrow.Author.Tests.{ne-eqb, eq-eqb, lt-ltb, le-ltb}
 use Rattle.graph.specs.Refusals.{Answer, refused, done, mapDone}
 use Rattle.graph.specs.KeyLists.{isNil}
-use Rattle.graph.specs.Nodes.{Node, Op, Result, hits, actOn, actBy, mayFinish, stored}
+use Rattle.graph.specs.Nodes.{Node, Op, Result, hits, actOn, actBy, onward, mayFinish, stored}
 use Rattle.graph.specs.declared.task.Sought.the-variants.{Acts, Finishes}
 use Rattle.graph.specs.Tasks.{ruleFor, ruleActs, ruleFinishes}
 use Rattle.graph.proofs.Tasks.{acts-exactly, finishes-exactly}
 use Rattle.graph.specs.Sessions.{Station, station, Session, store}
-use Rattle.graph.specs.Steps.{Change, only, any, anyHits, FirstOp, firstOp, moveAt, afterRealise, realiseAt, afterFinish, finishAt, putUnit, move, realise, finish, step}
+use Rattle.graph.specs.Steps.{Change, only, any, anyHits, FirstOp, firstOp, onwards, moveAt, afterRealise, realiseAt, afterFinish, finishAt, putUnit, move, realise, finish, step}
 use Rattle.flat.specs.Flat.{Tagged, Flat, standing, tagUnit, tagUnits, queueOf, nodesOf, flat}
 use Rattle.flat.specs.Inner.Queues.{firstIndex, removeAt}
 use Rattle.flat.specs.Inner.Nested.{atPlace, Full, Keyed}
 use Rattle.flat.proofs.Places.{No, find-none, find-at, drop-past, drop-mid, slice-mid, no-queue, beyond-below, length-nodes}
 use Rattle.flat.proofs.Nesting.{flatSession}
-use Rattle.flat.specs.Inner.FlatSteps.{alter, mapFrom, firstIn, noOp, noNode, moveTo, openAs, soughtAt, unitFrom, headUnit, onPlace, onFirstOp, moveFlat, actAt, actFlat, realiseFlat, takeOut, finishPlace, leaveFlat, finishFlat, flatStep}
+use Rattle.flat.specs.Inner.FlatSteps.{alter, mapFrom, firstIn, noOp, noNode, moveOn, openAs, soughtAt, unitFrom, headUnit, onPlace, onFirstOp, moveFlat, actAt, actFlat, realiseFlat, takeOut, finishPlace, leaveFlat, finishFlat, flatStep}
 use Rattle.flat.proofs.Focus.{put, back, Agrees, step-focus}
 use Rattle.flat.proofs.UnitPlaces.{unit-none, unit-here, start}
 
@@ -78,15 +78,15 @@ pub any-ops : (k : ℕ) (b : Bool) (u : List Op) (n : Node) → n .key ≡ k →
 any-ops k b [] n e = refl
 any-ops k b (o ∷ os) n e = ap₂ (λ (x y : Bool). x || y) (sym (acts-same k n e b o)) (any-ops k false os n e)
 
-pub moved-ops : (j k : ℕ) (b : Bool) (u : List Op) → map (moveTo j) (tagUnit k b u) ≡ tagUnit j b u
+pub moved-ops : (j k : ℕ) (b : Bool) (u : List Op) → map (moveOn j) (tagUnit k b u) ≡ tagUnit j b (onwards u)
 moved-ops j k b [] = refl
-moved-ops j k b (o ∷ os) = ap (λ (r : List Tagged). standing j b o ∷ r) (moved-ops j k false os)
+moved-ops j k b (o ∷ os) = ap (λ (r : List Tagged). standing j b (onward o) ∷ r) (moved-ops j k false os)
 
 pub tagUnits-append : (k : ℕ) (us vs : List (List Op)) → tagUnits k (us ++ vs) ≡ tagUnits k us ++ tagUnits k vs
 tagUnits-append k [] vs = refl
 tagUnits-append k (u ∷ us) vs = ap (λ (r : List Tagged). tagUnit k true u ++ r) (tagUnits-append k us vs) ∙ sym (append-assoc (tagUnit k true u) (tagUnits k us) (tagUnits k vs))
 
-move-queue : (j k : ℕ) (Q : List Tagged) (vs us : List (List Op)) (u : List Op) (A : List Tagged) → (Q ++ tagUnits j vs) ++ (map (moveTo j) (tagUnit k true u) ++ (tagUnits k us ++ A)) ≡ ((Q ++ tagUnits j (vs ++ (u ∷ []))) ++ tagUnits k us) ++ A
+move-queue : (j k : ℕ) (Q : List Tagged) (vs us : List (List Op)) (u : List Op) (A : List Tagged) → (Q ++ tagUnits j vs) ++ (map (moveOn j) (tagUnit k true u) ++ (tagUnits k us ++ A)) ≡ ((Q ++ tagUnits j (vs ++ (onwards u ∷ []))) ++ tagUnits k us) ++ A
 move-queue j k Q vs us u A = simp (moved-ops, tagUnits-append, append-assoc, append-nil)
 
 module _ (k : ℕ) (rs : List Result) (l : ℕ) where
@@ -105,18 +105,18 @@ module _ (k : ℕ) (rs : List Result) (l : ℕ) where
       R = tagUnits k us ++ A
 
       new : Flat
-      new = flatSession ((nodesOf (s ∷ ss) ++ (n ∷ [])) ++ N) (mapFrom (moveTo (k - 1)) (length B) (length (B ++ U)) (B ++ (U ++ R))) rs l
+      new = flatSession ((nodesOf (s ∷ ss) ++ (n ∷ [])) ++ N) (mapFrom (moveOn (k - 1)) (length B) (length (B ++ U)) (B ++ (U ++ R))) rs l
 
       test : (eqb k 1 || any (soughtAt Acts k) (slice (length B) (length (B ++ U)) (B ++ (U ++ R)))) ≡ anyHits (o ∷ os) n
       test = rw (ne-eqb k 1 (λ x. omega arith), slice-mid B U R) (any-ops k true (o ∷ os) n e)
 
-      go : (b : Bool) → cond b (refused 22) (done new) ≡ mapDone (back N A rs l) (cond b (refused 22) (done (only (station n us ∷ station (s .node) (s .units ++ ((o ∷ os) ∷ [])) ∷ ss))))
+      go : (b : Bool) → cond b (refused 22) (done new) ≡ mapDone (back N A rs l) (cond b (refused 22) (done (only (station n us ∷ station (s .node) (s .units ++ (onwards (o ∷ os) ∷ [])) ∷ ss))))
       go true = refl
       go false = ap (λ (x : List Tagged). done (flatSession ((nodesOf (s ∷ ss) ++ (n ∷ [])) ++ N) x rs l))
-          (mapFrom-mid (moveTo (k - 1)) (queueOf (s ∷ ss)) (tagUnit k true (o ∷ os)) (tagUnits k us ++ A)
-          ∙ ap (λ (j : ℕ). queueOf (s ∷ ss) ++ (map (moveTo j) (tagUnit k true (o ∷ os)) ++ (tagUnits k us ++ A))) (omega (arith, K .0 .0))
+          (mapFrom-mid (moveOn (k - 1)) (queueOf (s ∷ ss)) (tagUnit k true (o ∷ os)) (tagUnits k us ++ A)
+          ∙ ap (λ (j : ℕ). queueOf (s ∷ ss) ++ (map (moveOn j) (tagUnit k true (o ∷ os)) ++ (tagUnits k us ++ A))) (omega (arith, K .0 .0))
           ∙ move-queue (s .node .key) k (queueOf ss) (s .units) us (o ∷ os) A
-          ∙ ap (λ (j : ℕ). ((queueOf ss ++ tagUnits (s .node .key) (s .units ++ ((o ∷ os) ∷ []))) ++ tagUnits j us) ++ A) (sym e))
+          ∙ ap (λ (j : ℕ). ((queueOf ss ++ tagUnits (s .node .key) (s .units ++ (onwards (o ∷ os) ∷ []))) ++ tagUnits j us) ++ A) (sym e))
 
   pub move-agrees : Agrees k (headUnit k (moveFlat k)) (λ s ss. moveAt (s .node) ss (s .units)) rs l
   move-agrees = head-agrees k (moveFlat k) moveAt rs l (λ n ss. refl) move-unit

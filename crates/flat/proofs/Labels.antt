@@ -62,13 +62,13 @@ pub live-length : (s : Session) → length (liveIn (flat s)) ≡ length (live s)
 live-length s = sym (total-one (liveIn (flat s))) ∙ live-same one s ∙ total-one (live s)
 
 -- each call of a queue has a label of its own
-labels-some : (c : Labelled) → ValidCall c → 1 ≤ length (labelsIn c)
+pub labels-some : (c : Labelled) → ValidCall c → 1 ≤ length (labelsIn c)
 labels-some (addOf l v) g = omega arith
-labels-some (opOf o) g = g .named
+labels-some (opOf o) g = g .op .named
 
-pub labels-many : (q : List Tagged) → Each (λ x. ValidCall (x .call)) q → length q ≤ length (queued q)
+pub labels-many : (q : List Tagged) → Each (λ x. 1 ≤ length (labelsIn (x .call))) q → length q ≤ length (queued q)
 labels-many [] g = omega arith
-labels-many (x ∷ xs) g = omega (arith, length-append (labelsIn (x .call)) (queued xs), labels-some (x .call) (g .0), labels-many xs (g .1))
+labels-many (x ∷ xs) g = omega (arith, length-append (labelsIn (x .call)) (queued xs), g .0, labels-many xs (g .1))
 
 -- ADDS: none stands at a station
 adds-unit : (k : ℕ) (b : Bool) (os : List Op) (q : List Tagged) → addsQueued (tagUnit k b os ++ q) ≡ addsQueued q

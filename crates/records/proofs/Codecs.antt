@@ -62,7 +62,6 @@ pub record FitOp (o : OpRecord) : Type 0 where
   pub b : o .b < modulus
   pub targets : FitKeys (o .targets)
   pub labels : FitLabels (o .labels)
-  pub spare : o .spare < 2 ^ 16
 
 pub record FitResult (r : ResultRecord) : Type 0 where
   pub label : r .label < 2 ^ 16
@@ -115,7 +114,8 @@ op-back o f =
       b = back32 (o .b) (f .b) i;
       targets = keys-back (o .targets) (f .targets) i;
       labels = labels-back (o .labels) (f .labels) i;
-      spare = back16 (o .spare) (f .spare) i;
+      all = o .all;
+      mark = o .mark;
     }
 
 pub result-back : (r : ResultRecord) → FitResult r → decodeResult (encodeResult r) ≡ r
@@ -140,7 +140,7 @@ module _ (s : List ℕ) (b : Bytes s) where
   op-there e =
       (λ i. (getD s 0 0 ∷ getD s 1 0 ∷ getD s 2 0 ∷ getD s 3 0 ∷ []) ++ four 4 i ++ four 8 i ++ encodeKeys (keysAt s 12)
       ++ ((getD s 21 0 ∷ []) ++ two 22 i ++ two 24 i ++ two 26 i ++ two 28 i)
-      ++ two 30 i)
+      ++ (getD s 30 0 ∷ getD s 31 0 ∷ []))
       ∙ tab-all 32 s 0 e
 
   pub result-there : length s ≡ 16 → encodeResult (decodeResult s) ≡ s
@@ -173,7 +173,6 @@ module _ (s : List ℕ) (b : Bytes s) where
         b = small32 8;
         targets = record { places = refl };
         labels = record { places = refl; small = small-labels };
-        spare = small16 30;
       }
 
   pub fit-result : FitResult (decodeResult s)

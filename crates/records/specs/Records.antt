@@ -40,7 +40,7 @@ encodeOp o =
     ++ bytes32 (o .b)
     ++ encodeKeys (o .targets)
     ++ encodeLabels (o .labels)
-    ++ bytes16 (o .spare)
+    ++ (o .all ∷ o .mark ∷ [])
 
 -- a result, 16 bytes
 unfoldable pub encodeResult : ResultRecord → List ℕ

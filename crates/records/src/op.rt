@@ -1,6 +1,5 @@
 // The record of an operation.
 use crate::bytes::keys_at;
-use crate::bytes::u16_at;
 use crate::bytes::u32_at;
 use crate::labels::Labels;
 use crate::labels::labels_at;
@@ -19,7 +18,9 @@ pub struct OpRecord {
     pub b: u32,
     pub targets: Keys,
     pub labels: Labels,
-    pub spare: u16,
+    // 1 for an all-call, and 1 where it is done at this station.
+    pub all: u8,
+    pub mark: u8,
 }
 
 pub fn read_op(s: &[u8]) -> OpRecord
@@ -35,7 +36,8 @@ pub fn read_op(s: &[u8]) -> OpRecord
         b: u32_at(s, 8),
         targets: keys_at(s, 12),
         labels: labels_at(s, 21),
-        spare: u16_at(s, 30),
+        all: s[30],
+        mark: s[31],
     }
 }
 
@@ -52,7 +54,6 @@ pub fn op_bytes(o: OpRecord) -> [u8; 32]
     let x1 = x[1];
     let x2 = x[2];
     let x3 = x[3];
-    let z = o.spare;
     [
         o.station,
         o.opens,
@@ -84,7 +85,7 @@ pub fn op_bytes(o: OpRecord) -> [u8; 32]
         (x2 / 256 % 256) as u8,
         (x3 % 256) as u8,
         (x3 / 256 % 256) as u8,
-        (z % 256) as u8,
-        (z / 256 % 256) as u8,
+        o.all,
+        o.mark,
     ]
 }

@@ -3,28 +3,31 @@
 use mathlib.Core.Path.{_≡_, refl, sym, ap, subst, _∙_}
 use Prim.Native.Nat.{ℕ, zero, suc, _+_, _-_, _≤_, _<_, _^_}
 use native.Mathlib.Omega.{arith}
-use mathlib.Core.Bool.{Bool, true, false, cond, true≢false}
+use mathlib.Core.Bool.{Bool, true, false, cond, not, _&&_, true≢false}
 use mathlib.Core.List.{List, [], _∷_, _++_}
 use lib.Dec.{eqb, leb, ltb}
 use lib.ListN.{length, getD, take, replicate, length-append, length-replicate}
-use borrow.Author.Tests.{eqb-true, eqb-false, ltb-true, leb-true, lt-ltb, eq-eqb}
+use borrow.Author.Tests.{eqb-true, eqb-false, ltb-true, leb-true, lt-ltb, eq-eqb, ne-eqb}
 use Rattle.graph.specs.Words.{modulus}
 use Rattle.graph.specs.declared.act.Act.{Act}
 use Rattle.graph.specs.declared.act.Act.the-variants.{Map, Link, Unlink, Sum, Top, Pick, Near}
-use Rattle.graph.specs.Packed.{listed, packed}
+use Rattle.graph.specs.declared.remaining.Remaining.{Remaining}
+use Rattle.graph.specs.Packed.{listed, packed, targetsIn, packedTargets}
+use Rattle.graph.specs.Targets.{Targets, these, all, isMarked, leftOf}
 use Rattle.graph.specs.Nodes.{Node, Result}
 use Rattle.graph.specs.OneAtATime.{Labelled, addOf, opOf}
-use Rattle.graph.specs.Valid.{Each, ValidTargets, ValidNode, ValidAct, ValidHeld, mostLabels, ValidOp, ValidCall, ValidResult}
+use Rattle.graph.specs.Valid.{Each, ValidTargets, ValidRemaining, ValidNode, ValidAct, ValidHeld, mostLabels, ValidOp, ValidResult}
 use Rattle.graph.proofs.Answers.{and-left, and-right, by-bool}
 use Rattle.graph.proofs.KeyLaws.{listed-packed}
 use Rattle.flat.specs.Inner.Queues.{placed, follows, labelsIn}
 use Rattle.records.specs.declared.node.NodeRecord.{NodeRecord}
 use Rattle.records.specs.declared.op.OpRecord.{OpRecord}
 use Rattle.records.specs.declared.result.ResultRecord.{ResultRecord}
-use Rattle.records.proofs.Codecs.{FitLabels, FitNode, FitOp, FitResult}
-use Rattle.valid.specs.Inner.Decoded.{decodedNode, decodedResult, labelsOf, actOf, heldOf, decodedCall, taggedOf}
+use Rattle.records.proofs.Codecs.{FitKeys, FitLabels, FitNode, FitOp, FitResult}
+use Rattle.valid.specs.Inner.Decoded.{decodedNode, decodedResult, labelsOf, actOf, heldOf, remainingOf, decodedCall, taggedOf}
 use Rattle.valid.specs.Values.{nodeRecord, resultRecord, packedLabels, Fields, fields, fieldsOf, opRecord, callRecord, taggedRecord}
-use Rattle.valid.specs.Inner.Tests.{keysOk, labelsOk, nodeOk, operandOk, multiplierOk, mostOf, targetsOk, opOk, resultOk}
+use Rattle.valid.specs.Inner.Tests.{keysOk, labelsOk, nodeOk, operandOk, multiplierOk, mostOf, targetsOk, allOk, markOk, opOk, resultOk}
+use Rattle.valid.proofs.Facts.{ValidPlaced}
 use Rattle.valid.proofs.Packing.{KeysGood, keys-good, keys-packed, packed-ok, packed-fit, LabelsGood, labels-length, labels-good, labels-packed, packed-labels-ok, labels-of-packed}
 
 -- NODES
@@ -140,7 +143,8 @@ pub record OpFacts (n prev : ℕ) (o : OpRecord) : Type 0 where
   pub targets : keysOk true (o .targets) ≡ true
   pub labels : labelsOk (mostOf (o .kind)) (o .labels) ≡ true
   pub opens : leb (o .opens) 1 ≡ true
-  pub spare : eqb (o .spare) 0 ≡ true
+  pub all : allOk (o .kind) (o .targets .count) (o .all) ≡ true
+  pub mark : markOk (o .station) (o .all) (o .mark) ≡ true
 
 pub op-facts : (n prev : ℕ) (o : OpRecord) → opOk n prev o ≡ true → OpFacts n prev o
 unfolding opOk
@@ -153,6 +157,7 @@ op-facts n prev o e =
     let e6 = and-right (targetsOk (o .kind) (o .targets .count)) _ e5 in
     let e7 = and-right (keysOk true (o .targets)) _ e6 in
     let e8 = and-right (labelsOk (mostOf (o .kind)) (o .labels)) _ e7 in
+    let e9 = and-right (leb (o .opens) 1) _ e8 in
     record {
       place = and-left _ _ e;
       next = and-left _ _ e1;
@@ -163,12 +168,13 @@ op-facts n prev o e =
       targets = and-left _ _ e6;
       labels = and-left _ _ e7;
       opens = and-left _ _ e8;
-      spare = and-right (leb (o .opens) 1) _ e8;
+      all = and-left _ _ e9;
+      mark = and-right (allOk (o .kind) (o .targets .count) (o .all)) _ e9;
     }
 
 pub op-passes : (n prev : ℕ) (o : OpRecord) → OpFacts n prev o → opOk n prev o ≡ true
 unfolding opOk
-op-passes n prev o f = rw (f .place, f .next, f .kind, f .operand, f .multiplier, f .none, f .targets, f .labels, f .opens) (f .spare)
+op-passes n prev o f = rw (f .place, f .next, f .kind, f .operand, f .multiplier, f .none, f .targets, f .labels, f .opens, f .all) (f .mark)
 
 pub flag-kept : (x : ℕ) → x ≤ 1 → cond (eqb x 1) 1 0 ≡ x
 flag-kept zero h = refl
@@ -181,6 +187,33 @@ one-label (x ∷ xs) n e h = ap (λ (k : ℕ). take k (x ∷ xs)) (sym e)
 
 no-keys : (ks : List ℕ) (n : ℕ) → n ≡ 0 → [] ≡ take n ks
 no-keys ks n e = ap (λ (k : ℕ). take k ks) (sym e)
+
+-- what the bytes for all and for the mark say
+record AllFacts (kind count all : ℕ) : Type 0 where
+  small : all ≤ 1
+  none : eqb all 1 ≡ true → count ≡ 0
+  add : kind ≡ 0 → all ≡ 0
+
+all-facts : (kind count a : ℕ) → allOk kind count a ≡ true → AllFacts kind count a
+all-facts kind count zero e = record { small = omega arith; none = λ q. absurd (true≢false (sym q)); add = λ q. refl }
+all-facts zero count (suc zero) e = absurd (true≢false (sym e))
+all-facts (suc kind) count (suc zero) e =
+    record { small = omega arith; none = λ q. eqb-true count 0 (and-right (not (eqb (suc kind) 0)) _ e); add = λ q. absurd (omega arith) }
+all-facts kind count (suc (suc a)) e = absurd (true≢false (sym (rw (ne-eqb (suc (suc a)) 0 (λ q. omega arith), ne-eqb (suc (suc a)) 1 (λ q. omega arith)) at e)))
+
+record MarkFacts (station all mark : ℕ) : Type 0 where
+  small : mark ≤ 1
+  listed : eqb all 1 ≡ false → eqb mark 1 ≡ false
+  waits : station ≡ 65 → eqb mark 1 ≡ false
+
+mark-facts : (station a mark : ℕ) → markOk station a mark ≡ true → MarkFacts station a mark
+mark-facts station a zero e = record { small = omega arith; listed = λ q. refl; waits = λ q. refl }
+mark-facts station a (suc zero) e = record {
+  small = omega arith;
+  listed = λ q. absurd (true≢false (sym (and-left _ _ e) ∙ q));
+  waits = λ q. absurd (true≢false (sym (and-right (eqb a 1) _ e) ∙ ap not (eq-eqb station 65 q)));
+}
+mark-facts station a (suc (suc mark)) e = absurd (true≢false (sym (rw (ne-eqb (suc (suc mark)) 0 (λ q. omega arith), ne-eqb (suc (suc mark)) 1 (λ q. omega arith)) at e)))
 
 module _ (n prev : ℕ) (o : OpRecord) (fit : FitOp o) (e : opOk n prev o ≡ true) where
   facts : OpFacts n prev o
@@ -195,22 +228,43 @@ module _ (n prev : ℕ) (o : OpRecord) (fit : FitOp o) (e : opOk n prev o ≡ tr
   agood : (o .kind ≡ 0 → ⊥) → ActGood (o .kind) (o .key) (o .a) (o .b)
   agood nz = act-good (o .kind) (o .key) (o .a) (o .b) (fit .a) (fit .b) nz (facts .kind) (facts .operand) (facts .multiplier)
 
-  pub call-valid : ValidCall (decodedCall o)
-  call-valid = by-bool (eqb (o .kind) 0) (λ q. rw q (fit .b)) (λ q. rw q (valid (agood (eqb-false (o .kind) 0 q))))
+  afacts : AllFacts (o .kind) (o .targets .count) (o .all)
+  afacts = all-facts (o .kind) (o .targets .count) (o .all) (facts .all)
+
+  mfacts : MarkFacts (o .station) (o .all) (o .mark)
+  mfacts = mark-facts (o .station) (o .all) (o .mark) (facts .mark)
+
+  -- no key is listed: none is stored
+  unlisted : o .targets .count ≡ 0 → packed [] ≡ o .targets
+  unlisted z = ap packed (no-keys (o .targets .key) (o .targets .count) z) ∙ keys-packed true (o .targets) (fit .targets) (facts .targets)
+
+  remaining-there : packedTargets (targetsIn (remainingOf o)) ≡ remainingOf o
+  remaining-there = by-bool (eqb (o .all) 1)
+      (λ q. rw q (λ i. record { all = true; mark = eqb (o .mark) 1; keys = unlisted (afacts .none q) i }))
+      (λ q. rw q (λ i. record { all = false; mark = sym (mfacts .listed q) i; keys = keys-packed true (o .targets) (fit .targets) (facts .targets) i }))
+
+  remaining-valid : ValidRemaining (targetsIn (remainingOf o))
+  remaining-valid = by-bool (eqb (o .all) 1) (λ q. rw q tt) (λ q. rw q (record { few = tgood .few; keys = tgood .keys; rise = tgood .rises refl }))
+
+  unmarked : o .station ≡ 65 → isMarked (targetsIn (remainingOf o)) ≡ false
+  unmarked w = by-bool (eqb (o .all) 1) (λ q. rw q (mfacts .waits w)) (λ q. rw q)
+
+  pub call-valid : ValidPlaced (o .station) (decodedCall o)
+  call-valid = by-bool (eqb (o .kind) 0) (λ q. rw q (fit .b)) (λ q. rw q (valid (agood (eqb-false (o .kind) 0 q)), unmarked))
     where
-      valid : ActGood (o .kind) (o .key) (o .a) (o .b) → ValidOp (record { act = actOf (o .kind) (o .key) (o .a) (o .b); held = heldOf (o .kind) (o .b); targets = listed (o .targets); labels = labelsOf (o .labels) })
+      valid : ActGood (o .kind) (o .key) (o .a) (o .b) → ValidOp (record { act = actOf (o .kind) (o .key) (o .a) (o .b); held = heldOf (o .kind) (o .b); targets = targetsIn (remainingOf o); labels = labelsOf (o .labels) })
       valid g =
           record {
             act = g .act;
             held = g .held;
-            targets = record { few = tgood .few; keys = tgood .keys; rise = tgood .rises refl };
+            targets = remaining-valid;
             named = lgood .named;
             few = subst (λ (k : ℕ). length (labelsOf (o .labels)) ≤ k) (g .most) (lgood .few);
           }
 
   -- a record whose parts are those of o is o
-  made : (f : Fields) (ts ls : List ℕ) → f ≡ fields (o .kind) (o .key) (o .a) (o .b) → packed ts ≡ o .targets → packedLabels ls ≡ o .labels → opRecord (o .station) (eqb (o .opens) 1) f ts ls ≡ o
-  made f ts ls p q r =
+  made : (f : Fields) (t : Targets) (ls : List ℕ) → f ≡ fields (o .kind) (o .key) (o .a) (o .b) → packedTargets t ≡ remainingOf o → packedLabels ls ≡ o .labels → opRecord (o .station) (eqb (o .opens) 1) f t ls ≡ o
+  made f t ls p q r =
       λ i.
       record {
         station = o .station;
@@ -219,9 +273,10 @@ module _ (n prev : ℕ) (o : OpRecord) (fit : FitOp o) (e : opOk n prev o ≡ tr
         key = p i .key;
         a = p i .a;
         b = p i .b;
-        targets = q i;
+        targets = q i .keys;
         labels = r i;
-        spare = sym (eqb-true (o .spare) 0 (facts .spare)) i;
+        all = (ap (λ (x : Remaining). cond (x .all) 1 0) q ∙ flag-kept (o .all) (afacts .small)) i;
+        mark = (ap (λ (x : Remaining). cond (x .mark) 1 0) q ∙ flag-kept (o .mark) (mfacts .small)) i;
       }
 
   -- an add has one label
@@ -236,16 +291,17 @@ module _ (n prev : ℕ) (o : OpRecord) (fit : FitOp o) (e : opOk n prev o ≡ tr
       let op : operandOk 0 (o .key) ≡ true = subst (λ (k : ℕ). operandOk k (o .key) ≡ true) kind (facts .operand) in
       let multiplier : multiplierOk 0 (o .a) ≡ true = subst (λ (k : ℕ). multiplierOk k (o .a) ≡ true) kind (facts .multiplier) in
       let none : targetsOk 0 (o .targets .count) ≡ true = subst (λ (k : ℕ). targetsOk k (o .targets .count) ≡ true) kind (facts .none) in
-      made (fields 0 0 0 (o .b)) [] (getD (o .labels .label) 0 0 ∷ [])
+      let listed-none : eqb (o .all) 1 ≡ false = ap (λ (x : ℕ). eqb x 1) (afacts .add kind) in
+      made (fields 0 0 0 (o .b)) (these []) (getD (o .labels .label) 0 0 ∷ [])
       (λ i. fields (sym kind i) (sym (eqb-true (o .key) 0 op) i) (sym (eqb-true (o .a) 0 multiplier) i) (o .b))
-      (ap packed (no-keys (o .targets .key) (o .targets .count) (eqb-true (o .targets .count) 0 none)) ∙ keys-packed true (o .targets) (fit .targets) (facts .targets))
+      (λ i. record { all = sym listed-none i; mark = sym (mfacts .listed listed-none) i; keys = unlisted (eqb-true (o .targets .count) 0 none) i })
       (ap packedLabels (one-label (o .labels .label) (o .labels .count) (one-count q) (omega (arith, fit .labels .places)))
       ∙ labels-packed (mostOf (o .kind)) (most-four (o .kind)) (o .labels) (fit .labels) (facts .labels))
 
   pub op-there : taggedRecord (taggedOf o) ≡ o
   op-there = by-bool (eqb (o .kind) 0) (λ q. rw q (add-parts q))
-      (λ q. rw q (made _ (listed (o .targets)) (labelsOf (o .labels)) (agood (eqb-false (o .kind) 0 q) .same)
-      (keys-packed true (o .targets) (fit .targets) (facts .targets)) (labels-packed (mostOf (o .kind)) (most-four (o .kind)) (o .labels) (fit .labels) (facts .labels))))
+      (λ q. rw q (made _ (targetsIn (remainingOf o)) (labelsOf (o .labels)) (agood (eqb-false (o .kind) 0 q) .same)
+      remaining-there (labels-packed (mostOf (o .kind)) (most-four (o .kind)) (o .labels) (fit .labels) (facts .labels))))
 
   pub op-labels-same : labelsIn (decodedCall o) ≡ labelsOf (o .labels)
   op-labels-same = by-bool (eqb (o .kind) 0) (λ q. rw q (one-label (o .labels .label) (o .labels .count) (one-count q) (omega (arith, fit .labels .places)))) (λ q. rw q)
@@ -310,7 +366,23 @@ no-targets = record { few = omega arith; keys = refl; rises = λ b. refl }
 one-good : (l : ℕ) → LabelsGood 1 (l ∷ [])
 one-good l = record { named = omega arith; few = omega arith }
 
-pub record-good : (p : ℕ) (b : Bool) (c : Labelled) → ValidCall c → RecordGood p b c
+-- the targets of a valid call, in a record at p of a kind that is no add's
+record RemainingGood (p kind : ℕ) (t : Targets) : Type 0 where
+  back : targetsIn (record { all = eqb (cond (packedTargets t .all) 1 0) 1; mark = eqb (cond (packedTargets t .mark) 1 0) 1; keys = packedTargets t .keys }) ≡ t
+  keys : KeysGood true (leftOf t)
+  listed : packedTargets t .keys ≡ packed (leftOf t)
+  all : allOk kind (packedTargets t .keys .count) (cond (packedTargets t .all) 1 0) ≡ true
+  mark : markOk p (cond (packedTargets t .all) 1 0) (cond (packedTargets t .mark) 1 0) ≡ true
+
+remaining-good : (p kind : ℕ) (t : Targets) → eqb kind 0 ≡ false → ValidRemaining t → (p ≡ 65 → isMarked t ≡ false) → RemainingGood p kind t
+unfolding packed
+remaining-good p kind (these ts) k v m =
+    record { back = ap these (listed-packed ts); keys = targets-good ts v; listed = refl; all = refl; mark = refl }
+remaining-good p kind (all true) k v m =
+    record { back = refl; keys = no-targets; listed = refl; all = rw k; mark = rw (ne-eqb p 65 (λ e. true≢false (m e))) }
+remaining-good p kind (all false) k v m = record { back = refl; keys = no-targets; listed = refl; all = rw k; mark = refl }
+
+pub record-good : (p : ℕ) (b : Bool) (c : Labelled) → ValidPlaced p c → RecordGood p b c
 unfolding packedLabels packed
 record-good p b (addOf l v) h =
     record {
@@ -326,23 +398,22 @@ record-good p b (addOf l v) h =
             targets = packed-ok true [] no-targets;
             labels = packed-labels-ok 1 (omega arith) (l ∷ []) (one-good l);
             opens = flag-small b;
-            spare = refl;
+            all = refl;
+            mark = refl;
           };
-      fit = λ s. record { a = omega arith; b = h; targets = packed-fit true [] no-targets; labels = labels-fit (l ∷ []) (omega arith) s; spare = omega arith };
+      fit = λ s. record { a = omega arith; b = h; targets = packed-fit true [] no-targets; labels = labels-fit (l ∷ []) (omega arith) s };
     }
-record-good p b (opOf o) h = made (fields-good (o .act) (o .held) (h .act) (h .held))
+record-good p b (opOf o) (h, m) = made (fields-good (o .act) (o .held) (h .act) (h .held))
   where
-    tg : KeysGood true (o .targets)
-    tg = targets-good (o .targets) (h .targets)
-
     made : FieldsGood (o .act) (o .held) (fieldsOf (o .act) (o .held)) → RecordGood p b (opOf o)
     made g =
         let f = fieldsOf (o .act) (o .held) in
+        let r = remaining-good p (f .kind) (o .targets) (g .other) (h .targets) m in
         let few : length (o .labels) ≤ mostOf (f .kind) = subst (λ (k : ℕ). length (o .labels) ≤ k) (g .most) (h .few) in
         let lg : LabelsGood (mostOf (f .kind)) (o .labels) = record { named = h .named; few = few } in
         record {
           back =
-              (λ i. record { place = p; opens = flag-back b i; call = cond (g .other i) (addOf (getD (packedLabels (o .labels) .label) 0 0) (f .b)) (opOf (record { act = g .act i; held = g .held i; targets = listed-packed (o .targets) i; labels = labels-of-packed (mostOf (f .kind)) (most-four (f .kind)) (o .labels) lg i })) });
+              (λ i. record { place = p; opens = flag-back b i; call = cond (g .other i) (addOf (getD (packedLabels (o .labels) .label) 0 0) (f .b)) (opOf (record { act = g .act i; held = g .held i; targets = r .back i; labels = labels-of-packed (mostOf (f .kind)) (most-four (f .kind)) (o .labels) lg i })) });
           facts = λ n prev x y.
               record {
                 place = x;
@@ -351,17 +422,17 @@ record-good p b (opOf o) h = made (fields-good (o .act) (o .held) (h .act) (h .h
                 operand = g .operand;
                 multiplier = g .multiplier;
                 none = rw (g .other);
-                targets = packed-ok true (o .targets) tg;
+                targets = ap (keysOk true) (r .listed) ∙ packed-ok true (leftOf (o .targets)) (r .keys);
                 labels = packed-labels-ok (mostOf (f .kind)) (most-four (f .kind)) (o .labels) lg;
                 opens = flag-small b;
-                spare = refl;
+                all = r .all;
+                mark = r .mark;
               };
           fit = λ s.
               record {
                 a = g .small-a;
                 b = g .small-b;
-                targets = packed-fit true (o .targets) tg;
+                targets = subst FitKeys (sym (r .listed)) (packed-fit true (leftOf (o .targets)) (r .keys));
                 labels = labels-fit (o .labels) (omega (arith, few, most-four (f .kind))) s;
-                spare = omega arith;
               };
         }

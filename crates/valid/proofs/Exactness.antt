@@ -37,7 +37,7 @@ use Rattle.valid.specs.Inner.Exact.{Exact}
 use Rattle.valid.specs.Inner.Tests.{walk, nodeOk, opOk, resultOk, nodesOk, opsOk, resultsOk, addsAmong, opLabels, resultLabels, liveLabels, givenOnce}
 use Rattle.valid.proofs.Decoding.{node-key, node-valid, node-there, node-ok, node-back, node-fit, result-over, result-valid, result-there, result-ok, result-back, result-fit, op-facts, op-passes, call-valid, op-there, op-labels-same, RecordGood, record-good, Small}
 use Rattle.valid.proofs.Counting.{Fresh, fresh-of, fresh-ok}
-use Rattle.valid.proofs.Facts.{ValidTagged, FlatValid, flat-valid, valid-flat}
+use Rattle.valid.proofs.Facts.{ValidTagged, queue-named, FlatValid, flat-valid, valid-flat}
 
 -- the tests of what an image shows, one by one
 pub record Tested (v : View) : Type 0 where
@@ -262,7 +262,7 @@ module _ (f : Flat) (v : FlatValid f) where
       record {
         last = omega (arith, v .labels);
         few-nodes = omega (arith, v .room, length-map (f .nodes) nodeRecord);
-        few-ops = omega (arith, length-map (f .queue) taggedRecord, labels-many (f .queue) (v .queue), both-lists, v .places);
+        few-ops = omega (arith, length-map (f .queue) taggedRecord, labels-many (f .queue) (queue-named (f .queue) (v .queue)), both-lists, v .places);
         few-results = omega (arith, length-map (f .results) resultRecord, length-labels (f .results), both-lists, v .places);
         nodes = each-at FitNode (map nodeRecord (f .nodes)) (blank nodeRegion) (map-each nodeRecord ValidNode FitNode (λ n h. node-fit n h) (f .nodes) (v .nodes));
         ops = each-at FitOp (map taggedRecord (f .queue)) (blank opRegion)

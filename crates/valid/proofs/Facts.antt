@@ -1,20 +1,22 @@
 -- A session is valid exactly where its flat view is.
 -- Assumes nothing.
-use mathlib.Core.Path.{_≡_, sym, _∙_}
-use Prim.Native.Nat.{ℕ, _+_, _≤_}
+use mathlib.Core.Path.{_≡_, refl, sym, _∙_}
+use Prim.Native.Nat.{ℕ, _+_, _≤_, _<_}
 use native.Mathlib.Omega.{arith}
 use mathlib.Core.Bool.{Bool, true, false, true≢false}
 use mathlib.Core.List.{List, [], _∷_}
 use lib.ListN.{length}
 use Rattle.graph.specs.KeyLists.{isNil, rising}
+use Rattle.graph.specs.Words.{modulus}
+use Rattle.graph.specs.Targets.{isMarked}
 use Rattle.graph.specs.Nodes.{Op}
-use Rattle.graph.specs.OneAtATime.{Labelled}
+use Rattle.graph.specs.OneAtATime.{Labelled, addOf, opOf}
 use Rattle.graph.specs.Sessions.{Station, Session, live, labelsOfResults}
 use Rattle.graph.specs.Valid.{Each, ValidNode, ValidOp, ValidUnit, ValidStation, ValidCall, ValidResult, Valid}
 use Rattle.graph.proofs.Labels.{stray, given-stray, stray-given}
 use Rattle.graph.proofs.Limits.{each-append, each-left, each-right}
 use Rattle.flat.specs.Flat.{Tagged, Flat, tagUnit, tagUnits, queueOf, nodesOf, waiting, flat}
-use Rattle.flat.specs.Inner.Queues.{ordered, addsQueued, liveIn}
+use Rattle.flat.specs.Inner.Queues.{ordered, labelsIn, addsQueued, liveIn}
 use Rattle.flat.specs.Inner.Nested.{Full, Keyed}
 use Rattle.flat.proofs.Places.{length-nodes}
 use Rattle.flat.proofs.Elements.{each-queued}
@@ -22,8 +24,29 @@ use Rattle.flat.proofs.Labels.{live-same, live-count, live-length, adds-same}
 use Rattle.flat.proofs.Nesting.{KeysUp, Formed, formed-flat, line-order, keyed-stations}
 use Rattle.valid.proofs.Counting.{Fresh}
 
+-- a call in its place: in the top stream an operation has no mark
+abbrev pub ValidPlaced : ℕ → Labelled → Type 0
+ValidPlaced p (addOf l v) = v < modulus
+ValidPlaced p (opOf o) = ValidOp o × (p ≡ 65 → isMarked (o .targets) ≡ false)
+
 abbrev pub ValidTagged : Tagged → Type 0
-ValidTagged x = ValidCall (x .call)
+ValidTagged x = ValidPlaced (x .place) (x .call)
+
+waits-placed : (c : Labelled) → ValidCall c → ValidPlaced 65 c
+waits-placed (addOf l v) h = h
+waits-placed (opOf o) h = (h .op, λ e. h .unmarked)
+
+placed-waits : (c : Labelled) → ValidPlaced 65 c → ValidCall c
+placed-waits (addOf l v) h = h
+placed-waits (opOf o) h = record { op = h .0; unmarked = h .1 refl }
+
+placed-named : (p : ℕ) (c : Labelled) → ValidPlaced p c → 1 ≤ length (labelsIn c)
+placed-named p (addOf l v) h = omega arith
+placed-named p (opOf o) h = h .0 .named
+
+pub queue-named : (q : List Tagged) → Each ValidTagged q → Each (λ x. 1 ≤ length (labelsIn (x .call))) q
+queue-named [] h = tt
+queue-named (x ∷ xs) h = (placed-named (x .place) (x .call) (h .0), queue-named xs (h .1))
 
 pub record FlatValid (f : Flat) : Type 0 where
   pub keys : KeysUp 1 (f .nodes)
@@ -52,7 +75,7 @@ flat-valid s v =
       keys = F .keys;
       nodes = stations-nodes (s .stations) (v .stations);
       order = line-order (length (nodesOf (s .stations))) 0 (omega arith) (omega arith) (omega arith) (omega arith) (λ e. absurd (true≢false (sym e))) (F .line);
-      queue = each-queued ValidTagged (λ c w. w) s v (λ k b o l h w. w);
+      queue = each-queued ValidTagged waits-placed s v (λ k b o l h w. (w, λ e. absurd (omega (arith, e, h, n, few))));
       results = v .results;
       room = omega (arith, v .room, adds-same s);
       rise = v .order;
@@ -71,7 +94,7 @@ some-op (o ∷ os) e = omega arith
 
 calls-unit : (k : ℕ) (b : Bool) (os : List Op) → Each ValidTagged (tagUnit k b os) → Each ValidOp os
 calls-unit k b [] h = tt
-calls-unit k b (o ∷ os) h = (h .0, calls-unit k false os (h .1))
+calls-unit k b (o ∷ os) h = (h .0 .0, calls-unit k false os (h .1))
 
 calls-units : (k : ℕ) (us : List (List Op)) → Full us → Each ValidTagged (tagUnits k us) → Each ValidUnit us
 calls-units k [] F h = tt
@@ -93,7 +116,7 @@ valid-stations (s ∷ ss) K n q =
 
 calls-waiting : (cs : List Labelled) → Each ValidTagged (waiting cs) → Each ValidCall cs
 calls-waiting [] h = tt
-calls-waiting (c ∷ cs) h = (h .0, calls-waiting cs (h .1))
+calls-waiting (c ∷ cs) h = (placed-waits c (h .0), calls-waiting cs (h .1))
 
 pub valid-flat : (s : Session) → Keyed (s .stations) → FlatValid (flat s) → Valid s
 valid-flat s K f =

@@ -6,7 +6,8 @@ use mathlib.Core.List.{List, [], _∷_, _++_, map}
 use lib.ListN.{length, replicate}
 use Rattle.graph.specs.declared.act.Act.{Act}
 use Rattle.graph.specs.declared.act.Act.the-variants.{Map, Link, Unlink, Sum, Top, Pick, Near}
-use Rattle.graph.specs.Packed.{packed}
+use Rattle.graph.specs.Packed.{packed, packedTargets}
+use Rattle.graph.specs.Targets.{Targets, these}
 use Rattle.graph.specs.Nodes.{Node, Result}
 use Rattle.graph.specs.OneAtATime.{Labelled, addOf, opOf}
 use Rattle.graph.specs.Sessions.{Session}
@@ -46,8 +47,9 @@ fieldsOf Top h = fields 5 0 0 h
 fieldsOf Pick h = fields 6 0 0 h
 fieldsOf (Near k) h = fields 7 k 0 h
 
-abbrev pub opRecord : ℕ → Bool → Fields → List ℕ → List ℕ → OpRecord
-opRecord p opens f ts ls =
+-- the targets that remain: the keys listed, and a byte each for all and for its mark (S-3)
+abbrev pub opRecord : ℕ → Bool → Fields → Targets → List ℕ → OpRecord
+opRecord p opens f t ls =
     record {
       station = p;
       opens = cond opens 1 0;
@@ -55,13 +57,14 @@ opRecord p opens f ts ls =
       key = f .key;
       a = f .a;
       b = f .b;
-      targets = packed ts;
+      targets = packedTargets t .keys;
       labels = packedLabels ls;
-      spare = 0;
+      all = cond (packedTargets t .all) 1 0;
+      mark = cond (packedTargets t .mark) 1 0;
     }
 
 abbrev pub callRecord : ℕ → Bool → Labelled → OpRecord
-callRecord p opens (addOf l v) = opRecord p opens (fields 0 0 0 v) [] (l ∷ [])
+callRecord p opens (addOf l v) = opRecord p opens (fields 0 0 0 v) (these []) (l ∷ [])
 callRecord p opens (opOf o) = opRecord p opens (fieldsOf (o .act) (o .held)) (o .targets) (o .labels)
 
 abbrev pub taggedRecord : Tagged → OpRecord

@@ -6,7 +6,7 @@ ghost use Prim.Native.Nat.{_+_, _*_, _%_, _^_, _≤_};
 ghost use lib.ListN.{length};
 ghost use Rattle.records.specs.Inner.Numbers.{keysAt};
 ghost use Rattle.records.specs.Inner.Decoded.{labelsAt};
-ghost use Rattle.valid.specs.Inner.Tests.{keysOk, labelsOk, takesKey, operandOk, multiplierOk, mostOf, targetsOk};
+ghost use Rattle.valid.specs.Inner.Tests.{keysOk, labelsOk, takesKey, operandOk, multiplierOk, mostOf, targetsOk, allOk, markOk};
 
 // The greatest number of n bytes.
 fn most_in(n: u8) -> u64
@@ -119,4 +119,36 @@ pub fn targets_ok(kind: u8, count: u8) -> bool
     ensures { λ r. ⌜ r ≡ targetsOk kind count ⌝ }
 {
     if kind == 0 { count == 0 } else { true }
+}
+
+// An all-call lists no targets, and an add is none.
+pub fn all_ok(kind: u8, count: u8, all: u8) -> bool
+    ensures { λ r. ⌜ r ≡ allOk kind count all ⌝ }
+{
+    if all == 0 {
+        return true;
+    }
+    if all != 1 {
+        return false;
+    }
+    if kind == 0 {
+        return false;
+    }
+    count == 0
+}
+
+// Only an all-call at a station is marked.
+pub fn mark_ok(station: u8, all: u8, mark: u8) -> bool
+    ensures { λ r. ⌜ r ≡ markOk station all mark ⌝ }
+{
+    if mark == 0 {
+        return true;
+    }
+    if mark != 1 {
+        return false;
+    }
+    if all != 1 {
+        return false;
+    }
+    station != 65
 }

@@ -1,6 +1,8 @@
 // Tests of whole records, in place, and of every record of a region.
+use crate::fields::all_ok;
 use crate::fields::keys_ok;
 use crate::fields::labels_ok;
+use crate::fields::mark_ok;
 use crate::fields::most_of;
 use crate::fields::multiplier_ok;
 use crate::fields::operand_ok;
@@ -123,7 +125,10 @@ fn op_ok(n: usize, prev: u8, r: &[u8]) -> bool
     if 1 < r[1] {
         return false;
     }
-    u16_at(r, 30) == 0
+    if !all_ok(kind, r[12], r[30]) {
+        return false;
+    }
+    mark_ok(r[0], r[30], r[31])
 }
 
 // The queue stands in order, each operation keeps the limits, and the waiting adds have room.

@@ -12,7 +12,7 @@ use Rattle.graph.specs.declared.task.TaskRule.the-variants.{Propagate}
 use Rattle.graph.specs.declared.task.Sought.{Sought}
 use Rattle.graph.specs.declared.task.Sought.the-variants.{Acts, Finishes}
 use Rattle.graph.specs.Refusals.{Answer, refused, done, mapDone}
-use Rattle.graph.specs.Nodes.{Node, Op, actOn, actBy, stored, newNode, addResult}
+use Rattle.graph.specs.Nodes.{Node, Op, actOn, actBy, onward, stored, newNode, addResult}
 use Rattle.graph.specs.Tasks.{ruleFor, includes}
 use Rattle.graph.specs.OneAtATime.{Labelled, addOf, opOf}
 use Rattle.graph.specs.Sessions.{store}
@@ -45,6 +45,10 @@ noNode = record { key = 0; value = 0; links = [] }
 
 abbrev pub moveTo : ℕ → Tagged → Tagged
 moveTo j x = record { place = j; opens = x .opens; call = x .call }
+
+-- to station j as a move takes it: an operation goes on without its mark
+abbrev pub moveOn : ℕ → Tagged → Tagged
+moveOn j x = record { place = j; opens = x .opens; call = ofOp (x .call) (λ o. opOf (onward o)) (x .call) }
 
 abbrev pub openAs : Bool → Tagged → Tagged
 openAs b x = record { place = x .place; opens = b; call = x .call }
@@ -92,7 +96,7 @@ onFirstOp p g h e f = onPlace g e (firstIn p h e (f .queue)) f
 
 -- MOVE
 abbrev pub moveFlat : ℕ → ℕ → ℕ → Flat → Answer Flat
-moveFlat k h e f = cond (eqb k 1 || any (soughtAt Acts k) (slice h e (f .queue))) (refused 22) (done (withQueue f (mapFrom (moveTo (k - 1)) h e (f .queue))))
+moveFlat k h e f = cond (eqb k 1 || any (soughtAt Acts k) (slice h e (f .queue))) (refused 22) (done (withQueue f (mapFrom (moveOn (k - 1)) h e (f .queue))))
 
 -- REALISE
 abbrev pub actAt : ℕ → ℕ → Tagged → Node → Flat → Flat

@@ -30,7 +30,8 @@ decodeOp s =
       b = le32 s 8;
       targets = keysAt s 12;
       labels = labelsAt s 21;
-      spare = le16 s 30;
+      all = getD s 30 0;
+      mark = getD s 31 0;
     }
 
 -- a result, 16 bytes

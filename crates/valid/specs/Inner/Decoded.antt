@@ -7,7 +7,8 @@ use lib.Dec.{eqb}
 use lib.ListN.{getD, take}
 use Rattle.graph.specs.declared.act.Act.{Act}
 use Rattle.graph.specs.declared.act.Act.the-variants.{Map, Link, Unlink, Sum, Top, Pick, Near}
-use Rattle.graph.specs.Packed.{listed}
+use Rattle.graph.specs.declared.remaining.Remaining.{Remaining}
+use Rattle.graph.specs.Packed.{listed, targetsIn}
 use Rattle.graph.specs.Nodes.{Node, Result}
 use Rattle.graph.specs.OneAtATime.{Labelled, addOf, opOf}
 use Rattle.graph.specs.Sessions.{Session}
@@ -38,6 +39,10 @@ actOf kind key a b = getD (Sum ∷ Map (record { a = a; b = b }) ∷ Link key �
 abbrev pub heldOf : ℕ → ℕ → ℕ
 heldOf kind b = cond (eqb kind 1) 0 b
 
+-- the targets that remain, as the struct of graph/src/remaining.rt holds them
+abbrev pub remainingOf : OpRecord → Remaining
+remainingOf o = record { all = eqb (o .all) 1; mark = eqb (o .mark) 1; keys = o .targets }
+
 abbrev pub decodedCall : OpRecord → Labelled
 decodedCall o =
     cond (eqb (o .kind) 0)
@@ -46,7 +51,7 @@ decodedCall o =
     (record {
       act = actOf (o .kind) (o .key) (o .a) (o .b);
       held = heldOf (o .kind) (o .b);
-      targets = listed (o .targets);
+      targets = targetsIn (remainingOf o);
       labels = labelsOf (o .labels);
     }))
 

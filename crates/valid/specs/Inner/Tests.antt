@@ -65,6 +65,14 @@ mostOf kind = cond (eqb kind 1) 4 1
 abbrev pub targetsOk : ℕ → ℕ → Bool
 targetsOk kind count = cond (eqb kind 0) (eqb count 0) true
 
+-- all: 0, or 1 for a call that lists no targets and is no add
+abbrev pub allOk : ℕ → ℕ → ℕ → Bool
+allOk kind count all = cond (eqb all 0) true (eqb all 1 && (not (eqb kind 0) && eqb count 0))
+
+-- a mark: 0, or 1 "on .. an all-call at a station" (S-3)
+abbrev pub markOk : ℕ → ℕ → ℕ → Bool
+markOk station all mark = cond (eqb mark 0) true (eqb mark 1 && (eqb all 1 && not (eqb station 65)))
+
 unfoldable pub opOk : ℕ → ℕ → OpRecord → Bool
 opOk n prev o =
     placed n (taggedOf o)
@@ -76,7 +84,8 @@ opOk n prev o =
     && (keysOk true (o .targets)
     && (labelsOk (mostOf (o .kind)) (o .labels)
     && (leb (o .opens) 1
-    && eqb (o .spare) 0))))))))
+    && (allOk (o .kind) (o .targets .count) (o .all)
+    && markOk (o .station) (o .all) (o .mark))))))))))
 
 unfoldable pub resultOk : ℕ → ResultRecord → Bool
 resultOk prev r = ltb prev (r .label) && (eqb (r .spare) 0 && keysOk true (r .left))

@@ -17,7 +17,6 @@ fit c =
       b = search needs;
       targets = record { places = search needs };
       labels = record { places = search needs; small = λ i h. elem-fits-field w16 w16 (c .args .o .labels .label) (l .0) i (l .1 .1) tt .fits };
-      spare = search needs;
     }
 
 array-read-x0 : tie.Need-array-read-x0
@@ -32,83 +31,77 @@ array-read-x2 c = search needs
 array-read-x3 : tie.Need-array-read-x3
 array-read-x3 c = search needs
 
-cast-t23 : tie.Need-cast-t23
-cast-t23 c = search needs
+cast-t22 : tie.Need-cast-t22
+cast-t22 c = search needs
 
-cast-t26 : tie.Need-cast-t26
-cast-t26 c = search needs
+cast-t25 : tie.Need-cast-t25
+cast-t25 c = search needs
 
-cast-t30 : tie.Need-cast-t30
-cast-t30 c = search needs
+cast-t29 : tie.Need-cast-t29
+cast-t29 c = search needs
 
-cast-t35 : tie.Need-cast-t35
-cast-t35 c = search needs
+cast-t34 : tie.Need-cast-t34
+cast-t34 c = search needs
 
-cast-t37 : tie.Need-cast-t37
-cast-t37 c = search needs
+cast-t36 : tie.Need-cast-t36
+cast-t36 c = search needs
 
-cast-t40 : tie.Need-cast-t40
-cast-t40 c = search needs
+cast-t39 : tie.Need-cast-t39
+cast-t39 c = search needs
 
-cast-t44 : tie.Need-cast-t44
-cast-t44 c = search needs
+cast-t43 : tie.Need-cast-t43
+cast-t43 c = search needs
 
-cast-t49 : tie.Need-cast-t49
-cast-t49 c = search needs
+cast-t48 : tie.Need-cast-t48
+cast-t48 c = search needs
 
-array-read-t52 : tie.Need-array-read-t52
-array-read-t52 c = search needs
+array-read-t51 : tie.Need-array-read-t51
+array-read-t51 c = search needs
 
-array-read-t55 : tie.Need-array-read-t55
-array-read-t55 c = search needs
+array-read-t54 : tie.Need-array-read-t54
+array-read-t54 c = search needs
 
-array-read-t58 : tie.Need-array-read-t58
-array-read-t58 c = search needs
+array-read-t57 : tie.Need-array-read-t57
+array-read-t57 c = search needs
 
-array-read-t61 : tie.Need-array-read-t61
-array-read-t61 c = search needs
+array-read-t60 : tie.Need-array-read-t60
+array-read-t60 c = search needs
 
-array-read-t64 : tie.Need-array-read-t64
-array-read-t64 c = search needs
+array-read-t63 : tie.Need-array-read-t63
+array-read-t63 c = search needs
 
-array-read-t67 : tie.Need-array-read-t67
-array-read-t67 c = search needs
+array-read-t66 : tie.Need-array-read-t66
+array-read-t66 c = search needs
 
-array-read-t70 : tie.Need-array-read-t70
-array-read-t70 c = search needs
+array-read-t69 : tie.Need-array-read-t69
+array-read-t69 c = search needs
 
-array-read-t73 : tie.Need-array-read-t73
-array-read-t73 c = search needs
+array-read-t72 : tie.Need-array-read-t72
+array-read-t72 c = search needs
 
-cast-t74 : tie.Need-cast-t74
-cast-t74 c = search needs
+cast-t73 : tie.Need-cast-t73
+cast-t73 c = search needs
 
-cast-t77 : tie.Need-cast-t77
-cast-t77 c = search needs
+cast-t76 : tie.Need-cast-t76
+cast-t76 c = search needs
 
-cast-t79 : tie.Need-cast-t79
-cast-t79 c = search needs
+cast-t78 : tie.Need-cast-t78
+cast-t78 c = search needs
 
-cast-t82 : tie.Need-cast-t82
-cast-t82 c = search needs
+cast-t81 : tie.Need-cast-t81
+cast-t81 c = search needs
 
-cast-t84 : tie.Need-cast-t84
-cast-t84 c = search needs
+cast-t83 : tie.Need-cast-t83
+cast-t83 c = search needs
 
-cast-t87 : tie.Need-cast-t87
-cast-t87 c = search needs
+cast-t86 : tie.Need-cast-t86
+cast-t86 c = search needs
 
-cast-t89 : tie.Need-cast-t89
-cast-t89 c = search needs
+cast-t88 : tie.Need-cast-t88
+cast-t88 c = search needs
 
-cast-t92 : tie.Need-cast-t92
-cast-t92 c = search needs
-
-cast-t94 : tie.Need-cast-t94
-cast-t94 c = search needs
-
-cast-t97 : tie.Need-cast-t97
-cast-t97 c = search needs
+cast-t91 : tie.Need-cast-t91
+cast-t91 c = search needs
 
 returns : tie.Need-returns
 unfolding encodeOp
@@ -122,30 +115,28 @@ op-bytes-spec =
     array-read-x1
     array-read-x2
     array-read-x3
-    cast-t23
-    cast-t26
-    cast-t30
-    cast-t35
-    cast-t37
-    cast-t40
-    cast-t44
-    cast-t49
-    array-read-t52
-    array-read-t55
-    array-read-t58
-    array-read-t61
-    array-read-t64
-    array-read-t67
-    array-read-t70
-    array-read-t73
-    cast-t74
-    cast-t77
-    cast-t79
-    cast-t82
-    cast-t84
-    cast-t87
-    cast-t89
-    cast-t92
-    cast-t94
-    cast-t97
+    cast-t22
+    cast-t25
+    cast-t29
+    cast-t34
+    cast-t36
+    cast-t39
+    cast-t43
+    cast-t48
+    array-read-t51
+    array-read-t54
+    array-read-t57
+    array-read-t60
+    array-read-t63
+    array-read-t66
+    array-read-t69
+    array-read-t72
+    cast-t73
+    cast-t76
+    cast-t78
+    cast-t81
+    cast-t83
+    cast-t86
+    cast-t88
+    cast-t91
     returns)

@@ -29,8 +29,11 @@ keys-at-requires c κs = search needs
 labels-at-requires : tie.Need-labels-at-requires
 labels-at-requires c κs = search needs
 
-u16-at-requires : tie.Need-u16-at-requires
-u16-at-requires c κs = search needs
+shared-slice-read-t15 : tie.Need-shared-slice-read-t15
+shared-slice-read-t15 c = search needs
+
+shared-slice-read-t17 : tie.Need-shared-slice-read-t17
+shared-slice-read-t17 c = search needs
 
 returns : tie.Need-returns
 unfolding decodeOp
@@ -48,5 +51,6 @@ read-op-spec =
     u32-at-requires-2
     keys-at-requires
     labels-at-requires
-    u16-at-requires
+    shared-slice-read-t15
+    shared-slice-read-t17
     returns)

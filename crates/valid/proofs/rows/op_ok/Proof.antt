@@ -11,7 +11,7 @@ use borrow.Author.Tests.{le-leb, lt-leb, not-true, not-false}
 use Rattle.flat.specs.Inner.Queues.{placed, follows}
 use Rattle.records.specs.Inner.Decoded.{decodeOp, labelsAt}
 use Rattle.valid.specs.Inner.Decoded.{taggedOf}
-use Rattle.valid.specs.Inner.Tests.{opOk, operandOk, multiplierOk, targetsOk, keysOk, labelsOk, mostOf}
+use Rattle.valid.specs.Inner.Tests.{opOk, operandOk, multiplierOk, targetsOk, keysOk, labelsOk, mostOf, allOk, markOk}
 use Rattle.valid.proofs.Turns.{none-at, yes-test}
 use borrow.Author.Needs.{needs}
 use Rattle.valid.proofs.rows.op_ok.Statement.{statement}
@@ -20,12 +20,13 @@ use Rattle.valid.proofs.rows.op_ok.Tie as tie
 abbrev start : tie.After-most-of → tie.Start
 start c = c .before .before .before .before .before .before .before .before .before .before .before .before .before .before .before .before .before .before .before
 
--- the ten tests, in the order of `opOk`
+-- the eleven tests, in the order of `opOk`
 abbrev tests : tie.Start → List Bool
 tests s =
     let o = decodeOp (s .args .r .now) in
     placed (s .args .n) (taggedOf o) ∷ follows (s .args .prev) (taggedOf o) ∷ leb (o .kind) 7 ∷ operandOk (o .kind) (o .key) ∷ multiplierOk (o .kind) (o .a) ∷ targetsOk (o .kind) (o .targets .count)
-    ∷ keysOk true (o .targets) ∷ labelsOk (mostOf (o .kind)) (o .labels) ∷ leb (o .opens) 1 ∷ eqb (o .spare) 0 ∷ []
+    ∷ keysOk true (o .targets) ∷ labelsOk (mostOf (o .kind)) (o .labels) ∷ leb (o .opens) 1
+    ∷ allOk (o .kind) (o .targets .count) (o .all) ∷ markOk (o .station) (o .all) (o .mark) ∷ []
 
 fails : (s : tie.Start) (k : ℕ) → getD (tests s) k true ≡ false → false ≡ opOk (s .args .n) (s .args .prev) (decodeOp (s .args .r .now))
 unfolding opOk
@@ -119,13 +120,38 @@ returns-9 : tie.Need-returns-9
 unfolding decodeOp
 returns-9 c = fails (c .before .before .before .before .before .before .before .before .before .before .before .before .before .before .before .before .before .before .before .before .before .before .before) 8 (lt-leb _ 1 (c .if9 .taken))
 
-u16-at-requires : tie.Need-u16-at-requires
-u16-at-requires c κs = search needs
+shared-slice-read-all-ok : tie.Need-shared-slice-read-all-ok
+shared-slice-read-all-ok c = search needs
+
+shared-slice-read-all-ok-2 : tie.Need-shared-slice-read-all-ok-2
+shared-slice-read-all-ok-2 c = search needs
+
+all-ok-requires : tie.Need-all-ok-requires
+all-ok-requires c κs = search needs
 
 returns-10 : tie.Need-returns-10
-unfolding opOk decodeOp
+unfolding decodeOp
 returns-10 c =
-    let e9 = c .before in
+    fails (c .before .before .before .before .before .before .before .before .before .before .before .before .before .before .before .before .before .before .before .before .before .before .before .before .before .before .before) 9 (sym (c .before .all-ok .ensures) ∙ not-true _ (c .if10 .taken))
+
+shared-slice-read-mark-ok : tie.Need-shared-slice-read-mark-ok
+shared-slice-read-mark-ok c = search needs
+
+shared-slice-read-mark-ok-2 : tie.Need-shared-slice-read-mark-ok-2
+shared-slice-read-mark-ok-2 c = search needs
+
+shared-slice-read-mark-ok-3 : tie.Need-shared-slice-read-mark-ok-3
+shared-slice-read-mark-ok-3 c = search needs
+
+mark-ok-requires : tie.Need-mark-ok-requires
+mark-ok-requires c κs = search needs
+
+returns-11 : tie.Need-returns-11
+unfolding opOk decodeOp
+returns-11 c =
+    let e10 = c .before .before .before .before in
+    let a = e10 .before in
+    let e9 = a .before .before .before in
     let e8 = e9 .before .before in
     let l = e8 .before in
     let e7 = l .before .before in
@@ -150,7 +176,8 @@ returns-10 c =
     (yes-test (sym (t .targets-ok .ensures) ∙ not-false _ (e6 .if6 .left))
     (yes-test (sym (k .keys-ok .ensures) ∙ not-false _ (e7 .if7 .left))
     (yes-test (sym (l .labels-ok .ensures ∙ ap (λ (m : ℕ). labelsOk m (labelsAt r 21)) (l .before .most-of .ensures)) ∙ not-false _ (e8 .if8 .left))
-    (yes-test (le-leb _ 1 (e9 .if9 .left)) (ap (λ (x : ℕ). eqb x 0) (c .u16-at .ensures))))))))))
+    (yes-test (le-leb _ 1 (e9 .if9 .left))
+    (yes-test (sym (a .all-ok .ensures) ∙ not-false _ (e10 .if10 .left)) (c .mark-ok .ensures))))))))))
 
 pub op-ok-spec : {M : Type 1} → statement M
 op-ok-spec =
@@ -178,5 +205,12 @@ op-ok-spec =
     returns-8
     shared-slice-read-if9
     returns-9
-    u16-at-requires
-    returns-10)
+    shared-slice-read-all-ok
+    shared-slice-read-all-ok-2
+    all-ok-requires
+    returns-10
+    shared-slice-read-mark-ok
+    shared-slice-read-mark-ok-2
+    shared-slice-read-mark-ok-3
+    mark-ok-requires
+    returns-11)
