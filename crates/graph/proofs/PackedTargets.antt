@@ -1,6 +1,6 @@
 -- Laws of the struct that holds an operation's targets.
 -- Assumes nothing.
-use mathlib.Core.Path.{_≡_, refl, _∙_, ap}
+use mathlib.Core.Path.{_≡_, refl, sym, _∙_, ap}
 use Prim.Native.Nat.{ℕ, suc}
 use native.Mathlib.Omega.{arith}
 use mathlib.Core.Bool.{Bool, false}
@@ -12,6 +12,7 @@ use Rattle.graph.specs.declared.remaining.Remaining.{Remaining}
 use Rattle.graph.specs.KeyLists.{isNil}
 use Rattle.graph.specs.Targets.{Targets, these, all, cleared, noneLeft, leftOf, apart}
 use Rattle.graph.specs.Packed.{packed, targetsIn, packedTargets}
+use Rattle.graph.proofs.KeyLaws.{listed-packed}
 
 -- no targets left, by their number
 pub nil-length : (ts : List ℕ) → eqb (length ts) 0 ≡ isNil ts
@@ -33,6 +34,14 @@ packed-cleared (all mark) = refl
 packed-left : (t : Targets) → (packedTargets t) .keys ≡ packed (leftOf t)
 packed-left (these ts) = refl
 packed-left (all mark) = refl
+
+pub targets-packed : (t : Targets) → targetsIn (packedTargets t) ≡ t
+targets-packed (these ts) = ap these (listed-packed ts)
+targets-packed (all mark) = refl
+
+-- the struct of some targets is in the normal form
+pub normal-targets : {r : Remaining} (t : Targets) → r ≡ packedTargets t → r ≡ packedTargets (targetsIn r)
+normal-targets t e = e ∙ ap packedTargets (sym (ap targetsIn e ∙ targets-packed t))
 
 -- a struct in the normal form
 module _ (a : Remaining) (p : a ≡ packedTargets (targetsIn a)) where

@@ -4,28 +4,30 @@ use mathlib.Core.Path.{_≡_, refl, sym, ap, _∙_}
 use Prim.Native.Nat.{ℕ, zero, suc, _≤_}
 use native.Mathlib.Omega.{arith}
 use mathlib.Core.Bool.{Bool, true, false, cond, not, true≢false}
-use mathlib.Core.List.{[]}
+use mathlib.Core.List.{List, []}
 use lib.Dec.{eqb, ltb}
 use lib.ListN.{getD}
 use borrow.Author.Tests.{lt-ltb, ne-eqb}
 use Rattle.graph.specs.Acts.{isMap, isFold}
 use Rattle.graph.specs.OneAtATime.{Labelled, addOf, opOf, isOp}
-use Rattle.graph.specs.Packed.{listed, packed}
+use Rattle.graph.specs.Packed.{targetsIn, packedTargets}
+use Rattle.graph.specs.Targets.{Targets, these, all, cleared}
+use Rattle.graph.specs.Nodes.{onward}
 use Rattle.graph.specs.declared.act.Act.{Act}
 use Rattle.graph.specs.declared.act.Act.the-variants.{Map, Link, Unlink, Sum, Top, Pick, Near}
-use Rattle.graph.specs.declared.keys.Keys.{Keys}
-use Rattle.graph.proofs.KeyLaws.{listed-packed, normal}
+use Rattle.graph.specs.declared.remaining.Remaining.{Remaining}
+use Rattle.graph.proofs.PackedTargets.{targets-packed, normal-targets}
 use Rattle.graph.proofs.Answers.{by-bool}
 use Rattle.flat.specs.Flat.{Tagged}
 use Rattle.flat.specs.Inner.Nested.{ofOp}
-use Rattle.flat.specs.Inner.FlatSteps.{moveTo, openAs}
+use Rattle.flat.specs.Inner.FlatSteps.{moveTo, moveOn, openAs}
 use Rattle.records.specs.declared.labels.Labels.{Labels}
 use Rattle.records.specs.declared.op.OpRecord.{OpRecord}
-use Rattle.valid.specs.Values.{Fields, fieldsOf, callRecord, taggedRecord}
-use Rattle.valid.specs.Inner.Decoded.{actOf, heldOf, decodedCall, taggedOf, labelsOf}
-use Rattle.valid.proofs.Decoding.{flag-kept}
+use Rattle.valid.specs.Values.{Fields, fieldsOf, opRecord, callRecord, taggedRecord}
+use Rattle.valid.specs.Inner.Decoded.{actOf, heldOf, remainingOf, decodedCall, taggedOf, labelsOf}
+use Rattle.valid.proofs.Decoding.{flag-kept, flag-back, flags-back}
 use Rattle.state.specs.declared.operation.Operation.{Operation}
-use Rattle.state.specs.Inner.Operations.{opValue, Normal, Carries, KeysListed, RecordFor}
+use Rattle.state.specs.Inner.Operations.{opValue, Normal, Carries, TargetsHeld, RecordFor}
 
 -- KINDS
 pub other-act : (kind key a b : ℕ) → (kind ≡ 1 → ⊥) → (kind ≡ 2 → ⊥) → (kind ≡ 3 → ⊥) → (kind ≡ 5 → ⊥) → (kind ≡ 6 → ⊥) → (kind ≡ 7 → ⊥) → Sum ≡ actOf kind key a b
@@ -78,37 +80,48 @@ module _ (r : OpRecord) where
 
   module _ (clean : taggedRecord (taggedOf r) ≡ r) where
     -- an add has no targets, and its record none
-    pub targets-of : KeysListed (ofOp [] (λ o. o .targets) (decodedCall r)) (r .targets)
+    pub targets-of : TargetsHeld (ofOp (these []) (λ o. o .targets) (decodedCall r)) (remainingOf r)
     targets-of =
         by-bool (eqb (r .kind) 0)
         (λ e.
-        let none : r .targets ≡ packed [] = sym (ap (λ (x : OpRecord). x .targets) (rw e at clean)) in
-        record { is = rw e (ap listed none ∙ listed-packed []); keys = normal [] none })
-        (λ e. record { is = rw e refl; keys = sym (ap (λ (x : OpRecord). x .targets) (rw e at clean)) })
+        let none : remainingOf r ≡ packedTargets (these []) = sym (ap remainingOf (rw e at clean)) in
+        record { is = rw e (ap targetsIn none ∙ targets-packed (these [])); normal = normal-targets (these []) none })
+        (λ e. record { is = rw e refl; normal = sym (ap remainingOf (rw e at clean)) ∙ flags-back (packedTargets (targetsIn (remainingOf r))) })
 
     pub operation-of : eqb (r .kind) 0 ≡ false
-        → Carries (decodedCall r) (record { act = actOf (r .kind) (r .key) (r .a) (r .b); held = heldOf (r .kind) (r .b); targets = r .targets; labels = r .labels })
+        → Carries (decodedCall r) (record { act = actOf (r .kind) (r .key) (r .a) (r .b); held = heldOf (r .kind) (r .b); targets = remainingOf r; labels = r .labels })
     operation-of e =
-        let same : callRecord (r .station) (eqb (r .opens) 1) (opOf (record { act = actOf (r .kind) (r .key) (r .a) (r .b); held = heldOf (r .kind) (r .b); targets = listed (r .targets); labels = labelsOf (r .labels) })) ≡ r = rw e at clean in
+        let same : callRecord (r .station) (eqb (r .opens) 1) (opOf (record { act = actOf (r .kind) (r .key) (r .a) (r .b); held = heldOf (r .kind) (r .b); targets = targetsIn (remainingOf r); labels = labelsOf (r .labels) })) ≡ r = rw e at clean in
         record {
           is = rw e refl;
-          normal = record { keys = sym (ap (λ (x : OpRecord). x .targets) same); names = sym (ap (λ (x : OpRecord). x .labels) same); mapHeld = map-holds (r .kind) (r .key) (r .a) (r .b) };
+          normal = record { targets = sym (ap remainingOf same) ∙ flags-back (packedTargets (targetsIn (remainingOf r))); names = sym (ap (λ (x : OpRecord). x .labels) same); mapHeld = map-holds (r .kind) (r .key) (r .a) (r .b) };
         }
 
 -- RECORDS MADE
-abbrev pub recordWith : ℕ → ℕ → Fields → Keys → Labels → OpRecord
-recordWith p opens f ts ls =
-    record { station = p; opens = opens; kind = f .kind; key = f .key; a = f .a; b = f .b; targets = ts; labels = ls; spare = 0 }
+abbrev pub recordWith : ℕ → ℕ → Fields → Remaining → Labels → OpRecord
+recordWith p opens f t ls =
+    record {
+      station = p;
+      opens = opens;
+      kind = f .kind;
+      key = f .key;
+      a = f .a;
+      b = f .b;
+      targets = t .keys;
+      labels = ls;
+      all = cond (t .all) 1 0;
+      mark = cond (t .mark) 1 0;
+    }
 
-call-of : (act : Act) (h p opens : ℕ) (ts : Keys) (ls : Labels) → (isMap act ≡ true → h ≡ 0)
-    → opOf (record { act = act; held = h; targets = listed ts; labels = labelsOf ls }) ≡ decodedCall (recordWith p opens (fieldsOf act h) ts ls)
-call-of (Map m) h p opens ts ls e = λ i. opOf (record { act = Map m; held = e refl i; targets = listed ts; labels = labelsOf ls })
-call-of (Link k) h p opens ts ls e = refl
-call-of (Unlink k) h p opens ts ls e = refl
-call-of Sum h p opens ts ls e = refl
-call-of Top h p opens ts ls e = refl
-call-of Pick h p opens ts ls e = refl
-call-of (Near k) h p opens ts ls e = refl
+call-of : (act : Act) (h p opens : ℕ) (t : Remaining) (ls : Labels) → (isMap act ≡ true → h ≡ 0)
+    → opOf (record { act = act; held = h; targets = targetsIn t; labels = labelsOf ls }) ≡ decodedCall (recordWith p opens (fieldsOf act h) t ls)
+call-of (Map m) h p opens t ls e = λ i. opOf (record { act = Map m; held = e refl i; targets = targetsIn (sym (flags-back t) i); labels = labelsOf ls })
+call-of (Link k) h p opens t ls e = λ i. opOf (record { act = Link k; held = h; targets = targetsIn (sym (flags-back t) i); labels = labelsOf ls })
+call-of (Unlink k) h p opens t ls e = λ i. opOf (record { act = Unlink k; held = h; targets = targetsIn (sym (flags-back t) i); labels = labelsOf ls })
+call-of Sum h p opens t ls e = λ i. opOf (record { act = Sum; held = h; targets = targetsIn (sym (flags-back t) i); labels = labelsOf ls })
+call-of Top h p opens t ls e = λ i. opOf (record { act = Top; held = h; targets = targetsIn (sym (flags-back t) i); labels = labelsOf ls })
+call-of Pick h p opens t ls e = λ i. opOf (record { act = Pick; held = h; targets = targetsIn (sym (flags-back t) i); labels = labelsOf ls })
+call-of (Near k) h p opens t ls e = λ i. opOf (record { act = Near k; held = h; targets = targetsIn (sym (flags-back t) i); labels = labelsOf ls })
 
 pub reads : (x : Tagged) (r : OpRecord) → x ≡ taggedOf r → taggedRecord x ≡ r → RecordFor x r
 reads x r e f = record { is = e; clean = ap taggedRecord (sym e) ∙ f }
@@ -127,31 +140,50 @@ reads-operation p opens o f e h n =
       key = fieldsOf (o .act) (o .held) .key;
       a = fieldsOf (o .act) (o .held) .a;
       b = fieldsOf (o .act) (o .held) .b;
-      targets = sym (n .keys) i;
+      targets = sym (n .targets) i .keys;
       labels = sym (n .names) i;
-      spare = 0;
+      all = cond (sym (n .targets) i .all) 1 0;
+      mark = cond (sym (n .targets) i .mark) 1 0;
     }))
 
--- a record moved to another station, and one whose mark changes
-abbrev pub stationed : ℕ → OpRecord → OpRecord
-stationed k r =
-    record { station = k; opens = r .opens; kind = r .kind; key = r .key; a = r .a; b = r .b; targets = r .targets; labels = r .labels; spare = r .spare }
+-- a record with another station, one that moves there, and one that opens its unit or no longer does
+abbrev with : ℕ → ℕ → ℕ → OpRecord → OpRecord
+with k opens mark r =
+    record { station = k; opens = opens; kind = r .kind; key = r .key; a = r .a; b = r .b; targets = r .targets; labels = r .labels; all = r .all; mark = mark }
 
-abbrev pub marked : ℕ → OpRecord → OpRecord
-marked n r =
-    record { station = r .station; opens = n; kind = r .kind; key = r .key; a = r .a; b = r .b; targets = r .targets; labels = r .labels; spare = r .spare }
+abbrev pub stationed : ℕ → OpRecord → OpRecord
+stationed k r = with k (r .opens) (r .mark) r
+
+abbrev pub movedOn : ℕ → OpRecord → OpRecord
+movedOn k r = with k (r .opens) 0 r
+
+abbrev pub opened : ℕ → OpRecord → OpRecord
+opened n r = with (r .station) n (r .mark) r
 
 call-stationed : (k p : ℕ) (b : Bool) (c : Labelled) → callRecord k b c ≡ stationed k (callRecord p b c)
 call-stationed k p b (addOf l v) = refl
 call-stationed k p b (opOf o) = refl
 
-call-marked : (p : ℕ) (b d : Bool) (c : Labelled) → callRecord p d c ≡ marked (cond d 1 0) (callRecord p b c)
-call-marked p b d (addOf l v) = refl
-call-marked p b d (opOf o) = refl
+call-opened : (p : ℕ) (b d : Bool) (c : Labelled) → callRecord p d c ≡ opened (cond d 1 0) (callRecord p b c)
+call-opened p b d (addOf l v) = refl
+call-opened p b d (opOf o) = refl
 
-flag-read : (b : Bool) → b ≡ eqb (cond b 1 0) 1
-flag-read true = refl
-flag-read false = refl
+-- as a move takes it: its mark is cleared
+record-moved : (k p : ℕ) (b : Bool) (f : Fields) (t : Targets) (ls : List ℕ) → opRecord k b f (cleared t) ls ≡ movedOn k (opRecord p b f t ls)
+record-moved k p b f (these ts) ls = refl
+record-moved k p b f (all mark) ls = refl
+
+call-moved : (k p : ℕ) (b : Bool) (c : Labelled) → callRecord k b (ofOp c (λ o. opOf (onward o)) c) ≡ movedOn k (callRecord p b c)
+call-moved k p b (addOf l v) = refl
+call-moved k p b (opOf o) = record-moved k p b (fieldsOf (o .act) (o .held)) (o .targets) (o .labels)
+
+cleared-read : (r : OpRecord) → cleared (targetsIn (remainingOf r)) ≡ targetsIn (record { all = eqb (r .all) 1; mark = false; keys = r .targets })
+cleared-read r = by-bool (eqb (r .all) 1) (λ e. rw e refl) (λ e. rw e refl)
+
+moved-read : (r : OpRecord) (k : ℕ) → ofOp (decodedCall r) (λ o. opOf (onward o)) (decodedCall r) ≡ decodedCall (movedOn k r)
+moved-read r k =
+    by-bool (eqb (r .kind) 0) (λ e. rw e refl)
+    (λ e. rw e (λ i. opOf (record { act = actOf (r .kind) (r .key) (r .a) (r .b); held = heldOf (r .kind) (r .b); targets = cleared-read r i; labels = labelsOf (r .labels) })))
 
 module _ (r : OpRecord) (clean : taggedRecord (taggedOf r) ≡ r) where
   pub clean-opens : r .opens ≤ 1
@@ -167,8 +199,13 @@ module _ (r : OpRecord) (clean : taggedRecord (taggedOf r) ≡ r) where
   reads-stationed k =
       reads (moveTo k (taggedOf r)) (stationed k r) refl (call-stationed k (r .station) (eqb (r .opens) 1) (decodedCall r) ∙ ap (stationed k) clean)
 
-  pub reads-marked : (b : Bool) → RecordFor (openAs b (taggedOf r)) (marked (cond b 1 0) r)
-  reads-marked b =
-      reads (openAs b (taggedOf r)) (marked (cond b 1 0) r)
-      (λ i. record { place = r .station; opens = flag-read b i; call = decodedCall r })
-      (call-marked (r .station) (eqb (r .opens) 1) b (decodedCall r) ∙ ap (marked (cond b 1 0)) clean)
+  pub reads-moved : (k : ℕ) → RecordFor (moveOn k (taggedOf r)) (movedOn k r)
+  reads-moved k =
+      reads (moveOn k (taggedOf r)) (movedOn k r) (λ i. record { place = k; opens = eqb (r .opens) 1; call = moved-read r k i })
+      (call-moved k (r .station) (eqb (r .opens) 1) (decodedCall r) ∙ ap (movedOn k) clean)
+
+  pub reads-opened : (b : Bool) → RecordFor (openAs b (taggedOf r)) (opened (cond b 1 0) r)
+  reads-opened b =
+      reads (openAs b (taggedOf r)) (opened (cond b 1 0) r)
+      (λ i. record { place = r .station; opens = sym (flag-back b) i; call = decodedCall r })
+      (call-opened (r .station) (eqb (r .opens) 1) b (decodedCall r) ∙ ap (opened (cond b 1 0)) clean)

@@ -2,6 +2,7 @@
 use graph::act::Act;
 use graph::affine::Affine;
 use graph::keys::Keys;
+use graph::remaining::Remaining;
 use records::labels::Labels;
 use records::op::OpRecord;
 ghost use mathlib.Core.Path.{_≡_};
@@ -9,7 +10,7 @@ ghost use mathlib.Core.Bool.{true, false, cond};
 ghost use Prim.Native.Nat.{_≤_};
 ghost use lib.Dec.{eqb};
 ghost use Rattle.graph.specs.OneAtATime.{addOf, opOf};
-ghost use Rattle.valid.specs.Inner.Decoded.{actOf, heldOf, decodedCall, taggedOf};
+ghost use Rattle.valid.specs.Inner.Decoded.{actOf, heldOf, remainingOf, decodedCall, taggedOf};
 ghost use Rattle.valid.specs.Values.{fields, fieldsOf, taggedRecord};
 ghost use Rattle.state.specs.Inner.Operations.{opValue, fieldsValue, Normal, Carries, RecordFor};
 
@@ -17,7 +18,7 @@ ghost use Rattle.state.specs.Inner.Operations.{opValue, fieldsValue, Nor
 pub struct Operation {
     pub act: Act,
     pub held: u32,
-    pub targets: Keys,
+    pub targets: Remaining,
     pub labels: Labels,
 }
 
@@ -99,17 +100,28 @@ pub fn flag(b: bool) -> u8
     0
 }
 
+// The targets that remain, of a record whose two bytes for them are 0 or 1.
+pub fn remaining_of(r: OpRecord) -> Remaining
+    ensures { λ t. ⌜ t ≡ remainingOf r ⌝ }
+{
+    let keys = r.targets;
+    Remaining {
+        all: r.all == 1,
+        mark: r.mark == 1,
+        keys: keys,
+    }
+}
+
 // The operation of a clean record that is no add's.
 pub fn operation_of(r: OpRecord) -> Operation
     requires { ⌜ (eqb (r .kind) 0 ≡ false) × (taggedRecord (taggedOf r) ≡ r) ⌝ }
     ensures { λ o. ⌜ Carries (decodedCall r) o ⌝ }
 {
-    let targets = r.targets;
     let labels = r.labels;
     Operation {
         act: act_of(r.kind, r.key, r.a, r.b),
         held: held_of(r.kind, r.b),
-        targets: targets,
+        targets: remaining_of(r),
         labels: labels,
     }
 }
@@ -122,6 +134,7 @@ pub fn record_of(station: u8, opens: u8, o: Operation) -> OpRecord
     let act = o.act;
     let f = fields_of(act, o.held);
     let targets = o.targets;
+    let keys = targets.keys;
     let labels = o.labels;
     OpRecord {
         station: station,
@@ -130,9 +143,10 @@ pub fn record_of(station: u8, opens: u8, o: Operation) -> OpRecord
         key: f.key,
         a: f.a,
         b: f.b,
-        targets: targets,
+        targets: keys,
         labels: labels,
-        spare: 0,
+        all: flag(targets.all),
+        mark: flag(targets.mark),
     }
 }
 
@@ -155,6 +169,7 @@ pub fn add_record(label: u16, value: u32) -> OpRecord
             count: 1,
             label: [label, 0, 0, 0],
         },
-        spare: 0,
+        all: 0,
+        mark: 0,
     }
 }

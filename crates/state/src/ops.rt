@@ -5,7 +5,8 @@ use crate::operation::add_record;
 use crate::operation::flag;
 use crate::operation::operation_of;
 use crate::operation::record_of;
-use graph::keys::Keys;
+use crate::operation::remaining_of;
+use graph::remaining::Remaining;
 use image::read::op_at;
 use image::read::op_count;
 use image::write::append_op;
@@ -17,14 +18,15 @@ ghost use mathlib.Core.Bool.{true, false, not};
 ghost use mathlib.Core.List.{[], _∷_, _++_};
 ghost use Prim.Native.Nat.{_<_};
 ghost use lib.ListN.{length, getD, set};
+ghost use Rattle.graph.specs.Targets.{these};
 ghost use Rattle.graph.specs.Acts.{isFold};
 ghost use Rattle.graph.specs.OneAtATime.{addOf, opOf, isOp};
 ghost use Rattle.flat.specs.Inner.Nested.{ofOp, atPlace};
 ghost use Rattle.flat.specs.Inner.Queues.{firstIndex, breaks, endOf, removeAt};
-ghost use Rattle.flat.specs.Inner.FlatSteps.{alter, noOp, moveTo, openAs, withOp, withQueue};
+ghost use Rattle.flat.specs.Inner.FlatSteps.{alter, noOp, moveTo, moveOn, openAs, withOp, withQueue};
 ghost use Rattle.valid.specs.Inner.Decoded.{taggedOf};
 ghost use Rattle.valid.specs.Values.{taggedRecord};
-ghost use Rattle.state.specs.Inner.Operations.{opValue, addValue, Normal, Carries, KeysListed, RecordFor, Bounded};
+ghost use Rattle.state.specs.Inner.Operations.{opValue, addValue, Normal, Carries, TargetsHeld, RecordFor, Bounded};
 ghost use Rattle.state.specs.Inner.State.{flatIn, Proper, Shows};
 
 pub fn total(image: &[u8]) -> usize
@@ -75,12 +77,12 @@ pub fn is_fold_at(image: &[u8], i: usize) -> bool
 }
 
 // The targets that remain; an add has none.
-pub fn targets_at(image: &[u8], i: usize) -> Keys
+pub fn targets_at(image: &[u8], i: usize) -> Remaining
     requires { ⌜ (Proper (now image)) × (i < length (flatIn (now image) .queue)) ⌝ }
-    ensures { λ r. ⌜ KeysListed (ofOp [] (λ o. o .targets) ((getD (flatIn (now (image .entry)) .queue) i noOp) .call)) r ⌝ }
+    ensures { λ r. ⌜ TargetsHeld (ofOp (these []) (λ o. o .targets) ((getD (flatIn (now (image .entry)) .queue) i noOp) .call)) r ⌝ }
 {
     let r = record_at(image, i);
-    r.targets
+    remaining_of(r)
 }
 
 pub fn operation_at(image: &[u8], i: usize) -> Operation
@@ -163,6 +165,17 @@ pub fn set_place(image: &mut [u8], i: usize, k: u8)
     put_record(image, i, r);
 }
 
+// To station k as a move takes it: an all-call goes on without its mark.
+pub fn move_on(image: &mut [u8], i: usize, k: u8)
+    requires { ⌜ (Proper (now image)) × (i < length (flatIn (now image) .queue)) ⌝ }
+    ensures { λ _. ⌜ Shows (withQueue (flatIn (now (image .entry))) (alter i (moveOn k) (flatIn (now (image .entry)) .queue))) (now (image .exit)) ⌝ }
+{
+    let mut r = record_at(image, i);
+    r.station = k;
+    r.mark = 0;
+    put_record(image, i, r);
+}
+
 pub fn set_opens(image: &mut [u8], i: usize, b: bool)
     requires { ⌜ (Proper (now image)) × (i < length (flatIn (now image) .queue)) ⌝ }
     ensures { λ _. ⌜ Shows (withQueue (flatIn (now (image .entry))) (alter i (openAs b) (flatIn (now (image .entry)) .queue))) (now (image .exit)) ⌝ }
@@ -172,7 +185,7 @@ pub fn set_opens(image: &mut [u8], i: usize, b: bool)
     put_record(image, i, r);
 }
 
-// The operation at i becomes o, at its station and with its mark.
+// The operation at i becomes o, in its place of its unit.
 pub fn put_operation(image: &mut [u8], i: usize, o: Operation)
     requires { ⌜ (Proper (now image)) × (i < length (flatIn (now image) .queue)) × (Normal o) ⌝ }
     ensures { λ _. ⌜ Shows (withQueue (flatIn (now (image .entry))) (set (flatIn (now (image .entry)) .queue) i (withOp (getD (flatIn (now (image .entry)) .queue) i noOp) (opValue o)))) (now (image .exit)) ⌝ }

@@ -19,6 +19,7 @@ use Rattle.graph.specs.OneAtATime.{Labelled, addOf, opOf}
 use Rattle.graph.specs.Valid.{Each, ValidTargets, ValidRemaining, ValidNode, ValidAct, ValidHeld, mostLabels, ValidOp, ValidResult}
 use Rattle.graph.proofs.Answers.{and-left, and-right, by-bool}
 use Rattle.graph.proofs.KeyLaws.{listed-packed}
+use Rattle.graph.proofs.PackedTargets.{targets-packed}
 use Rattle.flat.specs.Inner.Queues.{placed, follows, labelsIn}
 use Rattle.records.specs.declared.node.NodeRecord.{NodeRecord}
 use Rattle.records.specs.declared.op.OpRecord.{OpRecord}
@@ -352,9 +353,13 @@ pub record RecordGood (p : ℕ) (b : Bool) (c : Labelled) : Type 0 where
   pub facts : (n prev : ℕ) → placed n (taggedOf (callRecord p b c)) ≡ true → follows prev (taggedOf (callRecord p b c)) ≡ true → OpFacts n prev (callRecord p b c)
   pub fit : Small (labelsIn c) → FitOp (callRecord p b c)
 
-flag-back : (b : Bool) → eqb (cond b 1 0) 1 ≡ b
+pub flag-back : (b : Bool) → eqb (cond b 1 0) 1 ≡ b
 flag-back true = refl
 flag-back false = refl
+
+-- the bytes for all and for the mark, written and read
+pub flags-back : (r : Remaining) → record { all = eqb (cond (r .all) 1 0) 1; mark = eqb (cond (r .mark) 1 0) 1; keys = r .keys } ≡ r
+flags-back r = λ i. record { all = flag-back (r .all) i; mark = flag-back (r .mark) i; keys = r .keys }
 
 flag-small : (b : Bool) → leb (cond b 1 0) 1 ≡ true
 flag-small true = refl
@@ -368,7 +373,6 @@ one-good l = record { named = omega arith; few = omega arith }
 
 -- the targets of a valid call, in a record at p of a kind that is no add's
 record RemainingGood (p kind : ℕ) (t : Targets) : Type 0 where
-  back : targetsIn (record { all = eqb (cond (packedTargets t .all) 1 0) 1; mark = eqb (cond (packedTargets t .mark) 1 0) 1; keys = packedTargets t .keys }) ≡ t
   keys : KeysGood true (leftOf t)
   listed : packedTargets t .keys ≡ packed (leftOf t)
   all : allOk kind (packedTargets t .keys .count) (cond (packedTargets t .all) 1 0) ≡ true
@@ -377,10 +381,10 @@ record RemainingGood (p kind : ℕ) (t : Targets) : Type 0 where
 remaining-good : (p kind : ℕ) (t : Targets) → eqb kind 0 ≡ false → ValidRemaining t → (p ≡ 65 → isMarked t ≡ false) → RemainingGood p kind t
 unfolding packed
 remaining-good p kind (these ts) k v m =
-    record { back = ap these (listed-packed ts); keys = targets-good ts v; listed = refl; all = refl; mark = refl }
+    record { keys = targets-good ts v; listed = refl; all = refl; mark = refl }
 remaining-good p kind (all true) k v m =
-    record { back = refl; keys = no-targets; listed = refl; all = rw k; mark = rw (ne-eqb p 65 (λ e. true≢false (m e))) }
-remaining-good p kind (all false) k v m = record { back = refl; keys = no-targets; listed = refl; all = rw k; mark = refl }
+    record { keys = no-targets; listed = refl; all = rw k; mark = rw (ne-eqb p 65 (λ e. true≢false (m e))) }
+remaining-good p kind (all false) k v m = record { keys = no-targets; listed = refl; all = rw k; mark = refl }
 
 pub record-good : (p : ℕ) (b : Bool) (c : Labelled) → ValidPlaced p c → RecordGood p b c
 unfolding packedLabels packed
@@ -408,12 +412,13 @@ record-good p b (opOf o) (h, m) = made (fields-good (o .act) (o .held) (h .act) 
     made : FieldsGood (o .act) (o .held) (fieldsOf (o .act) (o .held)) → RecordGood p b (opOf o)
     made g =
         let f = fieldsOf (o .act) (o .held) in
+        let back = ap targetsIn (flags-back (packedTargets (o .targets))) ∙ targets-packed (o .targets) in
         let r = remaining-good p (f .kind) (o .targets) (g .other) (h .targets) m in
         let few : length (o .labels) ≤ mostOf (f .kind) = subst (λ (k : ℕ). length (o .labels) ≤ k) (g .most) (h .few) in
         let lg : LabelsGood (mostOf (f .kind)) (o .labels) = record { named = h .named; few = few } in
         record {
           back =
-              (λ i. record { place = p; opens = flag-back b i; call = cond (g .other i) (addOf (getD (packedLabels (o .labels) .label) 0 0) (f .b)) (opOf (record { act = g .act i; held = g .held i; targets = r .back i; labels = labels-of-packed (mostOf (f .kind)) (most-four (f .kind)) (o .labels) lg i })) });
+              (λ i. record { place = p; opens = flag-back b i; call = cond (g .other i) (addOf (getD (packedLabels (o .labels) .label) 0 0) (f .b)) (opOf (record { act = g .act i; held = g .held i; targets = back i; labels = labels-of-packed (mostOf (f .kind)) (most-four (f .kind)) (o .labels) lg i })) });
           facts = λ n prev x y.
               record {
                 place = x;

@@ -7,8 +7,10 @@ use mathlib.Core.List.{List}
 use Rattle.graph.specs.Acts.{isMap}
 use Rattle.graph.specs.Nodes.{Op}
 use Rattle.graph.specs.OneAtATime.{Labelled, addOf, opOf}
-use Rattle.graph.specs.Packed.{listed, packed}
+use Rattle.graph.specs.Packed.{listed, packed, targetsIn, packedTargets}
+use Rattle.graph.specs.Targets.{Targets}
 use Rattle.graph.specs.declared.keys.Keys.{Keys}
+use Rattle.graph.specs.declared.remaining.Remaining.{Remaining}
 use Rattle.flat.specs.Flat.{Tagged}
 use Rattle.records.specs.declared.op.OpRecord.{OpRecord}
 use Rattle.state.specs.declared.operation.ActFields.{ActFields}
@@ -18,7 +20,7 @@ use Rattle.valid.specs.Values.{Fields, packedLabels, taggedRecord}
 use Rattle.valid.specs.Inner.Decoded.{labelsOf, taggedOf}
 
 abbrev pub opValue : Operation → Op
-opValue o = record { act = o .act; held = o .held; targets = listed (o .targets); labels = labelsOf (o .labels) }
+opValue o = record { act = o .act; held = o .held; targets = targetsIn (o .targets); labels = labelsOf (o .labels) }
 
 abbrev pub addValue : Added → Labelled
 addValue a = addOf (a .label) (a .value)
@@ -26,9 +28,9 @@ addValue a = addOf (a .label) (a .value)
 abbrev pub fieldsValue : ActFields → Fields
 fieldsValue f = record { kind = f .kind; key = f .key; a = f .a; b = f .b }
 
--- the operation's record is clean: zeros after its keys and labels, and a map holds 0
+-- the operation's record is clean: zeros after its keys and labels, no key beside all, no mark without it, and a map holds 0
 pub record Normal (o : Operation) : Type 0 where
-  pub keys : o .targets ≡ packed (listed (o .targets))
+  pub targets : o .targets ≡ packedTargets (targetsIn (o .targets))
   pub names : o .labels ≡ packedLabels (labelsOf (o .labels))
   pub mapHeld : isMap (o .act) ≡ true → o .held ≡ 0
 
@@ -41,6 +43,11 @@ pub record Carries (call : Labelled) (o : Operation) : Type 0 where
 pub record KeysListed (l : List ℕ) (ks : Keys) : Type 0 where
   pub is : listed ks ≡ l
   pub keys : ks ≡ packed (listed ks)
+
+-- targets as their struct holds them
+pub record TargetsHeld (t : Targets) (r : Remaining) : Type 0 where
+  pub is : targetsIn r ≡ t
+  pub normal : r ≡ packedTargets (targetsIn r)
 
 -- the record stands for x, and is the one that x has
 pub record RecordFor (x : Tagged) (r : OpRecord) : Type 0 where

@@ -1,9 +1,9 @@
--- The record with another mark.
+-- The record that opens its unit, or no longer does.
 -- Assumes nothing.
 use mathlib.Core.Path.{sym, _∙_}
 use Rattle.flat.specs.Inner.FlatSteps.{openAs}
 use Rattle.valid.specs.Inner.Decoded.{taggedOf}
-use Rattle.state.proofs.QueueRecords.{reads-marked}
+use Rattle.state.proofs.QueueRecords.{reads-opened}
 use Rattle.state.proofs.QueueHeld.{alter-shown}
 use borrow.Author.Needs.{needs}
 use Rattle.state.proofs.ops.set_opens.Statement.{statement}
@@ -19,7 +19,7 @@ put-record-requires : tie.Need-put-record-requires
 put-record-requires c κs =
     let start = c .before .before .before .before .before in
     let r = c .before .before .record-at in
-    (start .pre .0, start .pre .1, rw (c .before .flag .ensures) (reads-marked (r .result) (r .ensures .clean) (start .args .b) .clean))
+    (start .pre .0, start .pre .1, rw (c .before .flag .ensures) (reads-opened (r .result) (r .ensures .clean) (start .args .b) .clean))
 
 same-length : tie.Need-same-length
 same-length c = c .before .before .put-record .ensures .proper .sound .size ∙ sym (c .before .before .before .before .before .before .before .before .pre .0 .sound .size)
@@ -28,7 +28,7 @@ returns : tie.Need-returns
 returns c =
     let start = c .before .before .before .before .before .before .before .before in
     let r = c .before .before .before .before .before .record-at in
-    let m = reads-marked (r .result) (r .ensures .clean) (start .args .b) in
+    let m = reads-opened (r .result) (r .ensures .clean) (start .args .b) in
     alter-shown (start .args .image .now) (start .pre .0) _ (openAs (start .args .b)) (start .args .i) (taggedOf (r .result)) (start .pre .1) (r .ensures .is)
     (rw (m .is, sym (c .before .before .before .before .flag .ensures)) (c .before .before .put-record .ensures))
 
