@@ -3,14 +3,14 @@
 use mathlib.Core.Path.{_≡_, refl, sym, _∙_, ap}
 use Prim.Native.Nat.{ℕ, suc}
 use native.Mathlib.Omega.{arith}
-use mathlib.Core.Bool.{Bool, false}
+use mathlib.Core.Bool.{Bool}
 use mathlib.Core.List.{List, [], _∷_}
 use lib.Dec.{eqb}
 use lib.ListN.{length}
 use borrow.Author.Tests.{ne-eqb}
 use Rattle.graph.specs.declared.remaining.Remaining.{Remaining}
 use Rattle.graph.specs.KeyLists.{isNil}
-use Rattle.graph.specs.Targets.{Targets, these, all, cleared, noneLeft, leftOf, apart}
+use Rattle.graph.specs.Targets.{Targets, these, all, noneLeft, leftOf, apart}
 use Rattle.graph.specs.Packed.{packed, targetsIn, packedTargets}
 use Rattle.graph.proofs.KeyLaws.{listed-packed}
 
@@ -24,14 +24,7 @@ pub apart-all : (mark : Bool) (t : Targets) → apart (all mark) t ≡ noneLeft 
 apart-all mark (these ts) = refl
 apart-all mark (all other) = refl
 
-abbrev without : Remaining → Remaining
-without a = record { all = a .all; mark = false; keys = a .keys }
-
-packed-cleared : (t : Targets) → without (packedTargets t) ≡ packedTargets (cleared t)
-packed-cleared (these ts) = refl
-packed-cleared (all mark) = refl
-
-packed-left : (t : Targets) → (packedTargets t) .keys ≡ packed (leftOf t)
+pub packed-left : (t : Targets) → (packedTargets t) .keys ≡ packed (leftOf t)
 packed-left (these ts) = refl
 packed-left (all mark) = refl
 
@@ -43,10 +36,5 @@ targets-packed (all mark) = refl
 pub normal-targets : {r : Remaining} (t : Targets) → r ≡ packedTargets t → r ≡ packedTargets (targetsIn r)
 normal-targets t e = e ∙ ap packedTargets (sym (ap targetsIn e ∙ targets-packed t))
 
--- a struct in the normal form
-module _ (a : Remaining) (p : a ≡ packedTargets (targetsIn a)) where
-  pub normal-cleared : without a ≡ packedTargets (cleared (targetsIn a))
-  normal-cleared = ap without p ∙ packed-cleared (targetsIn a)
-
-  pub normal-left : a .keys ≡ packed (leftOf (targetsIn a))
-  normal-left = ap (λ (x : Remaining). x .keys) p ∙ packed-left (targetsIn a)
+pub normal-left : (r : Remaining) → r ≡ packedTargets (targetsIn r) → r .keys ≡ packed (leftOf (targetsIn r))
+normal-left r p = ap (λ (x : Remaining). x .keys) p ∙ packed-left (targetsIn r)

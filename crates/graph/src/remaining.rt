@@ -1,7 +1,7 @@
 // What an operation has yet to act at: listed keys, or all nodes (`to=all`).
 use crate::keys::Keys;
 ghost use mathlib.Core.Path.{_≡_};
-ghost use Rattle.graph.specs.Targets.{reaches, struck, cleared, noneLeft, leftOf, apart, sameTargets};
+ghost use Rattle.graph.specs.Targets.{reaches, struck, noneLeft, leftOf, apart, sameTargets};
 ghost use Rattle.graph.specs.Packed.{packed, targetsIn, packedTargets};
 
 // Where `all` holds, `mark` says that it is done at this station, and no key is listed. Elsewhere there is no mark.
@@ -39,19 +39,6 @@ impl Remaining {
             all: false,
             mark: false,
             keys: keys.strike(key),
-        }
-    }
-
-    // As it goes on to another station. The list has zeros after its keys.
-    pub fn cleared(self) -> Self
-        requires { ⌜ self ≡ packedTargets (targetsIn self) ⌝ }
-        ensures { λ r. ⌜ r ≡ packedTargets (cleared (targetsIn self)) ⌝ }
-    {
-        let keys = self.keys;
-        Remaining {
-            all: self.all,
-            mark: false,
-            keys: keys,
         }
     }
 

@@ -16,7 +16,7 @@ use Rattle.graph.proofs.Answers.{and-left, and-right, Holds, refuses, holds, ho
 use Rattle.flat.specs.Flat.{Flat}
 use Rattle.graph.specs.OneAtATime.{isOp}
 use Rattle.flat.specs.Inner.Queues.{isAt}
-use Rattle.flat.specs.Inner.FlatSteps.{firstIn, mapFrom, noOp, moveTo, withQueue, soughtAt, headUnit, onFirstOp, moveFlat, known, atKey, flatStep}
+use Rattle.flat.specs.Inner.FlatSteps.{firstIn, mapFrom, noOp, moveOn, withQueue, soughtAt, headUnit, onFirstOp, moveFlat, known, atKey, flatStep}
 use Rattle.flat.proofs.Turns.{any-first}
 use Rattle.state.specs.Inner.State.{flatIn}
 use Rattle.state.specs.Inner.ValidImage.{ValidImage}
@@ -141,7 +141,7 @@ module _ (k : ℕ) (f : Flat) where
 
     module _ (other : (k ≡ 1 → ⊥)) where
       hit-or-free : (b : Bool) → ltb (firstIn (soughtAt Acts k) (u .start) (u .end) (f .queue)) (u .end) ≡ b
-          → flatStep (move k) f ≡ cond b (refused 22) (done (withQueue f (mapFrom (moveTo (k - 1)) (u .start) (u .end) (f .queue))))
+          → flatStep (move k) f ≡ cond b (refused 22) (done (withQueue f (mapFrom (moveOn (k - 1)) (u .start) (u .end) (f .queue))))
       hit-or-free b t =
           move-is ∙ rw (ne-eqb k 1 other, any-first (soughtAt Acts k) (f .queue) (u .end) (head .fits) (u .start) (head .before) ∙ t)
 
@@ -149,5 +149,5 @@ module _ (k : ℕ) (f : Flat) where
       move-hit hit = hit-or-free true (lt-ltb _ _ hit)
 
       pub move-free : u .end ≤ firstIn (soughtAt Acts k) (u .start) (u .end) (f .queue)
-          → flatStep (move k) f ≡ done (withQueue f (mapFrom (moveTo (k - 1)) (u .start) (u .end) (f .queue)))
+          → flatStep (move k) f ≡ done (withQueue f (mapFrom (moveOn (k - 1)) (u .start) (u .end) (f .queue)))
       move-free free = hit-or-free false (le-ltb _ _ free)

@@ -17,7 +17,8 @@ use Rattle.graph.specs.Acts.{isFold, isMap, newValue, newLinks, newHeld, result
 use Rattle.graph.specs.Nodes.{Node, Result, actOn, actBy, resultsFor, stored}
 use Rattle.graph.specs.Tasks.{ruleOf, ruleFor}
 use Rattle.graph.specs.OneAtATime.{Labelled, addOf, opOf, isOp}
-use Rattle.graph.specs.Packed.{listed, packed}
+use Rattle.graph.specs.Packed.{listed, packed, targetsIn}
+use Rattle.graph.specs.Targets.{these, leftOf}
 use Rattle.graph.specs.Sessions.{Session, store}
 use Rattle.graph.proofs.AffineLaws.{map-of}
 use Rattle.graph.proofs.KeyLaws.{listed-packed}
@@ -38,7 +39,7 @@ use Rattle.headsteps.specs.Inner.Heads.{bodyValue}
 
 -- WHICH TASK RULE HOLDS: an operation's, by its kind and its targets
 pub rule-read : (k : ℕ) (w : Labelled) → isOp w ≡ true
-    → ruleOf (ofOp false (λ o. isFold (o .act)) w) (ofOp [] (λ o. o .targets) w) k (eqb k 1) ≡ ofOp Propagate (λ o. ruleFor o k (eqb k 1)) w
+    → ruleOf (ofOp false (λ o. isFold (o .act)) w) (ofOp (these []) (λ o. o .targets) w) k (eqb k 1) ≡ ofOp Propagate (λ o. ruleFor o k (eqb k 1)) w
 rule-read k (addOf l v) e = absurd (true≢false (sym e))
 rule-read k (opOf o) e = refl
 
@@ -154,13 +155,15 @@ room-for image p o holds-valid h carries =
     (labels-room s (holds-valid .valid) p within)
 
 -- the operation is taken out first, and then its results are stored
-pub finish-shown : (f : Flat) (p e : ℕ) (o : Operation) (v : ℕ) (t u : List ℕ) → Carries ((getD (f .queue) p noOp) .call) o → v ≡ resultValue (o .act) (o .held)
+pub finish-shown : (f : Flat) (p e : ℕ) (o : Operation) (v : ℕ) (left : Keys) (t u : List ℕ) → Carries ((getD (f .queue) p noOp) .call) o → v ≡ resultValue (o .act) (o .held)
+    → left ≡ packed (leftOf (targetsIn (o .targets)))
     → Shows (withQueue f (takeOut p e (getD (f .queue) p noOp) (f .queue))) t
-    → Shows (withResults (flatIn t) (store (resultsFor (labelsOf (o .labels)) v (listed (o .targets))) (flatIn t .results))) u
+    → Shows (withResults (flatIn t) (store (resultsFor (labelsOf (o .labels)) v (listed left)) (flatIn t .results))) u
     → Shows (finishPlace p e (getD (f .queue) p noOp) f) u
-finish-shown f p e o v t u carries ve first second =
+finish-shown f p e o v left t u carries ve le first second =
     let x : Tagged = getD (f .queue) p noOp in
-    let gone : resultsFor (labelsOf (o .labels)) v (listed (o .targets)) ≡ ofOp [] stored (x .call) =
-    ap (λ (w : ℕ). resultsFor (labelsOf (o .labels)) w (listed (o .targets))) ve ∙ ap (ofOp [] stored) (sym (carries .is)) in
+    let keys : listed left ≡ leftOf (targetsIn (o .targets)) = ap listed le ∙ listed-packed (leftOf (targetsIn (o .targets))) in
+    let gone : resultsFor (labelsOf (o .labels)) v (listed left) ≡ ofOp [] stored (x .call) =
+    (λ i. resultsFor (labelsOf (o .labels)) (ve i) (keys i)) ∙ ap (ofOp [] stored) (sym (carries .is)) in
     subst (λ (rs : List Result). Shows (record { nodes = f .nodes; queue = takeOut p e x (f .queue); results = store rs (f .results); last = f .last }) u) gone
-    (subst (λ (g : Flat). Shows (withResults g (store (resultsFor (labelsOf (o .labels)) v (listed (o .targets))) (g .results))) u) (first .shows) second)
+    (subst (λ (g : Flat). Shows (withResults g (store (resultsFor (labelsOf (o .labels)) v (listed left)) (g .results))) u) (first .shows) second)

@@ -17,7 +17,7 @@ ghost use lib.ListN.{length, getD};
 ghost use Rattle.graph.specs.Nodes.{actBy};
 ghost use Rattle.graph.specs.OneAtATime.{opOf, isOp};
 ghost use Rattle.graph.specs.Steps.{realise, move, finish};
-ghost use Rattle.flat.specs.Inner.FlatSteps.{noOp, noNode, moveTo, mapFrom, firstIn, withQueue, ruleAt, soughtAt, actAt, takeOut, finishPlace, known, flatStep, handOn};
+ghost use Rattle.flat.specs.Inner.FlatSteps.{noOp, noNode, moveOn, mapFrom, firstIn, withQueue, ruleAt, soughtAt, actAt, takeOut, finishPlace, known, flatStep, handOn};
 ghost use Rattle.state.specs.Inner.Operations.{opValue, Normal, Carries, Bounded};
 ghost use Rattle.state.specs.Inner.State.{flatIn, Proper, Shows};
 ghost use Rattle.state.specs.Inner.ValidImage.{ValidImage, Works};
@@ -50,7 +50,7 @@ pub fn first_for(image: &[u8], sought: Sought, k: u8, h: usize, e: usize) -> usi
     e
 }
 
-// The operation after it acted at a node: the node's key is struck.
+// The operation after it acted at a node: the node's key is struck, an all-call is marked.
 fn acted(o: Operation, n: Body) -> Operation
     requires { ⌜ Normal o ⌝ }
     ensures { λ r. ⌜ Carries (opOf (actBy (opValue o) (bodyValue n))) r ⌝ }
@@ -62,12 +62,12 @@ fn acted(o: Operation, n: Body) -> Operation
     Operation {
         act: act,
         held: act::held_after(act, o.held, n.value, links),
-        targets: targets.strike(n.key),
+        targets: targets.struck(n.key),
         labels: labels,
     }
 }
 
-// The operation at p acts at the node with key k, and strikes that node's key.
+// The operation at p acts at the node with key k, and strikes that node's key or is marked.
 pub fn act_at(image: &mut [u8], k: u8, p: usize)
     requires { ⌜ (Proper (now image)) × (known k (flatIn (now image)) ≡ true) × (p < length (flatIn (now image) .queue)) × (isOp ((getD (flatIn (now image) .queue) p noOp) .call) ≡ true) ⌝ }
     ensures { λ _. ⌜ Shows (actAt k p (getD (flatIn (now (image .entry)) .queue) p noOp) (getD (flatIn (now (image .entry)) .nodes) (k - 1) noNode) (flatIn (now (image .entry)))) (now (image .exit)) ⌝ }
@@ -84,20 +84,20 @@ pub fn act_at(image: &mut [u8], k: u8, p: usize)
     ops::put_operation(image, p, after);
 }
 
-// The unit from h up to e goes to the next station's tail: in the queue only its place changes.
+// The unit from h up to e goes to the next station's tail: in the queue only its place changes, and marks are cleared.
 pub fn move_unit(image: &mut [u8], k: u8, h: usize, e: usize)
     requires { ⌜ (Proper (now image)) × (1 ≤ k) × (h ≤ e) × (e ≤ length (flatIn (now image) .queue)) ⌝ }
-    ensures { λ _. ⌜ Shows (withQueue (flatIn (now (image .entry))) (mapFrom (moveTo (k - 1)) h e (flatIn (now (image .entry)) .queue))) (now (image .exit)) ⌝ }
+    ensures { λ _. ⌜ Shows (withQueue (flatIn (now (image .entry))) (mapFrom (moveOn (k - 1)) h e (flatIn (now (image .entry)) .queue))) (now (image .exit)) ⌝ }
 {
     let next = k - 1;
     let mut i = h;
     while i < e {
-        ops::set_place(image, i, next);
+        ops::move_op(image, i, next);
         i += 1;
     }
 }
 
-// The mark of the operation at p goes to the next of its unit, which ends at e.
+// Where the operation at p opens its unit, which ends at e, the next of the unit is to open it.
 fn hand_on(image: &mut [u8], p: usize, e: usize)
     requires { ⌜ (Proper (now image)) × (p < e) × (e ≤ length (flatIn (now image) .queue)) ⌝ }
     ensures { λ _. ⌜ Shows (withQueue (flatIn (now (image .entry))) (handOn p e (getD (flatIn (now (image .entry)) .queue) p noOp) (flatIn (now (image .entry)) .queue))) (now (image .exit)) ⌝ }
@@ -129,8 +129,8 @@ pub fn finish_at(image: &mut [u8], p: usize, e: usize)
     let act = o.act;
     let value = act::result_value(act, o.held);
     let labels = o.labels;
-    let left = o.targets;
-    results::store_all(image, labels, value, left);
+    let targets = o.targets;
+    results::store_all(image, labels, value, targets.left());
 }
 
 // In the head unit, the first operation that a step looks for: its place, and where the unit ends.

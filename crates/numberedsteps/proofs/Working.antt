@@ -8,7 +8,7 @@ use lib.ListN.{length, getD, set}
 use borrow.Author.Tests.{leb-true}
 use Rattle.graph.specs.Refusals.{Answer, refused, done, mapDone}
 use Rattle.graph.specs.Acts.{isMap}
-use Rattle.graph.specs.KeyLists.{sameKeys}
+use Rattle.graph.specs.Targets.{sameTargets}
 use Rattle.graph.specs.Steps.{swap, fuse, maySwap, mayFuse, fused}
 use Rattle.graph.proofs.Answers.{and-right}
 use Rattle.graph.specs.OneAtATime.{opOf, isOp}
@@ -69,7 +69,7 @@ module _ (k i : ℕ) (f : Flat) (u : Span) (e : locateTwo k i f ≡ done u) wher
         ∙ (λ j. mapDone (withQueue f) (cond (sym d j) (done (removeAt (u .end) (set (f .queue) (u .start) (withOp x (made j))))) (refused 22)))
 
 pub few-labels : (a b : Op) → mayFuse a b ≡ true → length (a .labels ++ b .labels) ≤ 4
-few-labels a b t = leb-true _ 4 (and-right (sameKeys (a .targets) (b .targets)) _ (and-right (isMap (a .act) && isMap (b .act)) _ t))
+few-labels a b t = leb-true _ 4 (and-right (sameTargets (a .targets) (b .targets)) _ (and-right (isMap (a .act) && isMap (b .act)) _ t))
 
 -- the queue q is shown by t, and without the element at e by u
 pub removed-after : (f : Flat) (q : List Tagged) (t u : List ℕ) (e : ℕ) → Shows (withQueue f q) t → Shows (withQueue (flatIn t) (removeAt e (flatIn t .queue))) u → Shows (withQueue f (removeAt e q)) u

@@ -166,7 +166,7 @@ pub fn set_place(image: &mut [u8], i: usize, k: u8)
 }
 
 // To station k as a move takes it: an all-call goes on without its mark.
-pub fn move_on(image: &mut [u8], i: usize, k: u8)
+pub fn move_op(image: &mut [u8], i: usize, k: u8)
     requires { ⌜ (Proper (now image)) × (i < length (flatIn (now image) .queue)) ⌝ }
     ensures { λ _. ⌜ Shows (withQueue (flatIn (now (image .entry))) (alter i (moveOn k) (flatIn (now (image .entry)) .queue))) (now (image .exit)) ⌝ }
 {

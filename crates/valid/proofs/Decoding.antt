@@ -19,7 +19,7 @@ use Rattle.graph.specs.OneAtATime.{Labelled, addOf, opOf}
 use Rattle.graph.specs.Valid.{Each, ValidTargets, ValidRemaining, ValidNode, ValidAct, ValidHeld, mostLabels, ValidOp, ValidResult}
 use Rattle.graph.proofs.Answers.{and-left, and-right, by-bool}
 use Rattle.graph.proofs.KeyLaws.{listed-packed}
-use Rattle.graph.proofs.PackedTargets.{targets-packed}
+use Rattle.graph.proofs.PackedTargets.{packed-left, targets-packed}
 use Rattle.flat.specs.Inner.Queues.{placed, follows, labelsIn}
 use Rattle.records.specs.declared.node.NodeRecord.{NodeRecord}
 use Rattle.records.specs.declared.op.OpRecord.{OpRecord}
@@ -374,17 +374,16 @@ one-good l = record { named = omega arith; few = omega arith }
 -- the targets of a valid call, in a record at p of a kind that is no add's
 record RemainingGood (p kind : ℕ) (t : Targets) : Type 0 where
   keys : KeysGood true (leftOf t)
-  listed : packedTargets t .keys ≡ packed (leftOf t)
   all : allOk kind (packedTargets t .keys .count) (cond (packedTargets t .all) 1 0) ≡ true
   mark : markOk p (cond (packedTargets t .all) 1 0) (cond (packedTargets t .mark) 1 0) ≡ true
 
 remaining-good : (p kind : ℕ) (t : Targets) → eqb kind 0 ≡ false → ValidRemaining t → (p ≡ 65 → isMarked t ≡ false) → RemainingGood p kind t
 unfolding packed
 remaining-good p kind (these ts) k v m =
-    record { keys = targets-good ts v; listed = refl; all = refl; mark = refl }
+    record { keys = targets-good ts v; all = refl; mark = refl }
 remaining-good p kind (all true) k v m =
-    record { keys = no-targets; listed = refl; all = rw k; mark = rw (ne-eqb p 65 (λ e. true≢false (m e))) }
-remaining-good p kind (all false) k v m = record { keys = no-targets; listed = refl; all = rw k; mark = refl }
+    record { keys = no-targets; all = rw k; mark = rw (ne-eqb p 65 (λ e. true≢false (m e))) }
+remaining-good p kind (all false) k v m = record { keys = no-targets; all = rw k; mark = refl }
 
 pub record-good : (p : ℕ) (b : Bool) (c : Labelled) → ValidPlaced p c → RecordGood p b c
 unfolding packedLabels packed
@@ -427,7 +426,7 @@ record-good p b (opOf o) (h, m) = made (fields-good (o .act) (o .held) (h .act) 
                 operand = g .operand;
                 multiplier = g .multiplier;
                 none = rw (g .other);
-                targets = ap (keysOk true) (r .listed) ∙ packed-ok true (leftOf (o .targets)) (r .keys);
+                targets = ap (keysOk true) (packed-left (o .targets)) ∙ packed-ok true (leftOf (o .targets)) (r .keys);
                 labels = packed-labels-ok (mostOf (f .kind)) (most-four (f .kind)) (o .labels) lg;
                 opens = flag-small b;
                 all = r .all;
@@ -437,7 +436,7 @@ record-good p b (opOf o) (h, m) = made (fields-good (o .act) (o .held) (h .act) 
               record {
                 a = g .small-a;
                 b = g .small-b;
-                targets = subst FitKeys (sym (r .listed)) (packed-fit true (leftOf (o .targets)) (r .keys));
+                targets = subst FitKeys (sym (packed-left (o .targets))) (packed-fit true (leftOf (o .targets)) (r .keys));
                 labels = labels-fit (o .labels) (omega (arith, few, most-four (f .kind))) s;
               };
         }

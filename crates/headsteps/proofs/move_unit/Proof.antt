@@ -2,7 +2,7 @@
 -- Assumes nothing.
 use mathlib.Core.Path.{_≡_, sym, _∙_}
 use Prim.Native.Nat.{_-_, _≤_}
-use Rattle.flat.specs.Inner.FlatSteps.{moveTo}
+use Rattle.flat.specs.Inner.FlatSteps.{moveOn}
 use Rattle.headsteps.proofs.Parts.{Moved, moved-none, moved-in, moved-next}
 use borrow.Author.Needs.{needs}
 use native.Mathlib.Omega.{arith}
@@ -10,7 +10,7 @@ use Rattle.headsteps.proofs.move_unit.Statement.{statement}
 use Rattle.headsteps.proofs.move_unit.Tie as tie
 
 abbrev Inv-loop : tie.InvT-loop
-Inv-loop image₀ k h e next i₀ image i = (h ≤ i) × (i ≤ e) × Moved image₀ (moveTo (k - 1)) h i image
+Inv-loop image₀ k h e next i₀ image i = (h ≤ i) × (i ≤ e) × Moved image₀ (moveOn (k - 1)) h i image
 
 abbrev μ-loop : tie.MeasureT-loop
 μ-loop image₀ k h e next i₀ image i = e - i
@@ -21,13 +21,13 @@ sub-next c = search needs
 loop-holds : tie.Need-loop-holds Inv-loop μ-loop
 loop-holds c =
     let a = c .before in
-    (omega arith, a .pre .2, moved-none (a .args .image .now) (moveTo (a .args .k - 1)) (a .args .h) (a .pre .0))
+    (omega arith, a .pre .2, moved-none (a .args .image .now) (moveOn (a .args .k - 1)) (a .args .h) (a .pre .0))
 
-set-place-requires : tie.Need-set-place-requires Inv-loop μ-loop
-set-place-requires c κs =
+move-op-requires : tie.Need-move-op-requires Inv-loop μ-loop
+move-op-requires c κs =
     let l = c .before .before in
     let a = l .before .before in
-    (l .loop .inv .2 .proper, moved-in (a .args .image .now) (moveTo (a .args .k - 1)) (a .args .h) (l .loop .i) (l .loop .image) (l .loop .inv .0) (omega (arith, a .pre .3)) (l .loop .inv .2))
+    (l .loop .inv .2 .proper, moved-in (a .args .image .now) (moveOn (a .args .k - 1)) (a .args .h) (l .loop .i) (l .loop .image) (l .loop .inv .0) (omega (arith, a .pre .3)) (l .loop .inv .2))
 
 add-i : tie.Need-add-i Inv-loop μ-loop
 add-i c = search needs
@@ -39,7 +39,7 @@ loop-again : tie.Need-loop-again Inv-loop μ-loop
 loop-again c =
     let l = c .before .before .before .before .before in
     let a = l .before .before in
-    (omega arith, omega arith, moved-next (a .args .image .now) (moveTo (a .args .k - 1)) (a .args .h) (l .loop .i) (l .loop .image) (l .loop .inv .0) (omega (arith, a .pre .3)) (l .loop .inv .2) _ (c .before .before .set-place .ensures))
+    (omega arith, omega arith, moved-next (a .args .image .now) (moveOn (a .args .k - 1)) (a .args .h) (l .loop .i) (l .loop .image) (l .loop .inv .0) (omega (arith, a .pre .3)) (l .loop .inv .2) _ (c .before .before .move-op .ensures))
 
 same-length : tie.Need-same-length Inv-loop μ-loop
 same-length c = c .before .loop .inv .2 .proper .sound .size ∙ sym (c .before .before .before .pre .0 .sound .size)
@@ -57,7 +57,7 @@ move-unit-spec =
     μ-loop
     sub-next
     loop-holds
-    set-place-requires
+    move-op-requires
     add-i
     loop-less
     loop-again

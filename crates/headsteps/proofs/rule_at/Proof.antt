@@ -1,11 +1,10 @@
 -- The kind and the targets that the image lists are those of the operation.
 -- Assumes nothing.
 use mathlib.Core.Path.{ap₂, _∙_}
-use Prim.Native.Nat.{ℕ}
 use mathlib.Core.Bool.{Bool}
-use mathlib.Core.List.{List}
 use lib.Dec.{eqb}
 use lib.ListN.{getD}
+use Rattle.graph.specs.Targets.{Targets}
 use Rattle.graph.specs.Tasks.{ruleOf}
 use Rattle.flat.specs.Inner.FlatSteps.{noOp}
 use Rattle.state.specs.Inner.State.{flatIn}
@@ -27,7 +26,7 @@ returns : tie.Need-returns
 returns c =
     let s = c .before .before .before .before in
     let k = s .args .k in
-    c .rule-of .ensures ∙ ap₂ (λ (f : Bool) (ts : List ℕ). ruleOf f ts k (eqb k 1)) (c .before .before .is-fold-at .ensures) (c .before .targets-at .ensures .is)
+    c .rule-of .ensures ∙ ap₂ (λ (f : Bool) (t : Targets). ruleOf f t k (eqb k 1)) (c .before .before .is-fold-at .ensures) (c .before .targets-at .ensures .is)
     ∙ rule-read k (getD (flatIn (s .args .image .now) .queue) (s .args .i) noOp .call) (s .pre .2)
 
 pub rule-at-spec : {M : Type 1} → statement M

@@ -6,7 +6,7 @@ use Rattle.graph.specs.declared.act.Act.the-variants.{Map}
 use Rattle.graph.specs.Acts.{affineOf}
 use Rattle.graph.specs.Affine.{composed}
 use Rattle.graph.specs.OneAtATime.{opOf}
-use Rattle.graph.specs.Packed.{listed}
+use Rattle.graph.specs.Packed.{targetsIn}
 use Rattle.valid.specs.Inner.Decoded.{labelsOf}
 use Rattle.valid.specs.Values.{packedLabels}
 use Rattle.numberedsteps.proofs.LabelLaws.{listed-labels}
@@ -37,8 +37,8 @@ returns c =
     let map : composed (affineOf (a .act)) (affineOf (b .act)) ≡ c .before .compose .result = (λ i. composed (sym (c .before .before .before .affine-of .ensures) i) (sym (c .before .before .affine-of2 .ensures) i)) ∙ sym (c .before .compose .ensures) in
     let labels : labelsOf (a .labels) ++ labelsOf (b .labels) ≡ labelsOf (l .result) = sym (ap labelsOf (l .ensures) ∙ listed-labels (labelsOf (a .labels) ++ labelsOf (b .labels))) in
     record {
-      is = λ i. opOf (record { act = Map (map i); held = 0; targets = listed (a .targets); labels = labels i });
-      normal = record { keys = s .pre .0 .keys; names = l .ensures ∙ ap packedLabels labels; mapHeld = λ e. refl };
+      is = λ i. opOf (record { act = Map (map i); held = 0; targets = targetsIn (a .targets); labels = labels i });
+      normal = record { targets = s .pre .0 .targets; names = l .ensures ∙ ap packedLabels labels; mapHeld = λ e. refl };
     }
 
 pub merge-spec : {M : Type 1} → statement M

@@ -6,8 +6,8 @@ use Rattle.valid.specs.Inner.Decoded.{taggedOf}
 use Rattle.state.proofs.QueueRecords.{reads-moved}
 use Rattle.state.proofs.QueueHeld.{alter-shown}
 use borrow.Author.Needs.{needs}
-use Rattle.state.proofs.ops.move_on.Statement.{statement}
-use Rattle.state.proofs.ops.move_on.Tie as tie
+use Rattle.state.proofs.ops.move_op.Statement.{statement}
+use Rattle.state.proofs.ops.move_op.Tie as tie
 
 record-at-requires : tie.Need-record-at-requires
 record-at-requires c κs = search needs
@@ -28,5 +28,5 @@ returns c =
     alter-shown (start .args .image .now) (start .pre .0) _ (moveOn (start .args .k)) (start .args .i) (taggedOf (r .result)) (start .pre .1) (r .ensures .is)
     (rw (reads-moved (r .result) (r .ensures .clean) (start .args .k) .is) (c .before .before .put-record .ensures))
 
-pub move-on-spec : {M : Type 1} → statement M
-move-on-spec = tie.close (tie.spec record-at-requires put-record-requires same-length returns)
+pub move-op-spec : {M : Type 1} → statement M
+move-op-spec = tie.close (tie.spec record-at-requires put-record-requires same-length returns)
