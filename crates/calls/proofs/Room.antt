@@ -13,7 +13,6 @@ use Rattle.graph.specs.OneAtATime.{Labelled, addOf, opOf, isOp}
 use Rattle.graph.specs.Refusals.{done}
 use Rattle.graph.specs.Sessions.{labelsOfResults}
 use Rattle.graph.specs.Steps.{admit}
-use Rattle.graph.specs.Valid.{ValidCall}
 use Rattle.graph.proofs.Answers.{Holds, holds-map, holds-at}
 use Rattle.graph.proofs.Labels.{length-labels}
 use Rattle.graph.proofs.Validity.{step-valid}
@@ -22,7 +21,7 @@ use Rattle.flat.specs.Inner.Nested.{nest}
 use Rattle.flat.specs.Inner.Queues.{labelsIn, queued, liveIn}
 use Rattle.flat.proofs.Places.{length-nodes}
 use Rattle.flat.proofs.Elements.{each-queued}
-use Rattle.flat.proofs.Labels.{labels-many}
+use Rattle.flat.proofs.Labels.{labels-some, labels-many}
 use Rattle.flat.specs.Inner.FlatSteps.{noOp, admitCall, flatStep}
 use Rattle.flat.proofs.Events.{valid-room, step-valid-flat}
 use Rattle.flat.proofs.Facts.{labels-room}
@@ -53,7 +52,7 @@ module _ (s : List ℕ) (g : ValidImage s) where
   queue-room e =
       let many : length (flatIn s .queue) ≤ length (queued (flatIn s .queue)) =
       subst (λ (f : Flat). length (f .queue) ≤ length (queued (f .queue))) (g .flat)
-      (labels-many (flat (nest (flatIn s)) .queue) (each-queued (λ x. ValidCall (x .call)) (λ c w. w) (nest (flatIn s)) (g .valid) (λ k b o l h w. w))) in
+      (labels-many (flat (nest (flatIn s)) .queue) (each-queued (λ x. 1 ≤ length (labelsIn (x .call))) labels-some (nest (flatIn s)) (g .valid) (λ k b o l h w. w .named))) in
       omega (arith, many, live-parts (flatIn s), leb-false 64 (length (liveIn (flatIn s))) e)
 
   -- a step leaves a valid session, so an add that waits has room for its node

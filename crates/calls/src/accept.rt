@@ -1,6 +1,6 @@
 // Acceptance of a call whose form is good: the tests on the session, then the next label and a place in the top stream.
 use graph::act::Act;
-use graph::keys::Keys;
+use graph::remaining::Remaining;
 use records::labels::Labels;
 use state::nodes;
 use state::operation::Operation;
@@ -15,13 +15,14 @@ ghost use lib.Dec.{leb};
 ghost use lib.ListN.{length};
 ghost use Rattle.graph.specs.Acts.{isMap};
 ghost use Rattle.graph.specs.OneAtATime.{addOf, operation};
-ghost use Rattle.graph.specs.Packed.{listed, packed};
+ghost use Rattle.graph.specs.Packed.{packedTargets};
+ghost use Rattle.graph.specs.Targets.{untouched};
 ghost use Rattle.graph.specs.RefusalOrder.{firstOf};
 ghost use Rattle.flat.specs.Inner.Queues.{addsQueued, liveIn};
 ghost use Rattle.state.specs.Inner.Operations.{Bounded};
 ghost use Rattle.state.specs.Inner.State.{flatIn, Proper};
 ghost use Rattle.state.specs.Inner.ValidImage.{ValidImage, Works};
-ghost use Rattle.calls.specs.Inner.Accepting.{flatLiveTests, flatAcceptRest};
+ghost use Rattle.calls.specs.Inner.Accepting.{namedIn, flatLiveTests, flatAcceptRest};
 
 // How many calls are live: their labels wait in the queue or among the results.
 pub fn live_total(image: &[u8]) -> usize
@@ -70,10 +71,10 @@ pub fn accept_add(image: &mut [u8], value: u32) -> u32
     0
 }
 
-// A call that visits nodes: what it does, what it holds at first, and its targets, zeros after them.
-pub fn accept_operation(image: &mut [u8], act: Act, start: u32, targets: Keys) -> u32
-    requires { ⌜ (ValidImage (now image)) × (targets ≡ packed (listed targets)) × (isMap act ≡ true → start ≡ 0) ⌝ }
-    ensures { λ r. ⌜ Works (flatAcceptRest (operation act start (listed targets) (suc (flatIn (now (image .entry)) .last))) (flatIn (now (image .entry)))) (now (image .entry)) (now (image .exit)) r ⌝ }
+// A call that visits nodes: what it does, what it holds at first, and its targets as the line named them, so without a mark.
+pub fn accept_operation(image: &mut [u8], act: Act, start: u32, targets: Remaining) -> u32
+    requires { ⌜ (ValidImage (now image)) × (targets ≡ packedTargets (untouched (namedIn targets))) × (isMap act ≡ true → start ≡ 0) ⌝ }
+    ensures { λ r. ⌜ Works (flatAcceptRest (operation act start (namedIn targets) (suc (flatIn (now (image .entry)) .last))) (flatIn (now (image .entry)))) (now (image .entry)) (now (image .exit)) r ⌝ }
 {
     let n = refusal(image);
     if n != 0 {
