@@ -1,7 +1,8 @@
 #!/usr/bin/env python3
 """testlines.py: writes crates/testlines/stdin and stdout. The answers are computed here, from the rules (docs/RULES.md) alone.
 
-The lines: each form once, the boundary lines, and every single-byte deletion of a good line of each form."""
+The lines: each form once, each call that has targets for all too, what is nearly `to=all`, the boundary lines, and every single-byte
+deletion of a good line."""
 import os
 import re
 
@@ -25,12 +26,14 @@ def refused(n, number):
 
 def call(n, line):
     for kind, (name, fields, listed) in enumerate(CALLS):
-        pattern = rf"call={name}" + "".join(rf" {f}=([0-9]+)" for f in fields) + (r" to=([0-9,]*)" if listed else "")
+        pattern = rf"call={name}" + "".join(rf" {f}=([0-9]+)" for f in fields) + (r" to=([0-9,]*|all)" if listed else "")
         found = re.fullmatch(pattern, line)
         if not found:
             continue
         texts = list(found.groups())
         to = texts.pop() if listed else ""
+        whole = to == "all"
+        to = "" if whole else to
         if not all(re.fullmatch(WORD, t) for t in texts) or not re.fullmatch(LIST, to):
             return refused(n, 10)
         values, keys = numbers_of(texts), numbers_of(to.split(",") if to else [])
@@ -44,7 +47,7 @@ def call(n, line):
         if name == "unmap" and values[0] % 2 == 0:
             return refused(n, 40)
         x, y = (values + [0])[:2]
-        return [f"label={n} value={x} left={to}", f"key={kind} value={y} links={to}"]
+        return [f"label={n} value={x} left={to}", f"key={kind} value={y} links={to}"] + ["to=all"] * whole
     return refused(n, 10)
 
 
@@ -86,6 +89,9 @@ GOOD = ["call=add value=5", "call=map a=3 b=4 to=1,2", "call=link key=2 to=1", "
         "call=top start=0 to=1,2", "call=pick start=0 to=1", "call=near key=2 start=0 to=1,3", "call=unmap a=3 b=4 to=1",
         "step=admit", "step=realise at=2", "step=move at=2", "step=finish at=2", "step=join at=2 unit=1",
         "step=split at=2 unit=1 after=1", "step=swap at=2 unit=1", "step=fuse at=2 unit=1", "step=drain", "claim=4"]
+WHOLE = [re.sub(" to=.*", " to=all", good) for good in GOOD if " to=" in good]
+NEARLY = [re.sub("all$", to, whole) for whole in WHOLE
+          for to in ["all,1", "all,", "alle", "all ", "all to=1", "1,all", ",all", "ALL", "All", "a", " all"]]
 EDGES = ["", "call=add value=0", "call=add value=00", "call=add value=05", "call=add value=", "call=add value=4294967295",
          "call=add value=4294967296", "call=add value=99999999999999999999999", "call=add value=5 ", "call=add value=5\r",
          "call=add value=5 to=", "call=sum start=4 to=", "call=sum start=4", "call=sum start=4 to=1,", "call=sum start=4 to=,1",
@@ -99,7 +105,9 @@ EDGES = ["", "call=add value=0", "call=add value=00", "call=add value=05", "call
          "call=unmap a=2 b=4 to=1", "call=unmap a=4294967294 b=4 to=1", "call=unmap a=2 b=4 to=65", "call=unmap a=2 b=4 to=2,2",
          "call=unmap a=2 b=4 to=1,2,3,4,5,6,7,8,9", "call=unmap a=2 b=4 to=1,", "call=unmap a=2 b=4294967296 to=1", "call=unmap a=4294967297 b=4 to=1",
          "call=unmap b=4 a=3 to=1", "call=unmap a=3 to=1", "call=unmapped a=3 b=4 to=1", "call=unma a=3 b=4 to=1",
-         "call=unlink a=3 b=4 to=1", "call=unmap key=3 to=1",
+         "call=unlink a=3 b=4 to=1", "call=unmap key=3 to=1", "call=add value=5 to=all", "call=link key=65 to=all", "call=unlink key=0 to=all",
+         "call=near key=65 start=0 to=all", "call=link key=65 to=all,1", "call=near key=65 start=4294967296 to=all",
+         "call=map a=2 b=4 to=all", "call=unmap a=2 b=4 to=all", "call=unmap a=2 b=4 to=all,1", "call=unmap a=4294967295 b=4294967295 to=all",
          "step=realise at=64", "step=realise at=65", "step=realise at=0", "step=realise at=02", "step=join at=2 unit=0",
          "step=split at=2 unit=0 after=0", "step=split at=65 unit=1", "step=admit ", "step=drain at=1", "step=", "step=split at=2 unit=1 after=4294967296",
          "claim=0", "claim=65536", "claim=4294967295", "claim=4294967296", "claim=04", "claim=", "claim=4 ", " claim=4",
@@ -108,8 +116,8 @@ EDGES = ["", "call=add value=0", "call=add value=00", "call=add value=05", "call
 
 
 def main():
-    lines = GOOD + EDGES
-    for good in GOOD:
+    lines = GOOD + WHOLE + NEARLY + EDGES
+    for good in GOOD + WHOLE:
         lines += [good[:i] + good[i + 1:] for i in range(len(good))]
     here = os.path.join(os.path.dirname(__file__), "..", "crates", "testlines")
     with open(os.path.join(here, "stdin"), "w", newline="") as out:

@@ -14,13 +14,15 @@ use Rattle.graph.specs.Words.{modulus, areWords}
 use Rattle.graph.specs.Affine.{isOdd}
 use Rattle.graph.specs.Refusals.{refused, done}
 use Rattle.graph.specs.declared.keys.Keys.{Keys}
+use Rattle.graph.specs.declared.remaining.Remaining.{Remaining}
 use Rattle.graph.specs.KeyLists.{isKey, areKeys, rising}
-use Rattle.graph.specs.Packed.{packed}
+use Rattle.graph.specs.Packed.{packed, packedTargets}
+use Rattle.graph.specs.Targets.{To, named, whole, listedIn, these, untouched}
 use Rattle.text.specs.Text.{ascii}
 use Rattle.text.proofs.Splits.{cleanTest, clean-by}
 use Rattle.lines.specs.Forms.{callText, callNumbers}
 use Rattle.lines.specs.Inner.Answers.{ReadAs, form, other, settled, callLine, refusedCall, callParts, callRead, callAnswer, callForm}
-use Rattle.lines.specs.Inner.LineParts.{Below, KeysOf, KeysStored, ValuesOf, callWord, callLiterals, callListed, CallAfter, Links, Starts, callMade, unmapMade}
+use Rattle.lines.specs.Inner.LineParts.{Below, isWhole, ToRead, ValuesOf, callWord, callLiterals, callListed, CallAfter, Links, Starts, callMade, unmapMade}
 use Rattle.lines.specs.declared.call.CallAnswer.{CallAnswer}
 use Rattle.lines.specs.declared.call.CallAnswer.the-variants.{Refused, Is}
 use Rattle.lines.specs.declared.call.CallKind.{CallKind}
@@ -43,11 +45,11 @@ kindAt b d =
     (cond (eqb b 116) Top
     (cond (eqb b 112) Pick Near))))))
 
-pub named : List ℕ → CallKind
-named w = kindAt (getD w 0 0) (getD w 2 0)
+pub kindNamed : List ℕ → CallKind
+kindNamed w = kindAt (getD w 0 0) (getD w 2 0)
 
-pub call-kinds : (k : CallKind) → KindOf named k (callWord k) (callLiterals k)
-unfolding named kindAt ascii cleanTest
+pub call-kinds : (k : CallKind) → KindOf kindNamed k (callWord k) (callLiterals k)
+unfolding kindNamed kindAt ascii cleanTest
 call-kinds Add = record { clean = clean-by 32 (callWord Add) refl; some = omega arith; names = refl; gaps = (refl, tt) }
 call-kinds Map = record { clean = clean-by 32 (callWord Map) refl; some = omega arith; names = refl; gaps = (refl, (refl, tt)) }
 call-kinds Link = record { clean = clean-by 32 (callWord Link) refl; some = omega arith; names = refl; gaps = (refl, tt) }
@@ -65,7 +67,7 @@ calls =
       word = callWord;
       literals = callLiterals;
       listed = callListed;
-      named = named;
+      named = kindNamed;
       kinds = call-kinds;
     }
 
@@ -84,17 +86,17 @@ no-call-word w a m l u s t p n v Unmap = v
 
 -- ---- the forms
 
-call-made : (k : CallKind) (x y z : ℕ) (ts : List ℕ) → Made calls callText callNumbers (record { kind = k; x = x; y = y; z = z; to = ts }) (callForm k x y ts)
+call-made : (k : CallKind) (x y z : ℕ) (to : To) → Made calls callText callNumbers (record { kind = k; x = x; y = y; z = z; to = to }) (callForm k x y to)
 unfolding calls ascii
-call-made Add x y z ts = record { same = refl; fits = λ s. (s .0, tt) }
-call-made Map x y z ts = record { same = refl; fits = λ s. (s .0, (s .1, s .3)) }
-call-made Link x y z ts = record { same = refl; fits = λ s. (s .0, s .3) }
-call-made Unlink x y z ts = record { same = refl; fits = λ s. (s .0, s .3) }
-call-made Sum x y z ts = record { same = refl; fits = λ s. (s .0, s .3) }
-call-made Top x y z ts = record { same = refl; fits = λ s. (s .0, s .3) }
-call-made Pick x y z ts = record { same = refl; fits = λ s. (s .0, s .3) }
-call-made Near x y z ts = record { same = refl; fits = λ s. (s .1, (s .0, s .3)) }
-call-made Unmap x y z ts = record { same = refl; fits = λ s. (s .0, (s .1, s .3)) }
+call-made Add x y z to = record { same = refl; fits = λ s. (s .0, tt) }
+call-made Map x y z to = record { same = refl; fits = λ s. (s .0, (s .1, s .3)) }
+call-made Link x y z to = record { same = refl; fits = λ s. (s .0, s .3) }
+call-made Unlink x y z to = record { same = refl; fits = λ s. (s .0, s .3) }
+call-made Sum x y z to = record { same = refl; fits = λ s. (s .0, s .3) }
+call-made Top x y z to = record { same = refl; fits = λ s. (s .0, s .3) }
+call-made Pick x y z to = record { same = refl; fits = λ s. (s .0, s .3) }
+call-made Near x y z to = record { same = refl; fits = λ s. (s .1, (s .0, s .3)) }
+call-made Unmap x y z to = record { same = refl; fits = λ s. (s .0, (s .1, s .3)) }
 
 abbrev pub formOf : Parts CallKind → Call
 formOf p = callForm (p .kind) (p .x) (p .y) (p .to)
@@ -139,16 +141,21 @@ answered : (f : Call) → lacksInverse f ≡ false → Below (callNumbers f) →
 answered f i w = by-tests f (areKeys (operandsOf f ++ targetsOf f)) (leb (length (targetsOf f)) 8 && rising (targetsOf f)) i (below-words (callNumbers f) w) refl refl
 
 -- what an answer by targets is, where there is a key before them
-abbrev keyed : Bool → CallKind → ℕ → ℕ → List ℕ → CallLine
-keyed b k x y ts = cond (b && areKeys ts) (cond (leb (length ts) 8 && rising ts) (callLine k x y ts) (refusedCall 12)) (refusedCall 11)
+abbrev keyed : Bool → CallKind → ℕ → ℕ → To → CallLine
+keyed b k x y to =
+    cond (b && areKeys (listedIn to)) (cond (leb (length (listedIn to)) 8 && rising (listedIn to)) (callLine k x y to) (refusedCall 12)) (refusedCall 11)
 
-pub add-answer : (value : ℕ) → value < modulus → callLine Add value 0 [] ≡ callAnswer (add value)
+-- of a line without targets
+pub none-listed : {t : Remaining} {keys : Keys} → t ≡ record { all = false; mark = false; keys = keys } → keys ≡ packed [] → t ≡ packedTargets (these [])
+none-listed e k = e ∙ ap (λ (q : Keys). record { all = false; mark = false; keys = q }) k
+
+pub add-answer : (value : ℕ) → value < modulus → callLine Add value 0 (named []) ≡ callAnswer (add value)
 add-answer value h = sym (answered (add value) refl (h, tt))
 
-pub map-answer : (a b : ℕ) (ts : List ℕ) → a < modulus → b < modulus → Below ts → callMade Map a b ts ≡ callAnswer (map a b ts)
-map-answer a b ts ha hb h = sym (answered (map a b ts) refl (ha, (hb, h)))
+pub map-answer : (a b : ℕ) (to : To) → a < modulus → b < modulus → Below (listedIn to) → callMade Map a b to ≡ callAnswer (map a b to)
+map-answer a b to ha hb h = sym (answered (map a b to) refl (ha, (hb, h)))
 
-module _ (a b : ℕ) (to : Keys) where
+module _ (a b : ℕ) (to : Remaining) where
   abbrev unmapIf : Bool → CallLine
   unmapIf odd = cond odd (record { answer = Is Unmap a b; to = to }) (refusedCall 40)
 
@@ -159,17 +166,17 @@ module _ (a b : ℕ) (to : Keys) where
   unmap-odd e = sym (ap unmapIf e)
 
 -- an unmap is answered as the map that it undoes, but for 40
-abbrev unmapAnswer : CallAnswer → Keys → CallLine
+abbrev unmapAnswer : CallAnswer → Remaining → CallLine
 unmapAnswer (Refused n) to = refusedCall n
 unmapAnswer (Is kind a b) to = unmapMade a b to
 
-unmap-answer : (a b : ℕ) (ts : List ℕ) → unmapAnswer (callAnswer (map a b ts) .answer) (callAnswer (map a b ts) .to) ≡ callAnswer (unmap a b ts)
-unmap-answer a b ts = go (areWords (callNumbers (map a b ts))) (areKeys ts) (leb (length ts) 8 && rising ts) (isOdd a) refl
+unmap-answer : (a b : ℕ) (to : To) → unmapAnswer (callAnswer (map a b to) .answer) (callAnswer (map a b to) .to) ≡ callAnswer (unmap a b to)
+unmap-answer a b to = go (areWords (callNumbers (map a b to))) (areKeys (listedIn to)) (leb (length (listedIn to)) 8 && rising (listedIn to)) (isOdd a) refl
   where
     formed : (p q r odd : Bool) → Call → CallLine
     formed p q r odd f = settled refusedCall callRead (cond (not p) (refused 10) (cond (not q) (refused 11) (cond (not r) (refused 12) (cond (not odd) (refused 40) (done f)))))
 
-    go : (p q r odd : Bool) → isOdd a ≡ odd → unmapAnswer (formed p q r true (map a b ts) .answer) (formed p q r true (map a b ts) .to) ≡ formed p q r odd (unmap a b ts)
+    go : (p q r odd : Bool) → isOdd a ≡ odd → unmapAnswer (formed p q r true (map a b to) .answer) (formed p q r true (map a b to) .to) ≡ formed p q r odd (unmap a b to)
     go false q r odd e = refl
     go true false r odd e = refl
     go true true false odd e = refl
@@ -190,14 +197,14 @@ module _ {l : List ℕ} (read r : CallLine) (h : CallAfter Map l read) where
   pub unmap-read : {kind : CallKind} {a b : ℕ} → read .answer ≡ Is kind a b → r ≡ unmapMade a b (read .to) → CallAfter Unmap l r
   unmap-read {kind} {a} {b} = unmap-after (Is kind a b)
 
-module _ (key start : ℕ) (ts : List ℕ) (hk : key < modulus) (hs : start < modulus) (h : Below ts) where
-  near-by : (b : Bool) → isKey key ≡ b → keyed b Near key start ts ≡ callAnswer (near key start ts)
-  near-by b e = ap (λ (x : Bool). keyed x Near key start ts) (sym e) ∙ sym (answered (near key start ts) refl (hs, (hk, h)))
+module _ (key start : ℕ) (to : To) (hk : key < modulus) (hs : start < modulus) (h : Below (listedIn to)) where
+  near-by : (b : Bool) → isKey key ≡ b → keyed b Near key start to ≡ callAnswer (near key start to)
+  near-by b e = ap (λ (x : Bool). keyed x Near key start to) (sym e) ∙ sym (answered (near key start to) refl (hs, (hk, h)))
 
-  pub near-answer : isKey key ≡ true → callMade Near key start ts ≡ callAnswer (near key start ts)
+  pub near-answer : isKey key ≡ true → callMade Near key start to ≡ callAnswer (near key start to)
   near-answer = near-by true
 
-  pub near-refused : isKey key ≡ false → refusedCall 11 ≡ callAnswer (near key start ts)
+  pub near-refused : isKey key ≡ false → refusedCall 11 ≡ callAnswer (near key start to)
   near-refused = near-by false
 
 -- what holds of each of the kinds with a key, or with a start, holds of such a kind
@@ -218,58 +225,71 @@ module _ (k : CallKind) (is : Links k) where
   pub link-after : {l : List ℕ} {r : CallLine} → OneField (ascii " key=") l r k
   link-after {l} {r} = links (OneField (ascii " key=") l r) (λ h. h) (λ h. h) k is
 
-  module _ (key : ℕ) (ts : List ℕ) (hk : key < modulus) (h : Below ts) where
-    link-by : (b : Bool) → isKey key ≡ b → keyed b k key 0 ts ≡ callAnswer (callForm k key 0 ts)
+  module _ (key : ℕ) (to : To) (hk : key < modulus) (h : Below (listedIn to)) where
+    link-by : (b : Bool) → isKey key ≡ b → keyed b k key 0 to ≡ callAnswer (callForm k key 0 to)
     link-by b e =
-        ap (λ (x : Bool). keyed x k key 0 ts) (sym e)
-        ∙ links (λ (j : CallKind). keyed (isKey key) j key 0 ts ≡ callAnswer (callForm j key 0 ts)) (sym (answered (link key ts) refl (hk, h))) (sym (answered (unlink key ts) refl (hk, h))) k is
+        ap (λ (x : Bool). keyed x k key 0 to) (sym e)
+        ∙ links (λ (j : CallKind). keyed (isKey key) j key 0 to ≡ callAnswer (callForm j key 0 to)) (sym (answered (link key to) refl (hk, h))) (sym (answered (unlink key to) refl (hk, h))) k is
 
-    pub link-answer : isKey key ≡ true → callMade k key 0 ts ≡ callAnswer (callForm k key 0 ts)
+    pub link-answer : isKey key ≡ true → callMade k key 0 to ≡ callAnswer (callForm k key 0 to)
     link-answer = link-by true
 
-    pub link-refused : isKey key ≡ false → refusedCall 11 ≡ callAnswer (callForm k key 0 ts)
+    pub link-refused : isKey key ≡ false → refusedCall 11 ≡ callAnswer (callForm k key 0 to)
     link-refused = link-by false
 
 module _ (k : CallKind) (is : Starts k) where
   pub start-after : {l : List ℕ} {r : CallLine} → OneField (ascii " start=") l r k
   start-after {l} {r} = starts (OneField (ascii " start=") l r) (λ h. h) (λ h. h) (λ h. h) k is
 
-  pub start-answer : (start : ℕ) (ts : List ℕ) → start < modulus → Below ts → callMade k start 0 ts ≡ callAnswer (callForm k start 0 ts)
-  start-answer start ts hs h =
-      starts (λ (j : CallKind). callMade j start 0 ts ≡ callAnswer (callForm j start 0 ts))
-      (sym (answered (sum start ts) refl (hs, h))) (sym (answered (top start ts) refl (hs, h))) (sym (answered (pick start ts) refl (hs, h))) k is
+  pub start-answer : (start : ℕ) (to : To) → start < modulus → Below (listedIn to) → callMade k start 0 to ≡ callAnswer (callForm k start 0 to)
+  start-answer start to hs h =
+      starts (λ (j : CallKind). callMade j start 0 to ≡ callAnswer (callForm j start 0 to))
+      (sym (answered (sum start to) refl (hs, h))) (sym (answered (top start to) refl (hs, h))) (sym (answered (pick start to) refl (hs, h))) k is
 
 -- ---- the answer by the targets
 
-module _ (k : CallKind) (x y : ℕ) (list : KeyList) (key : List ℕ) (ts : List ℕ) (p : KeysOf ts list) (h : KeysStored ts key) where
-  by-keys : (a b : Bool) {r : CallLine} → list .keys ≡ a → (a ≡ true → leb (length ts) 8 && rising ts ≡ b)
-      → r ≡ cond a (cond b (callLine k x y ts) (refusedCall 12)) (refusedCall 11) → r ≡ callMade k x y ts
-  by-keys true b e f q = q ∙ sym (rw (← p .keys, e, f refl))
-  by-keys false b e f q = q ∙ sym (rw (← p .keys, e))
+-- the targets as `unmarked` makes them
+as-packed : (to : To) → record { all = isWhole to; mark = false; keys = packed (listedIn to) } ≡ packedTargets (untouched to)
+as-packed (named ts) = refl
+as-packed whole = refl
 
-  pub made-targets : {r : CallLine} → list .keys ≡ false → r ≡ refusedCall 11 → r ≡ callMade k x y ts
+module _ (k : CallKind) (x y : ℕ) (list : KeyList) (all : Bool) (key : List ℕ) (to : To) (p : ToRead to list all key) where
+  abbrev ts : List ℕ
+  ts = listedIn to
+
+  by-keys : (a b : Bool) {r : CallLine} → list .keys ≡ a → (a ≡ true → leb (length ts) 8 && rising ts ≡ b)
+      → r ≡ cond a (cond b (callLine k x y to) (refusedCall 12)) (refusedCall 11) → r ≡ callMade k x y to
+  by-keys true b e f q = q ∙ sym (rw (← p .known .keys, e, f refl))
+  by-keys false b e f q = q ∙ sym (rw (← p .known .keys, e))
+
+  pub made-targets : {r : CallLine} → list .keys ≡ false → r ≡ refusedCall 11 → r ≡ callMade k x y to
   made-targets e = by-keys false false e (λ z. absurd (false≢true z))
 
   module _ (keys : list .keys ≡ true) where
-    unsorted : {r : CallLine} → leb (length ts) 8 && rising ts ≡ false → r ≡ refusedCall 12 → r ≡ callMade k x y ts
+    unsorted : {r : CallLine} → leb (length ts) 8 && rising ts ≡ false → r ≡ refusedCall 12 → r ≡ callMade k x y to
     unsorted e = by-keys true false keys (λ z. e)
 
-    pub made-many : {r : CallLine} → 8 < list .count → r ≡ refusedCall 12 → r ≡ callMade k x y ts
-    made-many e = unsorted (rw (lt-leb (length ts) 8 (omega (arith, p .count))))
+    pub made-many : {r : CallLine} → 8 < list .count → r ≡ refusedCall 12 → r ≡ callMade k x y to
+    made-many e = unsorted (rw (lt-leb (length ts) 8 (omega (arith, p .known .count))))
 
     rising-is : rising ts ≡ list .rising
-    rising-is = rising-keys ts (sym (p .keys) ∙ keys) ∙ sym (p .rising)
+    rising-is = rising-keys ts (sym (p .known .keys) ∙ keys) ∙ sym (p .known .rising)
 
     module _ (few : list .count ≤ 8) where
       short : leb (length ts) 8 ≡ true
-      short = le-leb (length ts) 8 (omega (arith, p .count))
+      short = le-leb (length ts) 8 (omega (arith, p .known .count))
 
-      pub made-unsorted : {r : CallLine} → list .rising ≡ false → r ≡ refusedCall 12 → r ≡ callMade k x y ts
+      pub made-unsorted : {r : CallLine} → list .rising ≡ false → r ≡ refusedCall 12 → r ≡ callMade k x y to
       made-unsorted e = unsorted (rw (short, rising-is, e))
 
-      pub made-call : list .rising ≡ true → record { answer = Is k x y; to = record { count = list .count; key = key } } ≡ callMade k x y ts
+      held : record { all = all; mark = false; keys = record { count = list .count; key = key } } ≡ packedTargets (untouched to)
       unfolding packed
-      made-call e =
-          let n : list .count ≡ length ts = omega (arith, p .count) in
-          let l = h (sym (p .keys) ∙ keys) (omega arith) in
-          by-keys true true keys (λ z. rw (short, rising-is, e)) (λ i. record { answer = Is k x y; to = record { count = n i; key = l i } })
+      held =
+          let n : list .count ≡ length ts = omega (arith, p .known .count) in
+          let l = p .stored (sym (p .known .keys) ∙ keys) (omega arith) in
+          (λ i. record { all = p .wholly i; mark = false; keys = record { count = n i; key = l i } }) ∙ as-packed to
+
+      pub made-call : {t : Remaining} → list .rising ≡ true → t ≡ record { all = all; mark = false; keys = record { count = list .count; key = key } } → record { answer = Is k x y; to = t } ≡ callMade k x y to
+      made-call e u =
+          let q = u ∙ held in
+          by-keys true true keys (λ z. rw (short, rising-is, e)) (λ i. record { answer = Is k x y; to = q i })

@@ -6,20 +6,21 @@ use mathlib.Core.Bool.{Bool, true, false}
 use mathlib.Core.List.{List, [], _∷_, _++_, append-nil}
 use native.Mathlib.Omega.{arith}
 use lib.ListN.{length, drop, length-drop, drop-of-length-le}
+use Rattle.graph.specs.Targets.{To, named, whole, listedIn}
 use Rattle.graph.specs.Words.{modulus}
-use Rattle.text.specs.Text.{upTo, decimal, commas, ascii}
+use Rattle.text.specs.Text.{upTo, decimal, ascii}
 use Rattle.text.specs.Inner.PartsRead.{LiteralAt, DecimalOf, Gap}
 use Rattle.text.specs.declared.cut.Place.the-variants.{At, Missing}
 use Rattle.text.specs.declared.number.Number.the-variants.{Is as NumberIs, Not as NumberNot}
 use Rattle.text.proofs.Splits.{Part, part, part-is, cancel, decimal-clean, same-number}
-use Rattle.text.proofs.CommaLists.{commas-clean}
-use Rattle.lines.specs.Forms.{targets}
+use Rattle.lines.specs.Forms.{toText, targets}
 use Rattle.lines.specs.Inner.Answers.{ReadAs, form, other}
-use Rattle.lines.specs.Inner.LineParts.{Below, KeysOf, KeysStored, TargetsOf, FieldOf, tailText, fieldsText, Spare, Values, ValuesOf}
+use Rattle.lines.specs.Inner.LineParts.{Below, ToRead, KeysRead, TargetsOf, FieldOf, tailText, fieldsText, Spare, Values, ValuesOf}
 use Rattle.lines.specs.declared.fields.Field.the-variants.{Is, Not}
 use Rattle.lines.specs.declared.keylist.KeyList.{KeyList}
 use Rattle.lines.specs.declared.keylist.Targets.{Targets}
 use Rattle.lines.specs.declared.keylist.Targets.the-variants.{Are, Not as AreNot}
+use Rattle.lines.proofs.ToTexts.{to-clean}
 
 -- ---- a number after a literal
 
@@ -48,23 +49,31 @@ module _ (s : List ℕ) (at : ℕ) (literal : List ℕ) where
 -- ---- the targets
 
 module _ (s : List ℕ) (at : ℕ) where
-  pub targets-missing : LiteralAt s at (ascii " to=") Missing → (ts : List ℕ) → Below ts → drop at s ≡ targets ts → ⊥
-  targets-missing p ts b eq = p (commas ts) eq
+  pub targets-missing : LiteralAt s at (ascii " to=") Missing → (to : To) → Below (listedIn to) → drop at s ≡ targets to → ⊥
+  targets-missing p to b eq = p (toText to) eq
 
   module _ (n : ℕ) (p : LiteralAt s at (ascii " to=") (At n)) where
-    -- a list of numbers holds no space
-    whole : (ts : List ℕ) → drop at s ≡ targets ts → upTo 32 (drop n s) ≡ commas ts
-    whole ts e =
-        part-is 32 (drop n s) (commas ts) [] (cancel (ascii " to=") (drop n s) (commas ts) (sym (p .1) ∙ e) ∙ sym (append-nil (commas ts))) (commas-clean 32 (omega arith) ts) tt
+    -- the targets are the whole value: they hold no space
+    value-is : (to : To) → drop at s ≡ targets to → upTo 32 (drop n s) ≡ toText to
+    value-is to e = part-is 32 (drop n s) (toText to) [] (cancel (ascii " to=") (drop n s) (toText to) (sym (p .1) ∙ e) ∙ sym (append-nil (toText to))) (to-clean to) tt
 
-    pub targets-parted : n + length (upTo 32 (drop n s)) < length s → (ts : List ℕ) → Below ts → drop at s ≡ targets ts → ⊥
-    targets-parted h ts b eq = omega (arith, p .0, length-drop n s, ap length (whole ts eq), ap length (cancel (ascii " to=") (drop n s) (commas ts) (sym (p .1) ∙ eq)))
+    pub targets-parted : n + length (upTo 32 (drop n s)) < length s → (to : To) → Below (listedIn to) → drop at s ≡ targets to → ⊥
+    targets-parted h to b eq = omega (arith, p .0, length-drop n s, ap length (value-is to eq), ap length (cancel (ascii " to=") (drop n s) (toText to) (sym (p .1) ∙ eq)))
 
-    pub targets-list : length s ≤ n + length (upTo 32 (drop n s)) → (answer : Targets) (key : List ℕ) → TargetsOf commas (upTo 32 (drop n s)) answer key → TargetsOf targets (drop at s) answer key
-    targets-list h (Are k) key t =
-        let all : drop n s ≡ upTo 32 (drop n s) = part 32 s n (p .0) .text ∙ ap (λ (r : List ℕ). upTo 32 (drop n s) ++ r) (drop-of-length-le s h) ∙ append-nil (upTo 32 (drop n s)) in
-        (t .0, t .1, p .1 ∙ ap (λ (r : List ℕ). ascii " to=" ++ r) (all ∙ t .2), t .3, t .4)
-    targets-list h AreNot key never = λ ts b eq. never ts b (whole ts eq)
+    module _ (end : length s ≤ n + length (upTo 32 (drop n s))) where
+      pub to-end : (to : To) → upTo 32 (drop n s) ≡ toText to → drop at s ≡ targets to
+      to-end to e =
+          let all : drop n s ≡ upTo 32 (drop n s) = part 32 s n (p .0) .text ∙ ap (λ (r : List ℕ). upTo 32 (drop n s) ++ r) (drop-of-length-le s end) ∙ append-nil (upTo 32 (drop n s)) in
+          p .1 ∙ ap (λ (r : List ℕ). ascii " to=" ++ r) (all ∙ e)
+
+      -- where the value is not `all`, it is read as a list
+      pub targets-list : (upTo 32 (drop n s) ≡ ascii "all" → ⊥) → (answer : Targets) (all : Bool) (key : List ℕ) → KeysRead (upTo 32 (drop n s)) answer all key → TargetsOf (drop at s) answer all key
+      targets-list ne (Are k) all key t = (named (t .0), to-end (named (t .0)) (t .1), t .2)
+      targets-list ne AreNot all key never = neither
+        where
+          neither : (to : To) → Below (listedIn to) → drop at s ≡ targets to → ⊥
+          neither (named ts) b eq = never ts b (value-is (named ts) eq)
+          neither whole b eq = ne (value-is whole eq)
 
 -- ---- numbers one after another
 
@@ -74,15 +83,15 @@ Literals [] = Unit {0}
 Literals ([] ∷ others) = ⊥
 Literals ((c ∷ cs) ∷ others) = (c ≡ 32) × Literals others
 
-tail-gap : (listed : Bool) (ts : List ℕ) → Gap 32 (tailText listed ts)
+tail-gap : (listed : Bool) (to : To) → Gap 32 (tailText listed to)
 unfolding ascii
-tail-gap true ts = refl
-tail-gap false ts = tt
+tail-gap true to = refl
+tail-gap false to = tt
 
-pub fields-gap : (literals : List (List ℕ)) → Literals literals → (listed : Bool) (x y z : ℕ) (ts : List ℕ) → Gap 32 (fieldsText literals listed x y z ts)
-fields-gap [] h listed x y z ts = tail-gap listed ts
-fields-gap ([] ∷ more) h listed x y z ts = absurd h
-fields-gap ((c ∷ cs) ∷ more) h listed x y z ts = h .0
+pub fields-gap : (literals : List (List ℕ)) → Literals literals → (listed : Bool) (x y z : ℕ) (to : To) → Gap 32 (fieldsText literals listed x y z to)
+fields-gap [] h listed x y z to = tail-gap listed to
+fields-gap ([] ∷ more) h listed x y z to = absurd h
+fields-gap ((c ∷ cs) ∷ more) h listed x y z to = h .0
 
 pub literals-after : (a : List ℕ) (others : List (List ℕ)) → Literals (a ∷ others) → Literals others
 literals-after [] others h = absurd h
@@ -94,16 +103,16 @@ literals-after (c ∷ cs) others h = h .1
 abbrev before : ℕ → Values → Values
 before x v = record { x = x; y = v .x; z = v .y; to = v .to }
 
-abbrev only : List ℕ → Values
-only ts = record { x = 0; y = 0; z = 0; to = ts }
+abbrev only : To → Values
+only to = record { x = 0; y = 0; z = 0; to = to }
 
 module _ {R : Type 0} {ten r : R} {answer : Values → R} (s : List ℕ) (at : ℕ) where
   -- the line's end
   pub end-not : at < length s → r ≡ ten → ReadAs (ValuesOf [] false (drop at s)) answer ten r
   end-not h = other (λ v i. omega (arith, ap length (i .same), length-drop at s))
 
-  pub end-is : length s ≤ at → r ≡ answer (only []) → ReadAs (ValuesOf [] false (drop at s)) answer ten r
-  end-is h = form (only []) (record { small = (omega arith, omega arith, omega arith, tt); spare = (refl, refl, refl); tailed = refl; same = drop-of-length-le s h })
+  pub end-is : length s ≤ at → r ≡ answer (only (named [])) → ReadAs (ValuesOf [] false (drop at s)) answer ten r
+  end-is h = form (only (named [])) (record { small = (omega arith, omega arith, omega arith, tt); spare = (refl, refl, refl); tailed = refl; same = drop-of-length-le s h })
 
   -- a field that is not read
   pub field-not : {listed : Bool} (a : List ℕ) (more : List (List ℕ)) → Literals more → FieldOf s at a Not → r ≡ ten → ReadAs (ValuesOf (a ∷ more) listed (drop at s)) answer ten r
@@ -156,15 +165,15 @@ module _ {R : Type 0} {ten r : R} {answer : Values → R} {s : List ℕ} {at x n
   pub last-not : n < length s → r ≡ ten → ReadAs (ValuesOf (a ∷ []) false (drop at s)) answer ten r
   last-not h e = number-then [] tt (omega arith) (end-not s n h e)
 
-  pub last-is : length s ≤ n → r ≡ answer (before x (only [])) → ReadAs (ValuesOf (a ∷ []) false (drop at s)) answer ten r
+  pub last-is : length s ≤ n → r ≡ answer (before x (only (named []))) → ReadAs (ValuesOf (a ∷ []) false (drop at s)) answer ten r
   last-is h e = number-then [] tt (omega arith) (end-is s n h e)
 
   -- the last number, and the targets
-  pub targets-not : ((ts : List ℕ) → Below ts → drop n s ≡ targets ts → ⊥) → r ≡ ten → ReadAs (ValuesOf (a ∷ []) true (drop at s)) answer ten r
+  pub targets-not : ((to : To) → Below (listedIn to) → drop n s ≡ targets to → ⊥) → r ≡ ten → ReadAs (ValuesOf (a ∷ []) true (drop at s)) answer ten r
   targets-not never e = number-then [] tt (omega arith) (other (λ v i. never (v .to) (i .small .3) (i .same)) e)
 
-  pub targets-are : {k : KeyList} {key : List ℕ} → TargetsOf targets (drop n s) (Are k) key → ((ts : List ℕ) → Below ts → KeysOf ts k → KeysStored ts key → r ≡ answer (before x (only ts)))
+  pub targets-are : {k : KeyList} {all : Bool} {key : List ℕ} → TargetsOf (drop n s) (Are k) all key → ((to : To) → ToRead to k all key → r ≡ answer (before x (only to)))
       → ReadAs (ValuesOf (a ∷ []) true (drop at s)) answer ten r
   targets-are t made =
       number-then [] tt (omega arith)
-      (form (only (t .0)) (record { small = (omega arith, omega arith, omega arith, t .1); spare = (refl, refl, refl); tailed = tt; same = t .2 }) (made (t .0) (t .1) (t .3) (t .4)))
+      (form (only (t .0)) (record { small = (omega arith, omega arith, omega arith, t .2 .below); spare = (refl, refl, refl); tailed = tt; same = t .1 }) (made (t .0) (t .2)))

@@ -7,6 +7,7 @@ use mathlib.Core.List.{List, [], _∷_, _++_}
 use native.Mathlib.Omega.{arith}
 use lib.ListN.{length}
 use Rattle.graph.specs.Refusals.{Answer, refused, done}
+use Rattle.graph.specs.Targets.{named}
 use Rattle.text.specs.Text.{ascii, decimal}
 use Rattle.text.proofs.Splits.{cancel, same-number}
 use Rattle.lines.specs.Forms.{claimText, claimNumbers, IsClaim}
@@ -25,6 +26,6 @@ module _ (line : List ℕ) (r : Answer ℕ) where
   pub claim-field : length line < 256 → ReadAs (ValuesOf (ascii "claim=" ∷ []) false line) (λ v. done (v .x)) (refused 10) r → ReadAs (IsClaim line) done (refused 10) r
   claim-field short (form v i e) = form (v .x) (record { short = short; fits = below-words (claimNumbers (v .x)) (i .small .0, tt); same = i .same }) e
   claim-field short (other never e) =
-      other (λ l i. never (record { x = l; y = 0; z = 0; to = [] })
+      other (λ l i. never (record { x = l; y = 0; z = 0; to = named [] })
       (record { small = (words-below (claimNumbers l) (i .fits) .0, omega arith, omega arith, tt); spare = (refl, refl, refl); tailed = refl; same = i .same }))
       e

@@ -13,9 +13,11 @@ use Rattle.text.specs.Text.{upTo, decimal, ascii, further, commas}
 use Rattle.text.specs.Inner.PartsRead.{Gap}
 use Rattle.text.proofs.Decimals.{Figures, valueFrom, decimal-is}
 use Rattle.text.proofs.Splits.{part-is, decimal-clean}
+use Rattle.graph.specs.Targets.{To, named, whole}
 use Rattle.graph.specs.Words.{areWords}
-use Rattle.lines.specs.Forms.{claimText, claimNumbers, TextOf, IsCall, IsStep, IsClaim}
+use Rattle.lines.specs.Forms.{toText, claimText, claimNumbers, TextOf, IsCall, IsStep, IsClaim}
 use Rattle.lines.specs.Inner.LineParts.{tailText, Tailed, fieldsText, Spare}
+use Rattle.lines.proofs.ToTexts.{first-below}
 use Rattle.lines.proofs.Chains.{Literals, fields-gap, literals-after}
 use Rattle.lines.proofs.Words.{Grammar, Parts, Unused, fieldsIn, textIn, word-in, Forms, text-of}
 use Rattle.lines.proofs.Calls.{call-forms}
@@ -87,16 +89,16 @@ record Back (literals : List (List ℕ)) (l : List ℕ) (x y z : ℕ) (tail : Li
   third : getD (numbersIn literals l) 2 0 ≡ z
   rest : tailIn literals l ≡ tail
 
-fields-back : (literals : List (List ℕ)) → Literals literals → (listed : Bool) (x y z : ℕ) (ts : List ℕ) → Spare literals x y z
-    → Back literals (fieldsText literals listed x y z ts) x y z (tailText listed ts)
-fields-back [] g listed x y z ts s = record { first = sym (s .0); second = sym (s .1); third = sym (s .2); rest = refl }
-fields-back (a ∷ others) g listed x y z ts s =
-    let more : List ℕ = fieldsText others listed y z 0 ts in
+fields-back : (literals : List (List ℕ)) → Literals literals → (listed : Bool) (x y z : ℕ) (to : To) → Spare literals x y z
+    → Back literals (fieldsText literals listed x y z to) x y z (tailText listed to)
+fields-back [] g listed x y z to s = record { first = sym (s .0); second = sym (s .1); third = sym (s .2); rest = refl }
+fields-back (a ∷ others) g listed x y z to s =
+    let more : List ℕ = fieldsText others listed y z 0 to in
     let gaps : Literals others = literals-after a others g in
-    let gap : Gap 32 more = fields-gap others gaps listed y z 0 ts in
+    let gap : Gap 32 more = fields-gap others gaps listed y z 0 to in
     let e : drop (length a) (a ++ (decimal x ++ more)) ≡ decimal x ++ more = drop-append-seam a (decimal x ++ more) in
     let p : past (drop (length a) (a ++ (decimal x ++ more))) ≡ more = ap past e ∙ rest-back x more gap in
-    let b = fields-back others gaps listed y z 0 ts s in
+    let b = fields-back others gaps listed y z 0 to s in
     record {
       first = ap (λ (l : List ℕ). valueFrom 0 (upTo 32 l)) e ∙ number-back x more gap;
       second = ap (λ (l : List ℕ). getD (numbersIn others l) 0 0) p ∙ b .first;
@@ -143,13 +145,24 @@ list-back (t ∷ ts) =
     ∙ ap (λ (k : ℕ). listFrom k (further ts)) (decimal-is t .worth)
     ∙ further-back t ts
 
-abbrev targetsIn : Bool → List ℕ → List ℕ
-targetsIn true l = listIn (drop (length (ascii " to=")) l)
-targetsIn false l = []
+-- ---- the targets
 
-targets-back : (listed : Bool) (ts : List ℕ) → Tailed listed ts → targetsIn listed (tailText listed ts) ≡ ts
-targets-back true ts t = ap listIn (drop-append-seam (ascii " to=") (commas ts)) ∙ list-back ts
-targets-back false ts t = sym t
+-- a list begins with no letter
+abbrev toIn : List ℕ → To
+toIn l = cond (eqb (getD l 0 0) 97) whole (named (listIn l))
+
+to-back : (to : To) → toIn (toText to) ≡ to
+unfolding ascii
+to-back (named ts) = rw (ne-eqb (getD (commas ts) 0 0) 97 (λ e. omega (arith, first-below ts))) (ap named (list-back ts))
+to-back whole = refl
+
+abbrev targetsIn : Bool → List ℕ → To
+targetsIn true l = toIn (drop (length (ascii " to=")) l)
+targetsIn false l = named []
+
+targets-back : (listed : Bool) (to : To) → Tailed listed to → targetsIn listed (tailText listed to) ≡ to
+targets-back true to t = ap toIn (drop-append-seam (ascii " to=") (toText to)) ∙ to-back to
+targets-back false to t = sym t
 
 -- ---- the lines of a grammar
 

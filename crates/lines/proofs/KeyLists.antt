@@ -2,7 +2,7 @@
 -- Assumes nothing.
 use Prim.Native.Nat.{ℕ, suc, _+_, _<_, _≤_, min}
 use mathlib.Core.Path.{_≡_, refl, sym, ap, _∙_}
-use mathlib.Core.Bool.{Bool, true, _&&_, and-true, and-assoc}
+use mathlib.Core.Bool.{Bool, true, false, _&&_, and-true, and-assoc}
 use mathlib.Core.List.{List, [], _∷_, _++_, append-nil}
 use native.Mathlib.Omega.{arith}
 use native.Mathlib.Numerals.{add-one}
@@ -21,7 +21,7 @@ use Rattle.graph.specs.Packed.{packed}
 use Rattle.graph.specs.declared.keys.Keys.{Keys}
 use Rattle.graph.proofs.KeyLaws.{key-high, areKeys-snoc, packed-more}
 use Rattle.graph.proofs.Answers.{and-left, and-right}
-use Rattle.lines.specs.Inner.LineParts.{Below, lastOr, KeysOf, KeysStored, TargetsOf}
+use Rattle.lines.specs.Inner.LineParts.{Below, lastOr, KeysOf, KeysStored, KeysRead}
 use Rattle.lines.specs.declared.keylist.KeyList.{KeyList}
 use Rattle.lines.specs.declared.keylist.Targets.the-variants.{Are}
 
@@ -110,13 +110,11 @@ module _ (s : List ℕ) (k : KeyList) (key : List ℕ) (at : ℕ) (g : Listing s
     number : drop at s ≡ decimal v ++ drop (at + length (upTo 44 (drop at s))) s
     number = here .text ∙ ap (λ (r : List ℕ). r ++ drop (at + length (upTo 44 (drop at s))) s) q
 
-    pub list-ends : length s ≤ at + length (upTo 44 (drop at s)) → TargetsOf commas s (Are k′) key′
+    pub list-ends : length s ≤ at + length (upTo 44 (drop at s)) → KeysRead s (Are k′) false key′
     list-ends end = (
       g .read ++ v ∷ [],
-      below-snoc (g .read) v (g .below) small,
       g .text ∙ ap (λ (r : List ℕ). passed (g .read) ++ r) (number ∙ ap (λ (r : List ℕ). decimal v ++ r) (drop-of-length-le s end) ∙ append-nil (decimal v)) ∙ passed-last (g .read) v,
-      p,
-      h,
+      record { below = below-snoc (g .read) v (g .below) small; known = p; stored = h; wholly = refl },
     )
 
     pub list-again : at + length (upTo 44 (drop at s)) < length s → Listing s k′ key′ (at + length (upTo 44 (drop at s)) + 1)

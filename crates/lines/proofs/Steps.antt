@@ -10,6 +10,7 @@ use lib.ListN.{length, getD}
 use borrow.Author.Tests.{leb-true}
 use Rattle.graph.proofs.Answers.{and-right}
 use Rattle.graph.specs.Refusals.{Answer, refused, done}
+use Rattle.graph.specs.Targets.{To, named}
 use Rattle.graph.specs.Steps.{admit, realise, move, finish, join, split, swap, fuse}
 use Rattle.text.specs.Text.{ascii}
 use Rattle.text.proofs.Splits.{cleanTest, clean-by}
@@ -38,11 +39,11 @@ kindAt b =
 letters : List ℕ → ℕ
 letters w = getD w 0 0 + getD w 1 0
 
-pub named : List ℕ → StepKind
-named w = kindAt (letters w)
+pub kindNamed : List ℕ → StepKind
+kindNamed w = kindAt (letters w)
 
-pub step-kinds : (k : StepKind) → KindOf named k (stepWord k) (stepLiterals k)
-unfolding named kindAt letters ascii cleanTest
+pub step-kinds : (k : StepKind) → KindOf kindNamed k (stepWord k) (stepLiterals k)
+unfolding kindNamed kindAt letters ascii cleanTest
 step-kinds Admit = record { clean = clean-by 32 (stepWord Admit) refl; some = omega arith; names = refl; gaps = tt }
 step-kinds Realise = record { clean = clean-by 32 (stepWord Realise) refl; some = omega arith; names = refl; gaps = (refl, tt) }
 step-kinds Move = record { clean = clean-by 32 (stepWord Move) refl; some = omega arith; names = refl; gaps = (refl, tt) }
@@ -60,7 +61,7 @@ steps =
       word = stepWord;
       literals = stepLiterals;
       listed = λ k. false;
-      named = named;
+      named = kindNamed;
       kinds = step-kinds;
     }
 
@@ -79,23 +80,23 @@ no-step-word w a r m f j p s u d Drain = d
 
 -- ---- the forms
 
-step-made : (k : StepKind) (x y z : ℕ) (ts : List ℕ) → Made steps stepText stepNumbers (record { kind = k; x = x; y = y; z = z; to = ts }) (stepForm k x y z)
+step-made : (k : StepKind) (x y z : ℕ) (to : To) → Made steps stepText stepNumbers (record { kind = k; x = x; y = y; z = z; to = to }) (stepForm k x y z)
 unfolding steps ascii
-step-made Admit x y z ts = record { same = refl; fits = λ s. tt }
-step-made Realise x y z ts = record { same = refl; fits = λ s. (s .0, tt) }
-step-made Move x y z ts = record { same = refl; fits = λ s. (s .0, tt) }
-step-made Finish x y z ts = record { same = refl; fits = λ s. (s .0, tt) }
-step-made Join x y z ts = record { same = refl; fits = λ s. (s .0, (s .1, tt)) }
-step-made Split x y z ts = record { same = refl; fits = λ s. (s .0, (s .1, (s .2, tt))) }
-step-made Swap x y z ts = record { same = refl; fits = λ s. (s .0, (s .1, tt)) }
-step-made Fuse x y z ts = record { same = refl; fits = λ s. (s .0, (s .1, tt)) }
-step-made Drain x y z ts = record { same = refl; fits = λ s. tt }
+step-made Admit x y z to = record { same = refl; fits = λ s. tt }
+step-made Realise x y z to = record { same = refl; fits = λ s. (s .0, tt) }
+step-made Move x y z to = record { same = refl; fits = λ s. (s .0, tt) }
+step-made Finish x y z to = record { same = refl; fits = λ s. (s .0, tt) }
+step-made Join x y z to = record { same = refl; fits = λ s. (s .0, (s .1, tt)) }
+step-made Split x y z to = record { same = refl; fits = λ s. (s .0, (s .1, (s .2, tt))) }
+step-made Swap x y z to = record { same = refl; fits = λ s. (s .0, (s .1, tt)) }
+step-made Fuse x y z to = record { same = refl; fits = λ s. (s .0, (s .1, tt)) }
+step-made Drain x y z to = record { same = refl; fits = λ s. tt }
 
 abbrev pub formOf : Parts StepKind → StepForm
 formOf p = stepForm (p .kind) (p .x) (p .y) (p .z)
 
 abbrev partsAs : StepKind → ℕ → ℕ → ℕ → Parts StepKind
-partsAs k x y z = record { kind = k; x = x; y = y; z = z; to = [] }
+partsAs k x y z = record { kind = k; x = x; y = y; z = z; to = named [] }
 
 abbrev pub partsOf : StepForm → Parts StepKind
 partsOf (work admit) = partsAs Admit 0 0 0

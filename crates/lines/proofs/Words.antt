@@ -6,15 +6,16 @@ use mathlib.Core.Bool.{Bool, true, false, false≢true}
 use mathlib.Core.List.{List, [], _∷_, _++_}
 use native.Mathlib.Omega.{arith}
 use lib.ListN.{length, drop}
+use Rattle.graph.specs.Targets.{To, listedIn}
 use Rattle.graph.specs.Words.{modulus}
-use Rattle.text.specs.Text.{upTo, decimal, ascii, commas}
+use Rattle.text.specs.Text.{upTo, decimal, ascii}
 use Rattle.text.specs.Inner.PartsRead.{LiteralAt, Gap}
 use Rattle.text.specs.declared.cut.Place.the-variants.{At, Missing}
 use Rattle.text.proofs.Splits.{Clean, part, part-is, cancel, same-number}
-use Rattle.text.proofs.CommaLists.{commas-inj}
-use Rattle.lines.specs.Forms.{TextOf}
+use Rattle.lines.specs.Forms.{toText, TextOf}
 use Rattle.lines.specs.Inner.Answers.{ReadAs, form, other}
 use Rattle.lines.specs.Inner.LineParts.{Below, tailText, Tailed, fieldsText, Spare, Values, ValuesOf}
+use Rattle.lines.proofs.ToTexts.{to-inj}
 use Rattle.lines.proofs.KeyLists.{words-below, below-words}
 use Rattle.lines.proofs.Chains.{Literals, fields-gap}
 
@@ -45,14 +46,14 @@ pub record Parts (Kind : Type 0) : Type 0 where
   pub x : ℕ
   pub y : ℕ
   pub z : ℕ
-  pub to : List ℕ
+  pub to : To
 
 abbrev withKind : {K : Type 0} → K → Parts K → Parts K
 withKind k p = record { kind = k; x = p .x; y = p .y; z = p .z; to = p .to }
 
 -- its numbers are 32-bit numbers
 abbrev pub Small : {K : Type 0} → Parts K → Type 0
-Small p = (p .x < modulus) × (p .y < modulus) × (p .z < modulus) × Below (p .to)
+Small p = (p .x < modulus) × (p .y < modulus) × (p .z < modulus) × Below (listedIn (p .to))
 
 -- what its kind has no use for is zero, or empty
 abbrev pub Unused : {K : Type 0} → Grammar K → Parts K → Type 0
@@ -100,20 +101,20 @@ module _ {K : Type 0} (G : Grammar K) where
 
 -- ---- the text determines the kind, the numbers and the targets
 
-tail-inj : (listed : Bool) (ts us : List ℕ) → Tailed listed ts → Tailed listed us → tailText listed ts ≡ tailText listed us → ts ≡ us
-tail-inj true ts us p q e = commas-inj ts us (cancel (ascii " to=") (commas ts) (commas us) e)
-tail-inj false ts us p q e = p ∙ sym q
+tail-inj : (listed : Bool) (to to′ : To) → Tailed listed to → Tailed listed to′ → tailText listed to ≡ tailText listed to′ → to ≡ to′
+tail-inj true to to′ p q e = to-inj to to′ (cancel (ascii " to=") (toText to) (toText to′) e)
+tail-inj false to to′ p q e = p ∙ sym q
 
-fields-inj : (literals : List (List ℕ)) → Literals literals → (listed : Bool) (x y z x′ y′ z′ : ℕ) (ts us : List ℕ)
-    → Spare literals x y z → Spare literals x′ y′ z′ → Tailed listed ts → Tailed listed us
-    → fieldsText literals listed x y z ts ≡ fieldsText literals listed x′ y′ z′ us → (x ≡ x′) × (y ≡ y′) × (z ≡ z′) × (ts ≡ us)
-fields-inj [] g listed x y z x′ y′ z′ ts us s s′ t t′ e = (s .0 ∙ sym (s′ .0), s .1 ∙ sym (s′ .1), s .2 ∙ sym (s′ .2), tail-inj listed ts us t t′ e)
-fields-inj ([] ∷ others) g listed x y z x′ y′ z′ ts us s s′ t t′ e = absurd g
-fields-inj ((c ∷ cs) ∷ others) g listed x y z x′ y′ z′ ts us s s′ t t′ e =
-    let a = fieldsText others listed y z 0 ts in
-    let b = fieldsText others listed y′ z′ 0 us in
-    let p = same-number 32 (omega arith) x x′ a b (cancel (c ∷ cs) (decimal x ++ a) (decimal x′ ++ b) e) (fields-gap others (g .1) listed y z 0 ts) (fields-gap others (g .1) listed y′ z′ 0 us) in
-    let q = fields-inj others (g .1) listed y z 0 y′ z′ 0 ts us s s′ t t′ (p .1) in
+fields-inj : (literals : List (List ℕ)) → Literals literals → (listed : Bool) (x y z x′ y′ z′ : ℕ) (to to′ : To)
+    → Spare literals x y z → Spare literals x′ y′ z′ → Tailed listed to → Tailed listed to′
+    → fieldsText literals listed x y z to ≡ fieldsText literals listed x′ y′ z′ to′ → (x ≡ x′) × (y ≡ y′) × (z ≡ z′) × (to ≡ to′)
+fields-inj [] g listed x y z x′ y′ z′ to to′ s s′ t t′ e = (s .0 ∙ sym (s′ .0), s .1 ∙ sym (s′ .1), s .2 ∙ sym (s′ .2), tail-inj listed to to′ t t′ e)
+fields-inj ([] ∷ others) g listed x y z x′ y′ z′ to to′ s s′ t t′ e = absurd g
+fields-inj ((c ∷ cs) ∷ others) g listed x y z x′ y′ z′ to to′ s s′ t t′ e =
+    let a = fieldsText others listed y z 0 to in
+    let b = fieldsText others listed y′ z′ 0 to′ in
+    let p = same-number 32 (omega arith) x x′ a b (cancel (c ∷ cs) (decimal x ++ a) (decimal x′ ++ b) e) (fields-gap others (g .1) listed y z 0 to) (fields-gap others (g .1) listed y′ z′ 0 to′) in
+    let q = fields-inj others (g .1) listed y z 0 y′ z′ 0 to to′ s s′ t t′ (p .1) in
     (p .0, q .0, q .1, q .3)
 
 module _ {K : Type 0} (G : Grammar K) where

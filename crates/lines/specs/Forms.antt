@@ -5,6 +5,7 @@ use Prim.Native.Nat.{ℕ, _<_}
 use Prim.Native.String.{String}
 use mathlib.Core.List.{List, [], _∷_, _++_}
 use Rattle.graph.specs.Calls.{Call, add, map, link, unlink, sum, top, pick, near, unmap, numbersOf, operandsOf, targetsOf}
+use Rattle.graph.specs.Targets.{To, named, whole}
 use Rattle.graph.specs.Steps.{Step, admit, realise, move, finish, join, split, swap, fuse}
 use Rattle.text.specs.Text.{ascii, decimal, commas, upTo}
 use mathlib.Core.Bool.{true, not}
@@ -18,8 +19,13 @@ use Rattle.graph.specs.Refusals.{Test, on}
 abbrev pub field : String → ℕ → List ℕ → List ℕ
 field literal v rest = ascii literal ++ (decimal v ++ rest)
 
-abbrev pub targets : List ℕ → List ℕ
-targets to = ascii " to=" ++ commas to
+-- "`to=all` is accepted for every call that has targets" (S-3): exactly `all`, in the place of the list
+abbrev pub toText : To → List ℕ
+toText (named ts) = commas ts
+toText whole = ascii "all"
+
+abbrev pub targets : To → List ℕ
+targets to = ascii " to=" ++ toText to
 
 -- ---- calls
 

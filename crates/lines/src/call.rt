@@ -9,14 +9,16 @@ use crate::keylist::Targets;
 use crate::keylist::is_key;
 use graph::affine::is_odd;
 use graph::keys::Keys;
+use graph::remaining::Remaining;
 use text::cut::Place;
 use text::cut::past;
 ghost use mathlib.Core.Path.{_≡_};
-ghost use mathlib.Core.List.{List};
-ghost use Prim.Native.Nat.{ℕ, _≤_};
+ghost use mathlib.Core.Bool.{false};
+ghost use Prim.Native.Nat.{_≤_};
 ghost use lib.ListN.{length, drop};
+ghost use Rattle.graph.specs.Targets.{To};
 ghost use Rattle.lines.specs.Inner.Answers.{CallRead, refusedCall};
-ghost use Rattle.lines.specs.Inner.LineParts.{KeysOf, KeysStored, CallWordOf, callMade, Links, Starts, unmapMade, CallAfter};
+ghost use Rattle.lines.specs.Inner.LineParts.{ToRead, CallWordOf, callMade, Links, Starts, unmapMade, CallAfter};
 ghost use Rattle.lines.specs.declared.call.CallKind.the-variants.{Add, Map, Near, Unmap};
 
 pub enum CallKind {
@@ -41,7 +43,18 @@ pub enum CallAnswer {
 // they are empty.
 pub struct CallLine {
     pub answer: CallAnswer,
-    pub to: Keys,
+    pub to: Remaining,
+}
+
+// The targets of a call just read: it has acted nowhere.
+fn unmarked(all: bool, keys: Keys) -> Remaining
+    ensures { λ r. ⌜ r ≡ record { all = all; mark = false; keys = keys } ⌝ }
+{
+    Remaining {
+        all: all,
+        mark: false,
+        keys: keys,
+    }
 }
 
 fn refused_call(refusal: u32) -> CallLine
@@ -49,7 +62,7 @@ fn refused_call(refusal: u32) -> CallLine
 {
     CallLine {
         answer: CallAnswer::Refused(refusal),
-        to: Keys::none(),
+        to: unmarked(false, Keys::none()),
     }
 }
 
@@ -93,8 +106,8 @@ fn call_word(word: &[u8]) -> CallWord
 }
 
 // The answer to a call that came apart, whose key is one: 11 for a target that is none, then 12, else the call.
-fn call_made(kind: CallKind, x: u32, y: u32, list: KeyList, key: [u8; 8]) -> CallLine
-    ensures { λ r. ⌜ ((ts : List ℕ) → KeysOf ts list → KeysStored ts key → r ≡ callMade kind x y ts) ⌝ }
+fn call_made(kind: CallKind, x: u32, y: u32, list: KeyList, all: bool, key: [u8; 8]) -> CallLine
+    ensures { λ r. ⌜ ((to : To) → ToRead to list all key → r ≡ callMade kind x y to) ⌝ }
 {
     if !list.keys {
         return refused_call(11);
@@ -105,12 +118,13 @@ fn call_made(kind: CallKind, x: u32, y: u32, list: KeyList, key: [u8; 8]) -> Cal
     if !list.rising {
         return refused_call(12);
     }
+    let keys = Keys {
+        count: list.count,
+        key: key,
+    };
     CallLine {
         answer: CallAnswer::Is(kind, x, y),
-        to: Keys {
-            count: list.count,
-            key: key,
-        },
+        to: unmarked(all, keys),
     }
 }
 
@@ -127,7 +141,7 @@ fn add_call(line: &[u8], at: usize) -> CallLine
     }
     CallLine {
         answer: CallAnswer::Is(CallKind::Add, value, 0),
-        to: Keys::none(),
+        to: unmarked(false, Keys::none()),
     }
 }
 
@@ -148,7 +162,7 @@ fn map_call(line: &[u8], at: usize) -> CallLine
         return refused_call(10);
     };
     let keys = to.key;
-    call_made(CallKind::Map, a, b, list, keys)
+    call_made(CallKind::Map, a, b, list, to.all, keys)
 }
 
 // ` key=` and the targets: link and unlink.
@@ -168,7 +182,7 @@ fn link_call(kind: CallKind, line: &[u8], at: usize) -> CallLine
         return refused_call(11);
     }
     let keys = to.key;
-    call_made(kind, key, 0, list, keys)
+    call_made(kind, key, 0, list, to.all, keys)
 }
 
 // ` start=` and the targets: sum, top and pick.
@@ -185,7 +199,7 @@ fn start_call(kind: CallKind, line: &[u8], at: usize) -> CallLine
         return refused_call(10);
     };
     let keys = to.key;
-    call_made(kind, start, 0, list, keys)
+    call_made(kind, start, 0, list, to.all, keys)
 }
 
 // ` key=`, ` start=` and the targets.
@@ -208,11 +222,11 @@ fn near_call(line: &[u8], at: usize) -> CallLine
         return refused_call(11);
     }
     let keys = to.key;
-    call_made(CallKind::Near, key, start, list, keys)
+    call_made(CallKind::Near, key, start, list, to.all, keys)
 }
 
 // The unmap of a map that was read and not refused: 40 for an even a, else the call.
-fn unmap_made(a: u32, b: u32, to: Keys) -> CallLine
+fn unmap_made(a: u32, b: u32, to: Remaining) -> CallLine
     ensures { λ r. ⌜ r ≡ unmapMade a b to ⌝ }
 {
     if !is_odd(a) {

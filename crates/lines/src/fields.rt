@@ -1,4 +1,6 @@
 // The fields that follow a line's first word: numbers, and the targets at the end.
+use crate::keylist::KeyList;
+use crate::keylist::Targets;
 use crate::keylist::TargetsRead;
 use crate::keylist::no_targets;
 use crate::keylist::read_keys;
@@ -12,7 +14,6 @@ ghost use Prim.Native.Nat.{_≤_};
 ghost use lib.Dec.{ltb};
 ghost use lib.ListN.{length, drop};
 ghost use Rattle.text.specs.Text.{upTo};
-ghost use Rattle.lines.specs.Forms.{targets};
 ghost use Rattle.lines.specs.Inner.LineParts.{FieldOf, TargetsOf};
 
 // A line has at most 255 bytes.
@@ -50,10 +51,10 @@ pub fn number_field(line: &[u8], at: usize, literal: &[u8]) -> Field
     Field::Is(v, from + value.len())
 }
 
-// The targets from `at` to the line's end: ` to=` and a list of numbers.
+// The targets from `at` to the line's end: ` to=`, and `all` or a list of numbers.
 pub fn targets_field(line: &[u8], at: usize) -> TargetsRead
     requires { ⌜ at ≤ length (now line) ⌝ }
-    ensures { λ r. ⌜ TargetsOf targets (drop at (now (line .entry))) (r .answer) (r .key) ⌝ }
+    ensures { λ r. ⌜ TargetsOf (drop at (now (line .entry))) (r .answer) (r .all) (r .key) ⌝ }
 {
     let Place::At(from) = past(line, at, b" to=") else {
         return no_targets();
@@ -61,6 +62,13 @@ pub fn targets_field(line: &[u8], at: usize) -> TargetsRead
     let value = value_at(line, from);
     if from + value.len() < line.len() {
         return no_targets();
+    }
+    if check::same(value, b"all") {
+        return TargetsRead {
+            answer: Targets::Are(KeyList::none()),
+            all: true,
+            key: [0u8; 8],
+        };
     }
     read_keys(value)
 }

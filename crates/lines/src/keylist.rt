@@ -8,8 +8,7 @@ ghost use mathlib.Core.Bool.{_&&_};
 ghost use Prim.Native.Nat.{ℕ, _≤_, _<_};
 ghost use lib.ListN.{set};
 ghost use Rattle.graph.specs.KeyLists.{isKey};
-ghost use Rattle.text.specs.Text.{commas};
-ghost use Rattle.lines.specs.Inner.LineParts.{KeysOf, TargetsOf};
+ghost use Rattle.lines.specs.Inner.LineParts.{KeysOf, KeysRead};
 ghost use Rattle.lines.specs.declared.keylist.Targets.the-variants.{Not};
 
 // What is known of the numbers so far: how many (9 for more than eight), the last, whether all are keys, and whether they
@@ -21,15 +20,17 @@ pub struct KeyList {
     pub rising: bool,
 }
 
-// Whether bytes are a list of numbers.
+// Whether bytes are targets.
 pub enum Targets {
     Are(KeyList),
     Not,
 }
 
-// The answer, and the keys where they are at most eight. They stand beside it: no covered enum holds an array.
+// The answer, whether they are all, and the keys where they are at most eight. These stand beside it: no covered enum
+// holds an array. Of all no key is listed.
 pub struct TargetsRead {
     pub answer: Targets,
+    pub all: bool,
     pub key: [u8; 8],
 }
 
@@ -38,6 +39,7 @@ pub fn no_targets() -> TargetsRead
 {
     TargetsRead {
         answer: Targets::Not,
+        all: false,
         key: [0u8; 8],
     }
 }
@@ -104,13 +106,14 @@ impl KeyList {
 
 // The numbers that the whole of `s` holds, parted by commas; none where it is empty.
 pub fn read_keys(s: &[u8]) -> TargetsRead
-    ensures { λ r. ⌜ TargetsOf commas (now (s .entry)) (r .answer) (r .key) ⌝ }
+    ensures { λ r. ⌜ KeysRead (now (s .entry)) (r .answer) (r .all) (r .key) ⌝ }
 {
     let mut k = KeyList::none();
     let mut key = [0u8; 8];
     if s.len() == 0 {
         return TargetsRead {
             answer: Targets::Are(k),
+            all: false,
             key: key,
         };
     }
@@ -127,6 +130,7 @@ pub fn read_keys(s: &[u8]) -> TargetsRead
         if s.len() < at {
             return TargetsRead {
                 answer: Targets::Are(k),
+                all: false,
                 key: key,
             };
         }

@@ -1,7 +1,8 @@
 // Reads the lines of standard input out of one buffer, as cgrun does, and prints what each was read as. A refused line
 // is printed as cgrun prints it. A call is shown as a result line (the line's number, the first number, the targets) and
-// a node line (the kind, the second number, the targets); a step as a result line (the line's number, the kind's place,
-// 8 for drain) and a head (the three numbers); a claim as a result line (the line's number, the label).
+// a node line (the kind, the second number, the targets), with `to=all` below them where it is for all; a step as a
+// result line (the line's number, the kind's place, 8 for drain) and a head (the three numbers); a claim as a result
+// line (the line's number, the label).
 use graph::keys::Keys;
 use lines::call::CallAnswer;
 use lines::call::CallKind;
@@ -76,8 +77,11 @@ fn show_call(line: &[u8], number: u32) {
     match answer {
         CallAnswer::Refused(refusal) => show_refusal(number, refusal),
         CallAnswer::Is(kind, x, y) => {
-            show_result(number, x, to);
-            show_node(call_number(kind), y, to);
+            show_result(number, x, to.keys);
+            show_node(call_number(kind), y, to.keys);
+            if to.all {
+                io::write_all(1, b"to=all\n");
+            }
         }
     }
 }

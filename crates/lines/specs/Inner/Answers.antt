@@ -4,8 +4,9 @@ use Prim.Native.Nat.{ℕ}
 use mathlib.Core.List.{List, []}
 use mathlib.Core.Path.{_≡_}
 use Rattle.graph.specs.Calls.{Call, add, map, link, unlink, sum, top, pick, near, unmap, formTests}
-use Rattle.graph.specs.Packed.{packed}
+use Rattle.graph.specs.Packed.{packedTargets}
 use Rattle.graph.specs.Refusals.{Answer, refused, done, unless}
+use Rattle.graph.specs.Targets.{To, named, these, untouched}
 use Rattle.graph.specs.Steps.{Step, admit, realise, move, finish, join, split, swap, fuse}
 use Rattle.lines.specs.Forms.{StepForm, work, drainForm, IsCall, stepFormTests, IsStep, IsClaim}
 use Rattle.lines.specs.declared.call.CallAnswer.the-variants.{Refused as CallRefused, Is}
@@ -31,24 +32,24 @@ settled refusal value (done f) = value f
 
 -- ---- calls
 
-abbrev pub callLine : CallKind → ℕ → ℕ → List ℕ → CallLine
-callLine kind x y to = record { answer = Is kind x y; to = packed to }
+abbrev pub callLine : CallKind → ℕ → ℕ → To → CallLine
+callLine kind x y to = record { answer = Is kind x y; to = packedTargets (untouched to) }
 
 abbrev pub refusedCall : ℕ → CallLine
-refusedCall n = record { answer = CallRefused n; to = packed [] }
+refusedCall n = record { answer = CallRefused n; to = packedTargets (these []) }
 
 -- the parts of a call's line: its kind, its numbers in their order (0 where there is none), its targets
 pub record CallParts : Type 0 where
   pub kind : CallKind
   pub x : ℕ
   pub y : ℕ
-  pub to : List ℕ
+  pub to : To
 
-abbrev pub withParts : CallKind → ℕ → ℕ → List ℕ → CallParts
+abbrev pub withParts : CallKind → ℕ → ℕ → To → CallParts
 withParts kind x y to = record { kind = kind; x = x; y = y; to = to }
 
 abbrev pub callParts : Call → CallParts
-callParts (add value) = withParts Add value 0 []
+callParts (add value) = withParts Add value 0 (named [])
 callParts (map a b to) = withParts Map a b to
 callParts (link key to) = withParts Link key 0 to
 callParts (unlink key to) = withParts Unlink key 0 to
@@ -70,7 +71,7 @@ abbrev pub CallRead : List ℕ → CallLine → Type 0
 CallRead line r = ReadAs (IsCall line) callAnswer (refusedCall 10) r
 
 -- the call that a kind, numbers in the line's order and targets make
-abbrev pub callForm : CallKind → ℕ → ℕ → List ℕ → Call
+abbrev pub callForm : CallKind → ℕ → ℕ → To → Call
 callForm Add x y to = add x
 callForm Map x y to = map x y to
 callForm Link x y to = link x to

@@ -7,15 +7,16 @@ use mathlib.Core.Logic.{_⊎_}
 use mathlib.Core.Path.{_≡_}
 use lib.Dec.{leb}
 use lib.ListN.{length, drop}
-use Rattle.text.specs.Text.{ascii, decimal}
+use Rattle.text.specs.Text.{ascii, decimal, commas}
 use Rattle.text.specs.Inner.PartsRead.{Gap}
 use Rattle.graph.specs.KeyLists.{isKey, areKeys, above, rising}
 use Rattle.graph.specs.Words.{modulus}
 use Rattle.graph.specs.Affine.{isOdd}
-use Rattle.graph.specs.declared.keys.Keys.{Keys}
+use Rattle.graph.specs.declared.remaining.Remaining.{Remaining}
 use Rattle.graph.specs.Valid.{Each}
 use Rattle.graph.specs.Packed.{packed}
 use Rattle.graph.specs.Refusals.{Answer, refused, done}
+use Rattle.graph.specs.Targets.{To, named, whole, listedIn}
 use Rattle.graph.specs.Steps.{admit, realise, move, finish, join, split, swap, fuse}
 use Rattle.lines.specs.Forms.{targets, StepForm, work, drainForm}
 use Rattle.lines.specs.Inner.Answers.{ReadAs, callLine, refusedCall, callForm, callAnswer, stepAnswered, stepAnswer}
@@ -57,10 +58,28 @@ pub record KeysOf (ts : List ℕ) (k : KeyList) : Type 0 where
 abbrev pub KeysStored : List ℕ → List ℕ → Type 0
 KeysStored ts key = areKeys ts ≡ true → length ts ≤ 8 → key ≡ packed ts .key
 
--- `Are k`: the bytes are the text of some 32-bit numbers, of which k is known and which the array holds. `Not`: of none
-abbrev pub TargetsOf : (List ℕ → List ℕ) → List ℕ → Targets → List ℕ → Type 0
-TargetsOf text l (Are k) key = (ts : List ℕ) × Below ts × (l ≡ text ts) × KeysOf ts k × KeysStored ts key
-TargetsOf text l AreNot key = (ts : List ℕ) → Below ts → l ≡ text ts → ⊥
+-- ---- what a line says after ` to=`
+
+abbrev pub isWhole : To → Bool
+isWhole (named ts) = false
+isWhole whole = true
+
+-- what is known of the targets: k and the array tell of the keys that they list, `all` whether they are all
+pub record ToRead (to : To) (k : KeyList) (all : Bool) (key : List ℕ) : Type 0 where
+  pub below : Below (listedIn to)
+  pub known : KeysOf (listedIn to) k
+  pub stored : KeysStored (listedIn to) key
+  pub wholly : all ≡ isWhole to
+
+-- `Are k`: the bytes are the text of a list of 32-bit numbers, and this is known of it. `Not`: of none
+abbrev pub KeysRead : List ℕ → Targets → Bool → List ℕ → Type 0
+KeysRead l (Are k) all key = (ts : List ℕ) × (l ≡ commas ts) × ToRead (named ts) k all key
+KeysRead l AreNot all key = (ts : List ℕ) → Below ts → l ≡ commas ts → ⊥
+
+-- the same of ` to=` and what follows it
+abbrev pub TargetsOf : List ℕ → Targets → Bool → List ℕ → Type 0
+TargetsOf l (Are k) all key = (to : To) × (l ≡ targets to) × ToRead to k all key
+TargetsOf l AreNot all key = (to : To) → Below (listedIn to) → l ≡ targets to → ⊥
 
 -- ---- a field
 
@@ -72,19 +91,19 @@ FieldOf s at literal Not = (v : ℕ) (x : List ℕ) → v < modulus → Gap 32 x
 -- ---- what follows a word
 
 -- what ends a line: the targets, or nothing
-abbrev pub tailText : Bool → List ℕ → List ℕ
-tailText true ts = targets ts
-tailText false ts = []
+abbrev pub tailText : Bool → To → List ℕ
+tailText true to = targets to
+tailText false to = []
 
 -- a line without targets has none
-abbrev pub Tailed : Bool → List ℕ → Type 0
-Tailed true ts = Unit {0}
-Tailed false ts = ts ≡ []
+abbrev pub Tailed : Bool → To → Type 0
+Tailed true to = Unit {0}
+Tailed false to = to ≡ named []
 
 -- literals with a number after each, and the tail
-abbrev pub fieldsText : List (List ℕ) → Bool → ℕ → ℕ → ℕ → List ℕ → List ℕ
-fieldsText [] listed x y z ts = tailText listed ts
-fieldsText (a ∷ others) listed x y z ts = a ++ (decimal x ++ fieldsText others listed y z 0 ts)
+abbrev pub fieldsText : List (List ℕ) → Bool → ℕ → ℕ → ℕ → To → List ℕ
+fieldsText [] listed x y z to = tailText listed to
+fieldsText (a ∷ others) listed x y z to = a ++ (decimal x ++ fieldsText others listed y z 0 to)
 
 -- the numbers beyond the literals are zero
 abbrev pub Spare : List (List ℕ) → ℕ → ℕ → ℕ → Type 0
@@ -96,11 +115,11 @@ pub record Values : Type 0 where
   pub x : ℕ
   pub y : ℕ
   pub z : ℕ
-  pub to : List ℕ
+  pub to : To
 
 -- the bytes are the text of these 32-bit numbers and targets; what there is no literal for is zero, or empty
 pub record ValuesOf (literals : List (List ℕ)) (listed : Bool) (l : List ℕ) (v : Values) : Type 0 where
-  pub small : (v .x < modulus) × (v .y < modulus) × (v .z < modulus) × Below (v .to)
+  pub small : (v .x < modulus) × (v .y < modulus) × (v .z < modulus) × Below (listedIn (v .to))
   pub spare : Spare literals (v .x) (v .y) (v .z)
   pub tailed : Tailed listed (v .to)
   pub same : l ≡ fieldsText literals listed (v .x) (v .y) (v .z) (v .to)
@@ -156,11 +175,12 @@ abbrev pub Starts : CallKind → Type 0
 Starts kind = (kind ≡ Sum) ⊎ ((kind ≡ Top) ⊎ (kind ≡ Pick))
 
 -- the answer to a call whose key is one, by its targets: 11, then 12, else the call
-abbrev pub callMade : CallKind → ℕ → ℕ → List ℕ → CallLine
-callMade kind x y ts = cond (areKeys ts) (cond (leb (length ts) 8 && rising ts) (callLine kind x y ts) (refusedCall 12)) (refusedCall 11)
+abbrev pub callMade : CallKind → ℕ → ℕ → To → CallLine
+callMade kind x y to =
+    cond (areKeys (listedIn to)) (cond (leb (length (listedIn to)) 8 && rising (listedIn to)) (callLine kind x y to) (refusedCall 12)) (refusedCall 11)
 
 -- the answer to the unmap of a map that was not refused: 40 for an even a, else the call
-abbrev pub unmapMade : ℕ → ℕ → Keys → CallLine
+abbrev pub unmapMade : ℕ → ℕ → Remaining → CallLine
 unmapMade a b to = cond (isOdd a) (record { answer = AnswerIs Unmap a b; to = to }) (refusedCall 40)
 
 -- ---- steps

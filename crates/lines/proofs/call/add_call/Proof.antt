@@ -2,12 +2,12 @@
 -- Assumes nothing.
 use mathlib.Core.Path.{ap, _∙_}
 use mathlib.Core.List.{[]}
-use Rattle.graph.specs.declared.keys.Keys.{Keys}
+use Rattle.graph.specs.declared.remaining.Remaining.{Remaining}
 use Rattle.text.specs.Text.{ascii}
 use Rattle.lines.specs.declared.call.CallAnswer.the-variants.{Is}
 use Rattle.lines.specs.declared.call.CallKind.the-variants.{Add}
 use Rattle.lines.proofs.Chains.{NumberAt, field-not, last-not, last-is}
-use Rattle.lines.proofs.Calls.{add-answer}
+use Rattle.lines.proofs.Calls.{none-listed, add-answer}
 use borrow.Author.Needs.{needs}
 use Rattle.lines.proofs.call.add_call.Statement.{statement}
 use Rattle.lines.proofs.call.add_call.Tie as tie
@@ -48,10 +48,13 @@ returns-2 c =
 none-requires : tie.Need-none-requires
 none-requires c κs = search needs
 
+unmarked-requires : tie.Need-unmarked-requires
+unmarked-requires c κs = search needs
+
 returns-3 : tie.Need-returns-3
 returns-3 c =
-    let n = c .before .before in
-    last-is (value-at n) (c .before .if1 .left) (ap (λ (ks : Keys). record { answer = Is Add (n .before .value .given .0 .0) 0; to = ks }) (c .none .ensures) ∙ add-answer (n .before .value .given .0 .0) (value-at n .small))
+    let n = c .before .before .before in
+    last-is (value-at n) (c .before .before .if1 .left) (ap (λ (t : Remaining). record { answer = Is Add (n .before .value .given .0 .0) 0; to = t }) (none-listed (c .unmarked .ensures) (c .before .none .ensures)) ∙ add-answer (n .before .value .given .0 .0) (value-at n .small))
 
 pub add-call-spec : {M : Type 1} → statement M
 add-call-spec =
@@ -66,4 +69,5 @@ add-call-spec =
     refused-call-requires-2
     returns-2
     none-requires
+    unmarked-requires
     returns-3)

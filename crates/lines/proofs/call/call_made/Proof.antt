@@ -13,7 +13,7 @@ refused-call-requires c κs = search needs
 returns : tie.Need-returns
 returns c =
     let a = c .before .before .before .args in
-    λ ts p h. made-targets (a .kind) (a .x) (a .y) (a .list) (a .key) ts p h (not-true (a .list .keys) (c .before .if1 .taken)) (c .refused-call .ensures)
+    λ to p. made-targets (a .kind) (a .x) (a .y) (a .list) (a .all) (a .key) to p (not-true (a .list .keys) (c .before .if1 .taken)) (c .refused-call .ensures)
 
 refused-call-requires-2 : tie.Need-refused-call-requires-2
 refused-call-requires-2 c κs = search needs
@@ -21,7 +21,7 @@ refused-call-requires-2 c κs = search needs
 returns-2 : tie.Need-returns-2
 returns-2 c =
     let a = c .before .before .before .before .before .args in
-    λ ts p h. made-many (a .kind) (a .x) (a .y) (a .list) (a .key) ts p h (not-false (a .list .keys) (c .before .before .before .if1 .left)) (omega arith) (c .refused-call2 .ensures)
+    λ to p. made-many (a .kind) (a .x) (a .y) (a .list) (a .all) (a .key) to p (not-false (a .list .keys) (c .before .before .before .if1 .left)) (omega arith) (c .refused-call2 .ensures)
 
 refused-call-requires-3 : tie.Need-refused-call-requires-3
 refused-call-requires-3 c κs = search needs
@@ -29,12 +29,15 @@ refused-call-requires-3 c κs = search needs
 returns-3 : tie.Need-returns-3
 returns-3 c =
     let a = c .before .before .before .before .before .before .before .args in
-    λ ts p h. made-unsorted (a .kind) (a .x) (a .y) (a .list) (a .key) ts p h (not-false (a .list .keys) (c .before .before .before .before .before .if1 .left)) (omega arith) (not-true (a .list .rising) (c .before .if3 .taken)) (c .refused-call3 .ensures)
+    λ to p. made-unsorted (a .kind) (a .x) (a .y) (a .list) (a .all) (a .key) to p (not-false (a .list .keys) (c .before .before .before .before .before .if1 .left)) (omega arith) (not-true (a .list .rising) (c .before .if3 .taken)) (c .refused-call3 .ensures)
+
+unmarked-requires : tie.Need-unmarked-requires
+unmarked-requires c κs = search needs
 
 returns-4 : tie.Need-returns-4
 returns-4 c =
-    let a = c .before .before .before .before .before .before .args in
-    λ ts p h. made-call (a .kind) (a .x) (a .y) (a .list) (a .key) ts p h (not-false (a .list .keys) (c .before .before .before .before .if1 .left)) (omega arith) (not-false (a .list .rising) (c .if3 .left))
+    let a = c .before .before .before .before .before .before .before .args in
+    λ to p. made-call (a .kind) (a .x) (a .y) (a .list) (a .all) (a .key) to p (not-false (a .list .keys) (c .before .before .before .before .before .if1 .left)) (omega arith) (not-false (a .list .rising) (c .before .if3 .left)) (c .unmarked .ensures)
 
 pub call-made-spec : {M : Type 1} → statement M
 call-made-spec =
@@ -46,4 +49,5 @@ call-made-spec =
     returns-2
     refused-call-requires-3
     returns-3
+    unmarked-requires
     returns-4)

@@ -62,7 +62,7 @@ returns-3 : tie.Need-returns-3
 returns-3 c =
     let t = c .before .before .before in
     let n = t .before .before .before .before in
-    link-after (n .before .before .before .before .before .before .args .kind) (n .before .before .before .before .before .before .pre .1) (targets-are (key-at n) (rw (t .before .answer .given .1) at (t .before .before .before .targets-field .ensures)) (λ ts s k h. c .refused-call3 .ensures ∙ link-refused (n .before .before .before .before .before .before .args .kind) (n .before .before .before .before .before .before .pre .1) _ ts (key-at n .small) s (sym (c .before .before .is-key .ensures) ∙ not-true (c .before .before .is-key .result) (c .before .if1 .taken))))
+    link-after (n .before .before .before .before .before .before .args .kind) (n .before .before .before .before .before .before .pre .1) (targets-are (key-at n) (rw (t .before .answer .given .1) at (t .before .before .before .targets-field .ensures)) (λ to h. c .refused-call3 .ensures ∙ link-refused (n .before .before .before .before .before .before .args .kind) (n .before .before .before .before .before .before .pre .1) _ to (key-at n .small) (h .below) (sym (c .before .before .is-key .ensures) ∙ not-true (c .before .before .is-key .result) (c .before .if1 .taken))))
 
 call-made-requires : tie.Need-call-made-requires
 call-made-requires c κs = search needs
@@ -71,7 +71,7 @@ returns-4 : tie.Need-returns-4
 returns-4 c =
     let t = c .before .before .before .before in
     let n = t .before .before .before .before in
-    link-after (n .before .before .before .before .before .before .args .kind) (n .before .before .before .before .before .before .pre .1) (targets-are (key-at n) (rw (t .before .answer .given .1) at (t .before .before .before .targets-field .ensures)) (λ ts s k h. c .call-made .ensures ts k h ∙ link-answer (n .before .before .before .before .before .before .args .kind) (n .before .before .before .before .before .before .pre .1) _ ts (key-at n .small) s (sym (c .before .before .before .is-key .ensures) ∙ not-false (c .before .before .before .is-key .result) (c .before .before .if1 .left))))
+    link-after (n .before .before .before .before .before .before .args .kind) (n .before .before .before .before .before .before .pre .1) (targets-are (key-at n) (rw (t .before .answer .given .1) at (t .before .before .before .targets-field .ensures)) (λ to h. c .call-made .ensures to h ∙ link-answer (n .before .before .before .before .before .before .args .kind) (n .before .before .before .before .before .before .pre .1) _ to (key-at n .small) (h .below) (sym (c .before .before .before .is-key .ensures) ∙ not-false (c .before .before .before .is-key .result) (c .before .before .if1 .left))))
 
 pub link-call-spec : {M : Type 1} → statement M
 link-call-spec =

@@ -86,7 +86,7 @@ unfolding ascii
 returns-4 c =
     let t = c .before .before in
     let n = t .before .before .before .before in
-    number-then (a-at (n .before .before .before .before .before)) (ascii " b=" ∷ []) (refl, tt) (omega arith) (targets-are (b-at n) (rw (t .before .answer .given .1) at (t .before .before .before .targets-field .ensures)) (λ ts s k h. c .call-made .ensures ts k h ∙ map-answer _ _ ts (a-at (n .before .before .before .before .before) .small) (b-at n .small) s))
+    number-then (a-at (n .before .before .before .before .before)) (ascii " b=" ∷ []) (refl, tt) (omega arith) (targets-are (b-at n) (rw (t .before .answer .given .1) at (t .before .before .before .targets-field .ensures)) (λ to h. c .call-made .ensures to h ∙ map-answer _ _ to (a-at (n .before .before .before .before .before) .small) (b-at n .small) (h .below)))
 
 pub map-call-spec : {M : Type 1} → statement M
 map-call-spec =

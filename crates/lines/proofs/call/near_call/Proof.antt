@@ -90,7 +90,7 @@ unfolding ascii
 returns-4 c =
     let t = c .before .before .before in
     let n = t .before .before .before .before in
-    number-then (key-at (n .before .before .before .before .before)) (ascii " start=" ∷ []) (refl, tt) (omega arith) (targets-are (start-at n) (rw (t .before .answer .given .1) at (t .before .before .before .targets-field .ensures)) (λ ts s k h. c .refused-call4 .ensures ∙ near-refused _ _ ts (key-at (n .before .before .before .before .before) .small) (start-at n .small) s (sym (c .before .before .is-key .ensures) ∙ not-true (c .before .before .is-key .result) (c .before .if1 .taken))))
+    number-then (key-at (n .before .before .before .before .before)) (ascii " start=" ∷ []) (refl, tt) (omega arith) (targets-are (start-at n) (rw (t .before .answer .given .1) at (t .before .before .before .targets-field .ensures)) (λ to h. c .refused-call4 .ensures ∙ near-refused _ _ to (key-at (n .before .before .before .before .before) .small) (start-at n .small) (h .below) (sym (c .before .before .is-key .ensures) ∙ not-true (c .before .before .is-key .result) (c .before .if1 .taken))))
 
 call-made-requires : tie.Need-call-made-requires
 call-made-requires c κs = search needs
@@ -100,7 +100,7 @@ unfolding ascii
 returns-5 c =
     let t = c .before .before .before .before in
     let n = t .before .before .before .before in
-    number-then (key-at (n .before .before .before .before .before)) (ascii " start=" ∷ []) (refl, tt) (omega arith) (targets-are (start-at n) (rw (t .before .answer .given .1) at (t .before .before .before .targets-field .ensures)) (λ ts s k h. c .call-made .ensures ts k h ∙ near-answer _ _ ts (key-at (n .before .before .before .before .before) .small) (start-at n .small) s (sym (c .before .before .before .is-key .ensures) ∙ not-false (c .before .before .before .is-key .result) (c .before .before .if1 .left))))
+    number-then (key-at (n .before .before .before .before .before)) (ascii " start=" ∷ []) (refl, tt) (omega arith) (targets-are (start-at n) (rw (t .before .answer .given .1) at (t .before .before .before .targets-field .ensures)) (λ to h. c .call-made .ensures to h ∙ near-answer _ _ to (key-at (n .before .before .before .before .before) .small) (start-at n .small) (h .below) (sym (c .before .before .before .is-key .ensures) ∙ not-false (c .before .before .before .is-key .result) (c .before .before .if1 .left))))
 
 pub near-call-spec : {M : Type 1} → statement M
 near-call-spec =

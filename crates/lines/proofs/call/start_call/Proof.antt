@@ -58,7 +58,7 @@ returns-3 : tie.Need-returns-3
 returns-3 c =
     let t = c .before .before in
     let n = t .before .before .before .before in
-    start-after (n .before .before .before .before .before .before .args .kind) (n .before .before .before .before .before .before .pre .1) (targets-are (start-at n) (rw (t .before .answer .given .1) at (t .before .before .before .targets-field .ensures)) (λ ts s k h. c .call-made .ensures ts k h ∙ start-answer (n .before .before .before .before .before .before .args .kind) (n .before .before .before .before .before .before .pre .1) _ ts (start-at n .small) s))
+    start-after (n .before .before .before .before .before .before .args .kind) (n .before .before .before .before .before .before .pre .1) (targets-are (start-at n) (rw (t .before .answer .given .1) at (t .before .before .before .targets-field .ensures)) (λ to h. c .call-made .ensures to h ∙ start-answer (n .before .before .before .before .before .before .args .kind) (n .before .before .before .before .before .before .pre .1) _ to (start-at n .small) (h .below)))
 
 pub start-call-spec : {M : Type 1} → statement M
 start-call-spec =

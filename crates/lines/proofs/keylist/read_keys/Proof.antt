@@ -45,7 +45,7 @@ none-requires c κs = search needs
 
 returns : tie.Need-returns Inv-loop μ-loop
 unfolding packed
-returns c = ([], tt, empty-list _ (c .if1 .taken), c .before .none .ensures, λ a l. refl)
+returns c = ([], empty-list _ (c .if1 .taken), record { below = tt; known = c .before .none .ensures; stored = λ a l. refl; wholly = refl })
 
 loop-holds : tie.Need-loop-holds Inv-loop μ-loop
 unfolding packed
