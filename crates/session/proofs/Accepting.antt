@@ -9,6 +9,7 @@ use lib.Dec.{leb}
 use borrow.Author.Tests.{leb-true}
 use Rattle.graph.specs.Calls.{Call, operandsOf, targetsOf, formTests}
 use Rattle.graph.specs.KeyLists.{isKey, areKeys}
+use Rattle.graph.specs.Targets.{To}
 use Rattle.graph.specs.declared.act.Act.the-variants.{Map}
 use Rattle.graph.specs.declared.affine.Affine.{Affine}
 use Rattle.graph.specs.Affine.{inverse}
@@ -34,16 +35,16 @@ accepts f x before after r g l b q w =
     (s .serves, s .image-valid)
 
 -- the call, by its kind
-pub labelled-as : (k kind : CallKind) (x y : ℕ) (ts : List ℕ) → k ≡ kind → (l : ℕ) → labelled (callForm k x y ts) l ≡ labelled (callForm kind x y ts) l
-labelled-as k kind x y ts e l = ap (λ (j : CallKind). labelled (callForm j x y ts) l) e
+pub labelled-as : (k kind : CallKind) (x y : ℕ) (to : To) → k ≡ kind → (l : ℕ) → labelled (callForm k x y to) l ≡ labelled (callForm kind x y to) l
+labelled-as k kind x y to e l = ap (λ (j : CallKind). labelled (callForm j x y to) l) e
 
 -- an unmap is the map that undoes
-pub unmap-as : (k : CallKind) (x y : ℕ) (ts : List ℕ) → k ≡ Unmap → (m : Affine) → m ≡ inverse (record { a = x; b = y }) → (l : ℕ) → labelled (callForm k x y ts) l ≡ operation (Map m) 0 ts l
-unmap-as k x y ts e m i l = labelled-as k Unmap x y ts e l ∙ ap (λ (f : Affine). operation (Map f) 0 ts l) (sym i)
+pub unmap-as : (k : CallKind) (x y : ℕ) (to : To) → k ≡ Unmap → (m : Affine) → m ≡ inverse (record { a = x; b = y }) → (l : ℕ) → labelled (callForm k x y to) l ≡ operation (Map m) 0 to l
+unmap-as k x y to e m i l = labelled-as k Unmap x y to e l ∙ ap (λ (f : Affine). operation (Map f) 0 to l) (sym i)
 
 -- a good call's key is at most 64
-pub key-small : (c kind : CallKind) (x y : ℕ) (us : List ℕ) (k : ℕ) (ts : List ℕ) → c ≡ kind → firstOf (formTests (callForm c x y us)) ≡ 0 → operandsOf (callForm kind x y us) ++ targetsOf (callForm kind x y us) ≡ k ∷ ts → k < 256
-key-small c kind x y us k ts e g q =
-    let all : areKeys (k ∷ ts) ≡ true = subst (λ (xs : List ℕ). areKeys xs ≡ true) (ap (λ (j : CallKind). operandsOf (callForm j x y us) ++ targetsOf (callForm j x y us)) e ∙ q) (form-fits (callForm c x y us) g .keys) in
+pub key-small : (c kind : CallKind) (x y : ℕ) (to : To) (k : ℕ) (ts : List ℕ) → c ≡ kind → firstOf (formTests (callForm c x y to)) ≡ 0 → operandsOf (callForm kind x y to) ++ targetsOf (callForm kind x y to) ≡ k ∷ ts → k < 256
+key-small c kind x y to k ts e g q =
+    let all : areKeys (k ∷ ts) ≡ true = subst (λ (xs : List ℕ). areKeys xs ≡ true) (ap (λ (j : CallKind). operandsOf (callForm j x y to) ++ targetsOf (callForm j x y to)) e ∙ q) (form-fits (callForm c x y to) g .keys) in
     let high : k ≤ 64 = leb-true k 64 (and-right (leb 1 k) (leb k 64) (and-left (isKey k) (areKeys ts) all)) in
     omega arith

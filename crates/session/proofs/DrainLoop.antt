@@ -122,5 +122,5 @@ pub counts-fit : (first image : List ℕ) (c : Counts) → ValidImage first → 
 counts-fit first image c l h =
     let s : Session = sessionOf first in
     let v : Valid (sessionOf first) = subst Valid (sym (session-held first)) (l .valid) in
-    let total : quotedSteps (stepsOf first) ≤ 73 * 64 = omega (arith, drain-drains s v .lighter, weight-bound s v) in
+    let total : quotedSteps (stepsOf first) ≤ 129 * 64 = omega (arith, drain-drains s v .lighter, weight-bound s v) in
     (omega (arith, h .admits), omega (arith, h .realises), omega (arith, h .moves), omega (arith, h .finishes))

@@ -21,7 +21,7 @@ use Rattle.flat.specs.Inner.Nested.{nest}
 use Rattle.graph.specs.OneAtATime.{isOp}
 use Rattle.flat.specs.Inner.Queues.{endOf}
 use Rattle.flat.proofs.Elements.{each-queued}
-use Rattle.flat.specs.Inner.FlatSteps.{mapFrom, firstIn, noOp, noNode, moveTo, withQueue, soughtAt, actAt, finishPlace, admitCall, known, flatStep}
+use Rattle.flat.specs.Inner.FlatSteps.{mapFrom, firstIn, noOp, noNode, moveOn, withQueue, soughtAt, actAt, finishPlace, admitCall, known, flatStep}
 use Rattle.flat.specs.Inner.FlatEvents.{FlatTaken, flatDrainStep}
 use Rattle.state.specs.Inner.State.{flatIn, Shows}
 use Rattle.state.specs.Inner.ValidImage.{ValidImage, Leaves, Works}
@@ -97,12 +97,12 @@ module _ (image : List ℕ) (l : ValidImage image) (k : ℕ) (b : Begins image k
         ∙ (λ i. done (taken (finish k) (finishPlace (sym is i) (sym (at .ends) i) (getD (flatIn image .queue) (sym is i) noOp) (flatIn image))))
 
     pub takes-move : {p r : ℕ} → p ≡ firstIn (soughtAt Acts k) 0 e (flatIn image .queue) → e ≤ p → r ≡ firstIn (soughtAt Finishes k) 0 e (flatIn image .queue) → e ≤ r →
-        flatDrainStep (flatIn image) ≡ done (taken (move k) (withQueue (flatIn image) (mapFrom (moveTo (k - 1)) 0 e (flatIn image .queue))))
+        flatDrainStep (flatIn image) ≡ done (taken (move k) (withQueue (flatIn image) (mapFrom (moveOn (k - 1)) 0 e (flatIn image .queue))))
     takes-move s h t j =
         let is = t ∙ canon (soughtAt Finishes k) in
         let hit = s ∙ canon (soughtAt Acts k) in
         drain-moves (flatIn image) k x (drop 1 (flatIn image .queue)) begins (b .place) (b .station) node-known (begins-op (omega (arith, at .ends))) (omega (arith, at .ends, at .fits)) (omega arith) (omega (arith, hit, at .ends, h)) (omega (arith, is, at .ends, j))
-        ∙ (λ i. done (taken (move k) (withQueue (flatIn image) (mapFrom (moveTo (k - 1)) 0 (sym (at .ends) i) (flatIn image .queue)))))
+        ∙ (λ i. done (taken (move k) (withQueue (flatIn image) (mapFrom (moveOn (k - 1)) 0 (sym (at .ends) i) (flatIn image .queue)))))
 
 -- the first waiting call begins the queue
 pub takes-admit : (image : List ℕ) → 0 < length (flatIn image .queue) → (getD (flatIn image .queue) 0 noOp) .place ≡ 65 → flatDrainStep (flatIn image) ≡ done (taken admit (admitCall 0 ((getD (flatIn image .queue) 0 noOp) .call) (flatIn image)))

@@ -11,7 +11,7 @@ use lib.ListN.{length, getD}
 use lib.Seq.{slice}
 use borrow.Author.Tests.{lt-ltb, le-ltb}
 use Rattle.graph.specs.Refusals.{Answer, refused, done, mapDone}
-use Rattle.graph.specs.KeyLists.{isNil}
+use Rattle.graph.specs.Targets.{noneLeft}
 use Rattle.graph.specs.declared.task.TaskRule.the-variants.{Propagate}
 use Rattle.graph.specs.declared.task.Sought.the-variants.{Acts, Finishes}
 use Rattle.graph.specs.Nodes.{Node}
@@ -24,7 +24,7 @@ use Rattle.graph.proofs.Answers.{eqb-same, by-bool}
 use Rattle.flat.specs.Flat.{Tagged, Flat}
 use Rattle.flat.specs.Inner.Nested.{ofOp, atPlace}
 use Rattle.flat.specs.Inner.Queues.{firstIndex, isAt, endOf}
-use Rattle.flat.specs.Inner.FlatSteps.{mapFrom, firstIn, noOp, noNode, moveTo, withQueue, soughtAt, headUnit, onPlace, moveFlat, actAt, actFlat, realiseFlat, finishPlace, leaveFlat, finishFlat, admitCall, known, flatStep}
+use Rattle.flat.specs.Inner.FlatSteps.{mapFrom, firstIn, noOp, noNode, moveOn, withQueue, soughtAt, headUnit, onPlace, moveFlat, actAt, actFlat, realiseFlat, finishPlace, leaveFlat, finishFlat, admitCall, known, flatStep}
 use Rattle.flat.specs.Inner.FlatEvents.{firstPlace, FlatTaken, flatTaking, flatDrainStepAt, flatDrainStep}
 use Rattle.flat.proofs.Turns.{any-first, first-stop}
 
@@ -37,7 +37,7 @@ finishes-last : (k : ℕ) (w : Labelled) → isOp w ≡ true → eqb k 1 ≡ tru
 finishes-last k (addOf l v) op e h = absurd (true≢false (sym op))
 finishes-last k (opOf o) op e h =
     let n : Node = record { key = k; value = 0; links = [] } in
-    finishes-exactly o n (eqb k 1) ∙ rw (e, sym (acts-exactly o n (eqb k 1)) ∙ h) (or-true (isNil (o .targets)))
+    finishes-exactly o n (eqb k 1) ∙ rw (e, sym (acts-exactly o n (eqb k 1)) ∙ h) (or-true (noneLeft (o .targets)))
 
 -- nothing waits
 pub drain-empty : (f : Flat) → f .queue ≡ [] → flatDrainStep f ≡ refused 21
@@ -100,12 +100,12 @@ module _ (f : Flat) (k : ℕ) (x : Tagged) (xs : List Tagged) (stands : f .queue
       let hit : soughtAt Acts k (getD (f .queue) 0 noOp) ≡ false = by-bool (soughtAt Acts k (getD (f .queue) 0 noOp)) (λ t. absurd (omega (arith, first-stop (soughtAt Acts k) (f .queue) e w 0 noOp z t))) (λ t. t) in
       first-stop (soughtAt Finishes k) (f .queue) e w 0 noOp z (finishes-last k (getD (f .queue) 0 noOp .call) op l hit)
 
-  pub drain-moves : isOp (getD (f .queue) 0 noOp .call) ≡ true → e ≤ length (f .queue) → 0 < e → e ≤ p → e ≤ r → flatDrainStep f ≡ done (taken (move k) (withQueue f (mapFrom (moveTo (k - 1)) 0 e (f .queue))))
+  pub drain-moves : isOp (getD (f .queue) 0 noOp .call) ≡ true → e ≤ length (f .queue) → 0 < e → e ≤ p → e ≤ r → flatDrainStep f ≡ done (taken (move k) (withQueue f (mapFrom (moveOn (k - 1)) 0 e (f .queue))))
   drain-moves op w z h j =
       let s : flatStep (finish k) f ≡ refused 22 = finish-is ∙ rw (le-ltb r e j) in
       let one : eqb k 1 ≡ false = by-bool (eqb k 1) (λ l. absurd (omega (arith, last-finishes op w z h l))) (λ l. l) in
       let none : any (soughtAt Acts k) (slice 0 e (f .queue)) ≡ false = any-first (soughtAt Acts k) (f .queue) e w 0 (omega arith) ∙ le-ltb p e h in
-      let t : flatStep (move k) f ≡ done (withQueue f (mapFrom (moveTo (k - 1)) 0 e (f .queue))) = move-is ∙ rw (one, none) in
+      let t : flatStep (move k) f ≡ done (withQueue f (mapFrom (moveOn (k - 1)) 0 e (f .queue))) = move-is ∙ rw (one, none) in
       no-realise h
       ∙ ap (λ (y : Answer Flat). orElse (mapDone (taken (finish k)) y) (flatTaking (move k) f)) s
       ∙ ap (mapDone (taken (move k))) t

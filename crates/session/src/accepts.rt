@@ -3,19 +3,19 @@ use calls::accept::accept_add;
 use calls::accept::accept_operation;
 use graph::act::Act;
 use graph::affine::Affine;
-use graph::keys::Keys;
+use graph::remaining::Remaining;
 use lines::call::CallKind;
 ghost use Rattle.graph.specs.Acceptance.{accept};
-ghost use Rattle.graph.specs.Packed.{listed};
 ghost use Rattle.valid.specs.Inner.Decoded.{sessionOf};
 ghost use Rattle.lines.specs.Inner.Answers.{callForm};
 ghost use Rattle.state.specs.Inner.ValidImage.{ValidImage, Serves};
+ghost use Rattle.calls.specs.Inner.Accepting.{namedIn};
 ghost use Rattle.session.specs.Inner.Accepts.{Good};
 
 // Gives the call the next label and a place at the end of the top stream, and gives 0; or refuses it with 13, 14 or 15.
-pub fn accept(image: &mut [u8], kind: CallKind, x: u32, y: u32, to: Keys) -> u32
-    requires { ⌜ (ValidImage (now image)) × (Good (callForm kind x y (listed to)) to) ⌝ }
-    ensures { λ r. ⌜ (Serves (accept (callForm kind x y (listed to)) (sessionOf (now (image .entry)))) (now (image .entry)) (now (image .exit)) r) × (ValidImage (now (image .exit))) ⌝ }
+pub fn accept(image: &mut [u8], kind: CallKind, x: u32, y: u32, to: Remaining) -> u32
+    requires { ⌜ (ValidImage (now image)) × (Good (callForm kind x y (namedIn to)) to) ⌝ }
+    ensures { λ r. ⌜ (Serves (accept (callForm kind x y (namedIn to)) (sessionOf (now (image .entry)))) (now (image .entry)) (now (image .exit)) r) × (ValidImage (now (image .exit))) ⌝ }
 {
     match kind {
         CallKind::Add => accept_add(image, x),

@@ -2,7 +2,7 @@
 -- Assumes nothing.
 use mathlib.Core.Path.{refl, sym}
 use mathlib.Core.Bool.{true≢false}
-use Rattle.graph.specs.Packed.{listed}
+use Rattle.calls.specs.Inner.Accepting.{namedIn}
 use Rattle.lines.specs.Inner.Answers.{callForm}
 use Rattle.lines.specs.declared.call.CallKind.the-variants.{Add, Map, Link, Unlink, Sum, Top, Pick, Near}
 use Rattle.session.proofs.Accepting.{accepts, labelled-as, unmap-as, key-small}
@@ -28,7 +28,7 @@ enum-told-3 c = search needs
 cast-t15 : tie.Need-cast-t15
 cast-t15 c =
     let a = c .before .before .before .before in
-    record { fits = key-small (a .args .kind) Link (a .args .x) (a .args .y) (listed (a .args .to)) _ _ (c .before .enum-told3 .given .1) (a .pre .1 .form) refl }
+    record { fits = key-small (a .args .kind) Link (a .args .x) (a .args .y) (namedIn (a .args .to)) _ _ (c .before .enum-told3 .given .1) (a .pre .1 .form) refl }
 
 accept-operation-requires-2 : tie.Need-accept-operation-requires-2
 accept-operation-requires-2 c κs = search needs
@@ -39,7 +39,7 @@ enum-told-4 c = search needs
 cast-t19 : tie.Need-cast-t19
 cast-t19 c =
     let a = c .before .before .before .before in
-    record { fits = key-small (a .args .kind) Unlink (a .args .x) (a .args .y) (listed (a .args .to)) _ _ (c .before .enum-told4 .given .1) (a .pre .1 .form) refl }
+    record { fits = key-small (a .args .kind) Unlink (a .args .x) (a .args .y) (namedIn (a .args .to)) _ _ (c .before .enum-told4 .given .1) (a .pre .1 .form) refl }
 
 accept-operation-requires-3 : tie.Need-accept-operation-requires-3
 accept-operation-requires-3 c κs = search needs
@@ -68,7 +68,7 @@ enum-told-8 c = search needs
 cast-t32 : tie.Need-cast-t32
 cast-t32 c =
     let a = c .before .before .before .before in
-    record { fits = key-small (a .args .kind) Near (a .args .x) (a .args .y) (listed (a .args .to)) _ _ (c .before .enum-told8 .given .1) (a .pre .1 .form) refl }
+    record { fits = key-small (a .args .kind) Near (a .args .x) (a .args .y) (namedIn (a .args .to)) _ _ (c .before .enum-told8 .given .1) (a .pre .1 .form) refl }
 
 accept-operation-requires-7 : tie.Need-accept-operation-requires-7
 accept-operation-requires-7 c κs = (c .before .before .before .before .pre .0, c .before .before .before .before .pre .1 .targets, λ e. absurd (true≢false (sym e)))
@@ -88,7 +88,7 @@ same-length c = search needs
 returns : tie.Need-returns
 returns c =
     let a = c .before .before .before .before .before .before .before in
-    accepts (callForm (a .args .kind) (a .args .x) (a .args .y) (listed (a .args .to))) _ (a .args .image .now) _ _ (a .pre .1 .form) (a .pre .0) (λ i. c .slice-known2 .given i .fits) (labelled-as (a .args .kind) Add (a .args .x) (a .args .y) (listed (a .args .to)) (c .before .before .before .before .enum-told .given .1) _) (c .before .before .accept-add .ensures)
+    accepts (callForm (a .args .kind) (a .args .x) (a .args .y) (namedIn (a .args .to))) _ (a .args .image .now) _ _ (a .pre .1 .form) (a .pre .0) (λ i. c .slice-known2 .given i .fits) (labelled-as (a .args .kind) Add (a .args .x) (a .args .y) (namedIn (a .args .to)) (c .before .before .before .before .enum-told .given .1) _) (c .before .before .accept-add .ensures)
 
 same-length-2 : tie.Need-same-length-2
 same-length-2 c = search needs
@@ -96,7 +96,7 @@ same-length-2 c = search needs
 returns-2 : tie.Need-returns-2
 returns-2 c =
     let a = c .before .before .before .before .before .before .before in
-    accepts (callForm (a .args .kind) (a .args .x) (a .args .y) (listed (a .args .to))) _ (a .args .image .now) _ _ (a .pre .1 .form) (a .pre .0) (λ i. c .slice-known3 .given i .fits) (labelled-as (a .args .kind) Map (a .args .x) (a .args .y) (listed (a .args .to)) (c .before .before .before .before .enum-told2 .given .1) _) (c .before .before .accept-operation .ensures)
+    accepts (callForm (a .args .kind) (a .args .x) (a .args .y) (namedIn (a .args .to))) _ (a .args .image .now) _ _ (a .pre .1 .form) (a .pre .0) (λ i. c .slice-known3 .given i .fits) (labelled-as (a .args .kind) Map (a .args .x) (a .args .y) (namedIn (a .args .to)) (c .before .before .before .before .enum-told2 .given .1) _) (c .before .before .accept-operation .ensures)
 
 same-length-3 : tie.Need-same-length-3
 same-length-3 c = search needs
@@ -104,7 +104,7 @@ same-length-3 c = search needs
 returns-3 : tie.Need-returns-3
 returns-3 c =
     let a = c .before .before .before .before .before .before .before in
-    accepts (callForm (a .args .kind) (a .args .x) (a .args .y) (listed (a .args .to))) _ (a .args .image .now) _ _ (a .pre .1 .form) (a .pre .0) (λ i. c .slice-known4 .given i .fits) (labelled-as (a .args .kind) Link (a .args .x) (a .args .y) (listed (a .args .to)) (c .before .before .before .before .enum-told3 .given .1) _) (c .before .before .accept-operation2 .ensures)
+    accepts (callForm (a .args .kind) (a .args .x) (a .args .y) (namedIn (a .args .to))) _ (a .args .image .now) _ _ (a .pre .1 .form) (a .pre .0) (λ i. c .slice-known4 .given i .fits) (labelled-as (a .args .kind) Link (a .args .x) (a .args .y) (namedIn (a .args .to)) (c .before .before .before .before .enum-told3 .given .1) _) (c .before .before .accept-operation2 .ensures)
 
 same-length-4 : tie.Need-same-length-4
 same-length-4 c = search needs
@@ -112,7 +112,7 @@ same-length-4 c = search needs
 returns-4 : tie.Need-returns-4
 returns-4 c =
     let a = c .before .before .before .before .before .before .before in
-    accepts (callForm (a .args .kind) (a .args .x) (a .args .y) (listed (a .args .to))) _ (a .args .image .now) _ _ (a .pre .1 .form) (a .pre .0) (λ i. c .slice-known5 .given i .fits) (labelled-as (a .args .kind) Unlink (a .args .x) (a .args .y) (listed (a .args .to)) (c .before .before .before .before .enum-told4 .given .1) _) (c .before .before .accept-operation3 .ensures)
+    accepts (callForm (a .args .kind) (a .args .x) (a .args .y) (namedIn (a .args .to))) _ (a .args .image .now) _ _ (a .pre .1 .form) (a .pre .0) (λ i. c .slice-known5 .given i .fits) (labelled-as (a .args .kind) Unlink (a .args .x) (a .args .y) (namedIn (a .args .to)) (c .before .before .before .before .enum-told4 .given .1) _) (c .before .before .accept-operation3 .ensures)
 
 same-length-5 : tie.Need-same-length-5
 same-length-5 c = search needs
@@ -120,7 +120,7 @@ same-length-5 c = search needs
 returns-5 : tie.Need-returns-5
 returns-5 c =
     let a = c .before .before .before .before .before .before .before in
-    accepts (callForm (a .args .kind) (a .args .x) (a .args .y) (listed (a .args .to))) _ (a .args .image .now) _ _ (a .pre .1 .form) (a .pre .0) (λ i. c .slice-known6 .given i .fits) (labelled-as (a .args .kind) Sum (a .args .x) (a .args .y) (listed (a .args .to)) (c .before .before .before .before .enum-told5 .given .1) _) (c .before .before .accept-operation4 .ensures)
+    accepts (callForm (a .args .kind) (a .args .x) (a .args .y) (namedIn (a .args .to))) _ (a .args .image .now) _ _ (a .pre .1 .form) (a .pre .0) (λ i. c .slice-known6 .given i .fits) (labelled-as (a .args .kind) Sum (a .args .x) (a .args .y) (namedIn (a .args .to)) (c .before .before .before .before .enum-told5 .given .1) _) (c .before .before .accept-operation4 .ensures)
 
 same-length-6 : tie.Need-same-length-6
 same-length-6 c = search needs
@@ -128,7 +128,7 @@ same-length-6 c = search needs
 returns-6 : tie.Need-returns-6
 returns-6 c =
     let a = c .before .before .before .before .before .before .before in
-    accepts (callForm (a .args .kind) (a .args .x) (a .args .y) (listed (a .args .to))) _ (a .args .image .now) _ _ (a .pre .1 .form) (a .pre .0) (λ i. c .slice-known7 .given i .fits) (labelled-as (a .args .kind) Top (a .args .x) (a .args .y) (listed (a .args .to)) (c .before .before .before .before .enum-told6 .given .1) _) (c .before .before .accept-operation5 .ensures)
+    accepts (callForm (a .args .kind) (a .args .x) (a .args .y) (namedIn (a .args .to))) _ (a .args .image .now) _ _ (a .pre .1 .form) (a .pre .0) (λ i. c .slice-known7 .given i .fits) (labelled-as (a .args .kind) Top (a .args .x) (a .args .y) (namedIn (a .args .to)) (c .before .before .before .before .enum-told6 .given .1) _) (c .before .before .accept-operation5 .ensures)
 
 same-length-7 : tie.Need-same-length-7
 same-length-7 c = search needs
@@ -136,7 +136,7 @@ same-length-7 c = search needs
 returns-7 : tie.Need-returns-7
 returns-7 c =
     let a = c .before .before .before .before .before .before .before in
-    accepts (callForm (a .args .kind) (a .args .x) (a .args .y) (listed (a .args .to))) _ (a .args .image .now) _ _ (a .pre .1 .form) (a .pre .0) (λ i. c .slice-known8 .given i .fits) (labelled-as (a .args .kind) Pick (a .args .x) (a .args .y) (listed (a .args .to)) (c .before .before .before .before .enum-told7 .given .1) _) (c .before .before .accept-operation6 .ensures)
+    accepts (callForm (a .args .kind) (a .args .x) (a .args .y) (namedIn (a .args .to))) _ (a .args .image .now) _ _ (a .pre .1 .form) (a .pre .0) (λ i. c .slice-known8 .given i .fits) (labelled-as (a .args .kind) Pick (a .args .x) (a .args .y) (namedIn (a .args .to)) (c .before .before .before .before .enum-told7 .given .1) _) (c .before .before .accept-operation6 .ensures)
 
 same-length-8 : tie.Need-same-length-8
 same-length-8 c = search needs
@@ -144,7 +144,7 @@ same-length-8 c = search needs
 returns-8 : tie.Need-returns-8
 returns-8 c =
     let a = c .before .before .before .before .before .before .before in
-    accepts (callForm (a .args .kind) (a .args .x) (a .args .y) (listed (a .args .to))) _ (a .args .image .now) _ _ (a .pre .1 .form) (a .pre .0) (λ i. c .slice-known9 .given i .fits) (labelled-as (a .args .kind) Near (a .args .x) (a .args .y) (listed (a .args .to)) (c .before .before .before .before .enum-told8 .given .1) _) (c .before .before .accept-operation7 .ensures)
+    accepts (callForm (a .args .kind) (a .args .x) (a .args .y) (namedIn (a .args .to))) _ (a .args .image .now) _ _ (a .pre .1 .form) (a .pre .0) (λ i. c .slice-known9 .given i .fits) (labelled-as (a .args .kind) Near (a .args .x) (a .args .y) (namedIn (a .args .to)) (c .before .before .before .before .enum-told8 .given .1) _) (c .before .before .accept-operation7 .ensures)
 
 same-length-9 : tie.Need-same-length-9
 same-length-9 c = search needs
@@ -152,8 +152,8 @@ same-length-9 c = search needs
 returns-9 : tie.Need-returns-9
 returns-9 c =
     let a = c .before .before .before .before .before .before .before .before in
-    accepts (callForm (a .args .kind) (a .args .x) (a .args .y) (listed (a .args .to))) _ (a .args .image .now) _ _ (a .pre .1 .form) (a .pre .0) (λ i. c .slice-known10 .given i .fits)
-    (unmap-as (a .args .kind) (a .args .x) (a .args .y) (listed (a .args .to)) (c .before .before .before .before .before .enum-told9 .given .1) _ (c .before .before .before .inverse .ensures) _)
+    accepts (callForm (a .args .kind) (a .args .x) (a .args .y) (namedIn (a .args .to))) _ (a .args .image .now) _ _ (a .pre .1 .form) (a .pre .0) (λ i. c .slice-known10 .given i .fits)
+    (unmap-as (a .args .kind) (a .args .x) (a .args .y) (namedIn (a .args .to)) (c .before .before .before .before .before .enum-told9 .given .1) _ (c .before .before .before .inverse .ensures) _)
     (c .before .before .accept-operation8 .ensures)
 
 pub accept-spec : {M : Type 1} → statement M
