@@ -8,10 +8,13 @@ use mathlib.Core.List.{List, [], _∷_, _++_}
 use lib.Dec.{leb}
 use lib.ListN.{length}
 use borrow.Author.Tests.{leb-false}
+use Rattle.graph.specs.Targets.{To, named, whole, untouched}
+use Rattle.graph.specs.Packed.{packedTargets}
 use Rattle.graph.specs.Calls.{Call, formTests}
 use Rattle.graph.specs.OneAtATime.{isAdd, Labelled, labelled, isOp}
 use Rattle.graph.specs.Refusals.{Answer, refused, done, Test, on, unless}
 use Rattle.graph.specs.RefusalOrder.{firstOf}
+use Rattle.graph.proofs.KeyLaws.{listed-packed}
 use Rattle.graph.proofs.Validity.{Sort, adds, operates, sort}
 use Rattle.graph.proofs.Sequences.{forms-positive, none-applies, unless-passed}
 use Rattle.flat.specs.Flat.{Flat}
@@ -20,8 +23,13 @@ use Rattle.flat.specs.Inner.FlatSteps.{withQueue}
 use Rattle.flat.specs.Inner.FlatEvents.{flatAccept, acceptedAs}
 use Rattle.state.specs.Inner.State.{flatIn, Shows, withLast}
 use Rattle.state.specs.Inner.ValidImage.{ValidImage, Works}
-use Rattle.calls.specs.Inner.Accepting.{flatLiveTests, flatAcceptRest}
+use Rattle.calls.specs.Inner.Accepting.{namedIn, flatLiveTests, flatAcceptRest}
 use Rattle.calls.proofs.Room.{queue-room}
+
+-- what the line named is told from the struct of its targets
+pub named-back : (to : To) → namedIn (packedTargets (untouched to)) ≡ to
+named-back (named ts) = ap named (listed-packed ts)
+named-back whole = refl
 
 -- THE TESTS
 abbrev spent : Flat → Bool

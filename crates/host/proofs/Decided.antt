@@ -2,19 +2,20 @@
 -- Assumes nothing.
 use mathlib.Core.Path.{_≡_, refl, ap, subst, _∙_}
 use Prim.Native.Nat.{ℕ, suc, _+_, _≤_, _<_}
-use mathlib.Core.Bool.{Bool, true, false, false≢true}
+use mathlib.Core.Bool.{Bool, true, false, not, false≢true}
 use mathlib.Core.List.{List, [], _∷_}
 use lib.Dec.{eqb, leb, ltb}
 use lib.ListN.{length}
-use borrow.Author.Tests.{leb-true, le-leb, ltb-true, lt-ltb, eqb-true, eq-eqb}
+use borrow.Author.Tests.{leb-true, le-leb, ltb-true, lt-ltb, eqb-true, eq-eqb, not-true}
 use Rattle.graph.specs.declared.act.Act.{Act}
 use Rattle.graph.specs.declared.act.Act.the-variants.{Map, Link, Unlink, Sum, Top, Pick, Near}
 use Rattle.graph.specs.Words.{modulus}
 use Rattle.graph.specs.KeyLists.{isKey, areKeys, rising}
+use Rattle.graph.specs.Targets.{Targets, these, all, isMarked}
 use Rattle.graph.specs.Nodes.{Node, Op, Result}
 use Rattle.graph.specs.OneAtATime.{Labelled, addOf, opOf}
 use Rattle.graph.specs.Sessions.{Station, Session, live, addsIn, labelsOfResults}
-use Rattle.graph.specs.Valid.{Each, ValidTargets, ValidNode, ValidAct, ValidHeld, mostLabels, ValidOp, ValidUnit, ValidStation, ValidCall, ValidResult, KeysFall, Valid}
+use Rattle.graph.specs.Valid.{Each, ValidTargets, ValidRemaining, ValidNode, ValidAct, ValidHeld, mostLabels, ValidOp, ValidUnit, ValidStation, ValidCall, ValidResult, KeysFall, Valid}
 use Rattle.lines.proofs.Decided.{Decision, is, isNot, Decided, one, none, same-bytes}
 use Rattle.valid.specs.Inner.Tests.{givenOnce}
 use Rattle.valid.specs.Values.{encode}
@@ -57,6 +58,10 @@ targets ts =
     by (λ h. record { few = h .0; keys = h .1 .0; rise = h .1 .1 }) (λ v. (v .few, (v .keys, v .rise)))
     (both (at-most (length ts) 8) (both (by-test (areKeys ts)) (by-test (rising ts))))
 
+remaining : (t : Targets) → Decision (ValidRemaining t)
+remaining (these ts) = targets ts
+remaining (all mark) = is tt
+
 node : (n : Node) → Decision (ValidNode n)
 node n =
     by (λ h. record { value = h .0; few = h .1 .0; keys = h .1 .1 }) (λ v. (v .value, (v .few, v .keys)))
@@ -83,7 +88,7 @@ held (Near k) h = below h modulus
 operation : (o : Op) → Decision (ValidOp o)
 operation o =
     by (λ h. record { act = h .0; held = h .1 .0; targets = h .1 .1 .0; named = h .1 .1 .1 .0; few = h .1 .1 .1 .1 }) (λ v. (v .act, (v .held, (v .targets, (v .named, v .few)))))
-    (both (act (o .act)) (both (held (o .act) (o .held)) (both (targets (o .targets)) (both (at-most 1 (length (o .labels))) (at-most (length (o .labels)) (mostLabels (o .act)))))))
+    (both (act (o .act)) (both (held (o .act) (o .held)) (both (remaining (o .targets)) (both (at-most 1 (length (o .labels))) (at-most (length (o .labels)) (mostLabels (o .act)))))))
 
 unit : (u : List Op) → Decision (ValidUnit u)
 unit u = by (λ h. record { some = h .0; ops = h .1 }) (λ v. (v .some, v .ops)) (both (at-most 1 (length u)) (each ValidOp operation u))
@@ -93,7 +98,8 @@ station s = by (λ h. record { node = h .0; units = h .1 }) (λ v. (v .node, v .
 
 call : (c : Labelled) → Decision (ValidCall c)
 call (addOf l v) = below v modulus
-call (opOf o) = operation o
+call (opOf o) =
+    by (λ h. record { op = h .0; unmarked = not-true (isMarked (o .targets)) (h .1) }) (λ v. (v .op, ap not (v .unmarked))) (both (operation o) (by-test (not (isMarked (o .targets)))))
 
 result : (r : Result) → Decision (ValidResult r)
 result r = by (λ h. record { value = h .0; left = h .1 }) (λ v. (v .value, v .left)) (both (below (r .value) modulus) (targets (r .left)))

@@ -1,6 +1,6 @@
 // A call line, accepted with its label or refused.
 use crate::lent::image_refusal;
-use graph::keys::Keys;
+use graph::remaining::Remaining;
 use lines::call::CallAnswer;
 use lines::call::CallKind;
 use lines::call::parse_call;
@@ -11,18 +11,18 @@ use state::results::last;
 use text::cut::part_to;
 ghost use mathlib.Core.Path.{_≡_};
 ghost use Rattle.graph.specs.Acceptance.{accept};
-ghost use Rattle.graph.specs.Packed.{listed};
 ghost use Rattle.lines.specs.Forms.{lineAt};
 ghost use Rattle.lines.specs.Inner.Answers.{callForm};
 ghost use Rattle.panel.specs.Returned.{returnedNumber};
 ghost use Rattle.valid.specs.Inner.Decoded.{sessionOf};
+ghost use Rattle.calls.specs.Inner.Accepting.{namedIn};
 ghost use Rattle.session.specs.Inner.Accepts.{Good};
 ghost use Rattle.host.specs.Entries.{ImageOf, callServed, Calls};
 
 // The acceptance of a call that was read, on the image of a session.
-fn accept_call(image: &mut [u8], kind: CallKind, x: u32, y: u32, to: Keys) -> Returned
-    requires { ⌜ (ImageOf (now image) (sessionOf (now image))) × (Good (callForm kind x y (listed to)) to) ⌝ }
-    ensures { λ r. ⌜ record { answer = returnedNumber r; image = now (image .exit) } ≡ callServed (now (image .entry)) (accept (callForm kind x y (listed to)) (sessionOf (now (image .entry)))) ⌝ }
+fn accept_call(image: &mut [u8], kind: CallKind, x: u32, y: u32, to: Remaining) -> Returned
+    requires { ⌜ (ImageOf (now image) (sessionOf (now image))) × (Good (callForm kind x y (namedIn to)) to) ⌝ }
+    ensures { λ r. ⌜ record { answer = returnedNumber r; image = now (image .exit) } ≡ callServed (now (image .entry)) (accept (callForm kind x y (namedIn to)) (sessionOf (now (image .entry)))) ⌝ }
 {
     let n = accept(image, kind, x, y, to);
     if n != 0 {

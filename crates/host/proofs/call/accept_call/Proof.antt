@@ -1,8 +1,8 @@
 -- Each answer is a case of what the session makes of the call.
 -- Assumes nothing.
 use Rattle.graph.specs.Calls.{Call}
-use Rattle.graph.specs.Packed.{listed}
 use Rattle.lines.specs.Inner.Answers.{callForm}
+use Rattle.calls.specs.Inner.Accepting.{namedIn}
 use Rattle.host.proofs.Entering.{session-valid}
 use Rattle.host.proofs.Calling.{not-accepted, is-accepted}
 use borrow.Author.Needs.{needs}
@@ -11,7 +11,7 @@ use Rattle.host.proofs.call.accept_call.Tie as tie
 
 -- the call that is accepted
 abbrev called : tie.Start → Call
-called c = callForm (c .args .kind) (c .args .x) (c .args .y) (listed (c .args .to))
+called c = callForm (c .args .kind) (c .args .x) (c .args .y) (namedIn (c .args .to))
 
 accept-requires : tie.Need-accept-requires
 accept-requires c κs = (session-valid (c .before .before .pre .0), c .before .before .pre .1)
