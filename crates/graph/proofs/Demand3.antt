@@ -352,6 +352,19 @@ demand3 es =
 pub accepted-formed : (es : List Event) → Each FormFits ((run es) .accepted)
 accepted-formed es = good-events es start good-start .formed
 
+-- the accepted calls make at most 64 nodes, one at a time: a drain leaves them in a valid session
+graph-length : (ss : List Station) → length (graphOf ss) ≡ length ss
+graph-length [] = refl
+graph-length (s ∷ ss) = ap suc (graph-length ss)
+
+pub accepted-nodes : (es : List Event) → length ((oneAtATime ((run es) .accepted)) .nodes) ≤ 64
+accepted-nodes es =
+    let x = run es in
+    let g = good-events es start good-start in
+    let end = events (drains ∷ []) x in
+    let d = good-events (drains ∷ []) x g in
+    omega (arith, ap length (graph-same end d (drain-ends (x .now) (g .valid))), graph-length (end .now .stations), d .valid .room)
+
 -- a label stands once: among the results that were claimed, or in the session
 pub label-once : (es : List Event) (l : ℕ) → count l (labelsOfResults ((run es) .claimed)) + count l (live ((run es) .now)) ≤ 1
 label-once es l =

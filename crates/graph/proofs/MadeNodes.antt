@@ -5,20 +5,25 @@ use mathlib.Core.Path.{_≡_, refl, sym, _∙_, ap}
 use Prim.Native.Nat.{ℕ, suc, _<_, _≤_}
 use native.Mathlib.Omega.{arith}
 use mathlib.Core.Bool.{Bool, true, false, cond}
-use mathlib.Core.List.{List, [], _∷_}
+use mathlib.Core.List.{List, [], _∷_, _++_}
 use lib.ListN.{length}
 use Rattle.graph.specs.KeyLists.{contains, strike}
 use Rattle.graph.specs.declared.act.Act.{Act}
 use Rattle.graph.specs.Acts.{newHeld}
 use Rattle.graph.specs.Targets.{To, named, whole, isTarget, untouched}
-use Rattle.graph.specs.Calls.{Call}
+use Rattle.graph.specs.Calls.{Call, toOf}
 use Rattle.graph.specs.Nodes.{Node, Op, hits, actOn, actBy, onward, visitNode, visitOp}
-use Rattle.graph.specs.OneAtATime.{World, labelled, passNodes, process, processFrom}
+use Rattle.graph.specs.OneAtATime.{World, labelled, passNodes, process, processFrom, oneAtATime}
 use Rattle.graph.specs.CallResults.{nodesAfter, targeted}
 use Rattle.graph.proofs.Striking.{contains-strike}
 use Rattle.graph.proofs.Meeting.{visit-key}
 use Rattle.graph.proofs.Limits.{short-links}
 use Rattle.graph.proofs.Validity.{Sort, adds, operates, sort}
+use Rattle.graph.proofs.Demand3.{oneAtATime-append}
+
+-- the operation of a call that waits
+abbrev pub op : Act → ℕ → To → List ℕ → Op
+op a h to ls = record { act = a; held = h; targets = untouched to; labels = ls }
 
 abbrev pub Made : List Node → Type 0
 Made [] = Unit {0}
@@ -47,13 +52,25 @@ made-from : (l : ℕ) (cs : List Call) (x : World) → Made (x .nodes) → Made 
 made-from l [] x h = h
 made-from l (c ∷ cs) x h = made-from (suc l) cs (process (labelled c l) x) (made-process c l x h)
 
+-- no call takes a node away
+process-grows : (c : Call) (l : ℕ) (x : World) → length (x .nodes) ≤ length ((process (labelled c l) x) .nodes)
+process-grows c l x = go (sort c l)
+  where
+    go : Sort c l → length (x .nodes) ≤ length ((process (labelled c l) x) .nodes)
+    go (adds v i e) = rw e (omega arith)
+    go (operates a v i e) = rw e (omega (arith, pass-length (op a v (toOf c) (l ∷ [])) (x .nodes)))
+
+grows-from : (l : ℕ) (cs : List Call) (x : World) → length (x .nodes) ≤ length ((processFrom l cs x) .nodes)
+grows-from l [] x = omega arith
+grows-from l (c ∷ cs) x = omega (arith, process-grows c l x, grows-from (suc l) cs (process (labelled c l) x))
+
+pub nodes-grow : (before later : List Call) → length (nodesAfter before) ≤ length (nodesAfter (before ++ later))
+nodes-grow before later = omega (arith, grows-from (suc (length before)) later (oneAtATime before), ap (λ (y : World). length (y .nodes)) (oneAtATime-append before later))
+
 pub made : (cs : List Call) → Made (nodesAfter cs)
 made cs = made-from 1 cs _ tt
 
--- A CALL'S OPERATION
-abbrev pub op : Act → ℕ → To → List ℕ → Op
-op a h to ls = record { act = a; held = h; targets = untouched to; labels = ls }
-
+-- A CALL'S OPERATION meets them
 -- the call's targets past a node that it acted at
 abbrev pub past : ℕ → To → To
 past k (named ts) = named (strike k ts)

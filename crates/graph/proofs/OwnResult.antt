@@ -1,5 +1,5 @@
--- The value of a label's result, of one-at-a-time processing: that of what its operation holds after the nodes that the calls before
--- made. Assumes nothing.
+-- A label's result, of one-at-a-time processing: what its operation stores after the nodes that the calls before made.
+-- Assumes nothing.
 use mathlib.Core.Path.{_≡_, refl, sym, _∙_, ap}
 use Prim.Native.Nat.{ℕ, suc, _+_, _≤_}
 use native.Mathlib.Omega.{arith}
@@ -53,10 +53,14 @@ earlier-miss m l (c ∷ cs) x h e =
     earlier-miss m (suc l) cs (process (labelled c l) x) (omega arith) (find-after m (x .results) (a .result ∷ []) none (a .more) e ∙ find-skip m (a .result) [] (λ q. omega (arith, a .label, q)))
 
 module _ (a : Act) (h : ℕ) (to : To) where
-  pub own-value : (before later : List Call) (c : Call) → ((m : ℕ) → labelled c m ≡ operation a h to m) →
+  -- the operation of the call that comes after those before, past the nodes that they made
+  abbrev pub past-nodes : List Call → Op
+  past-nodes before = passOp (op a h to (suc (length before) ∷ [])) (nodesAfter before)
+
+  pub own-result : (before later : List Call) (c : Call) → ((m : ℕ) → labelled c m ≡ operation a h to m) →
       (r : Result) → resultOfLabel (suc (length before)) ((oneAtATime (before ++ (c ∷ later))) .results) ≡ some r →
-      r .value ≡ resultValue a ((passOp (op a h to (suc (length before) ∷ [])) (nodesAfter before)) .held)
-  own-value before later c is r e =
+      record { label = suc (length before); value = resultValue (past-nodes before .act) (past-nodes before .held); left = leftOf (past-nodes before .targets) } ≡ r
+  own-result before later c is r e =
       let m : ℕ = suc (length before) in
       let x : World = oneAtATime before in
       let q : Op = passOp (op a h to (m ∷ [])) (x .nodes) in
@@ -64,5 +68,10 @@ module _ (a : Act) (h : ℕ) (to : To) where
       let new : (process (labelled c m) x) .results ≡ x .results ++ (own ∷ []) = rw (is m, pass-labels (op a h to (m ∷ [])) (x .nodes)) in
       let none-yet : resultOfLabel m (x .results) ≡ none = earlier-miss m 1 before _ (omega arith) refl in
       let found : resultOfLabel m ((process (labelled c m) x) .results) ≡ some own = find-after m (x .results) (own ∷ []) none new none-yet ∙ find-here m own [] refl in
-      let same : own ≡ r = some-same (sym (later-keep m (suc m) later (process (labelled c m) x) own found) ∙ sym (ap (λ (y : World). resultOfLabel m (y .results)) (oneAtATime-append before (c ∷ later))) ∙ e) in
-      sym (ap (λ (y : Result). y .value) same) ∙ ap (λ (b : Act). resultValue b (q .held)) (pass-act (op a h to (m ∷ [])) (x .nodes))
+      some-same (sym (later-keep m (suc m) later (process (labelled c m) x) own found) ∙ sym (ap (λ (y : World). resultOfLabel m (y .results)) (oneAtATime-append before (c ∷ later))) ∙ e)
+
+  pub own-value : (before later : List Call) (c : Call) → ((m : ℕ) → labelled c m ≡ operation a h to m) →
+      (r : Result) → resultOfLabel (suc (length before)) ((oneAtATime (before ++ (c ∷ later))) .results) ≡ some r → r .value ≡ resultValue a (past-nodes before .held)
+  own-value before later c is r e =
+      sym (ap (λ (y : Result). y .value) (own-result before later c is r e))
+      ∙ ap (λ (b : Act). resultValue b (past-nodes before .held)) (pass-act (op a h to (suc (length before) ∷ [])) (nodesAfter before))

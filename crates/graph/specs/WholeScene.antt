@@ -1,4 +1,5 @@
--- Calls over the whole scene (S-3): one-at-a-time processing of an all-call, said without marks. proofs/WholeScene.antt proves it.
+-- Calls over the whole scene (S-3): one-at-a-time processing of an all-call, said without marks. proofs/WholeScene.antt proves it, and
+-- runs/proofs/CallResults.antt what is said of the result, of every list of lines sent to a fresh session.
 -- Assumes nothing.
 use Prim.Native.Nat.{ℕ}
 use mathlib.Core.Path.{_≡_}
@@ -6,8 +7,10 @@ use mathlib.Core.List.{List, [], _∷_, _++_}
 use Rattle.graph.specs.declared.act.Act.{Act}
 use Rattle.graph.specs.Acts.{newValue, newLinks, newHeld, resultValue}
 use Rattle.graph.specs.Targets.{whole}
-use Rattle.graph.specs.Nodes.{Node}
+use Rattle.graph.specs.Calls.{Call}
+use Rattle.graph.specs.Nodes.{Node, Result}
 use Rattle.graph.specs.OneAtATime.{operation, World, process}
+use Rattle.graph.specs.CallResults.{nodesAfter}
 
 -- the nodes after the act at each of them, and what the call holds after the last, where it holds h at first
 abbrev pub everyNode : Act → List Node → List Node
@@ -26,3 +29,8 @@ ActsAtEveryNode =
       nodes = everyNode a (x .nodes);
       results = x .results ++ (record { label = l; value = resultValue a (heldThrough a h (x .nodes)); left = [] } ∷ []);
     }
+
+-- the result of an all-call that does a and holds h at first, by the nodes as the calls before leave them
+pub record WholeResult (before : List Call) (a : Act) (h : ℕ) (r : Result) : Type 0 where
+  pub value : r .value ≡ resultValue a (heldThrough a h (nodesAfter before))
+  pub left : r .left ≡ []

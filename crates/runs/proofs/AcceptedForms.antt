@@ -1,4 +1,5 @@
--- The calls that the accepted lines are the texts of pass the tests of their forms, and no accepted line has more than 63 bytes.
+-- The calls that the accepted lines are the texts of pass the tests of their forms, and make at most 64 nodes; and no accepted line has more
+-- than 63 bytes.
 -- Assumes nothing.
 use mathlib.Core.Path.{refl, subst, ap}
 use Prim.Native.Nat.{ℕ, _≤_}
@@ -7,9 +8,10 @@ use mathlib.Core.List.{List}
 use lib.ListN.{length}
 use Rattle.graph.specs.Calls.{Call}
 use Rattle.graph.specs.EventRuns.{EventRun}
+use Rattle.graph.specs.CallResults.{nodesAfter}
 use Rattle.graph.specs.Valid.{Each}
 use Rattle.graph.proofs.Validity.{FormFits}
-use Rattle.graph.proofs.Demand3.{accepted-formed}
+use Rattle.graph.proofs.Demand3.{accepted-formed, accepted-nodes}
 use Rattle.lines.proofs.Lengths.{call-short}
 use Rattle.runs.specs.Runs.{Sent, Runs, opening, acceptedLines, TextsOf, noLine, aLine}
 use Rattle.runs.proofs.Demand3.{to}
@@ -19,6 +21,11 @@ pub lines-formed : (es : List Sent) (h : Runs opening es) (cs : List Call) → T
 lines-formed es h cs t =
     subst (Each FormFits) (texts-same refl (to es h .texts) t)
     (subst (λ (x : EventRun). Each FormFits (x .accepted)) (to es h .moved) (accepted-formed (to es h .made)))
+
+pub lines-nodes : (es : List Sent) (h : Runs opening es) (cs : List Call) → TextsOf (acceptedLines es) cs → length (nodesAfter cs) ≤ 64
+lines-nodes es h cs t =
+    subst (λ (ds : List Call). length (nodesAfter ds) ≤ 64) (texts-same refl (to es h .texts) t)
+    (subst (λ (x : EventRun). length (nodesAfter (x .accepted)) ≤ 64) (to es h .moved) (accepted-nodes (to es h .made)))
 
 lines-short : {lines : List (List ℕ)} {cs : List Call} → TextsOf lines cs → Each FormFits cs → Each (λ (line : List ℕ). length line ≤ 63) lines
 lines-short noLine h = tt

@@ -19,7 +19,7 @@ use Rattle.graph.specs.Steps as graph
 use Rattle.graph.specs.Allowed.{allowed}
 use Rattle.graph.specs.Drain.{Drained, drain}
 use Rattle.graph.specs.EventRuns.{EventRun, start}
-use Rattle.graph.specs.Counts.{resultOfLabel, ofKind, quotedSteps}
+use Rattle.graph.specs.Counts.{resultOfLabel, ofKind, quotedSteps, quoted}
 use Rattle.graph.specs.EventRuns as graphRuns
 use Rattle.graph.specs.Valid.{Each, Given, Valid}
 use Rattle.graph.proofs.Answers.{isDone, by-bool}
@@ -160,14 +160,14 @@ module _ (es : List Sent) (h : Runs opening es) where
             };
       })
 
-  bounded : quotedSteps (to .steps) ≤ 73 * length (acceptedLines es)
-  bounded = omega (arith, d .bound, d .labels, size)
+  bounded : quotedSteps (to .steps) ≤ quoted (to .calls)
+  bounded = d .bound
 
   tallied : OneTally zeros es → lastTally zeros es ≡ each (λ k c. upBy c (ofKind k (to .steps))) zeros
   tallied o = to .tally zeros o ∙ counted-kinds zeros (to .steps) refl
 
-  small : quotedSteps (to .steps) ≤ 4784055
-  small = omega (arith, bounded, size, v .labels)
+  small : quotedSteps (to .steps) ≤ 8454015
+  small = omega (arith, bounded, sessions.quoted-most (to .calls), d .labels, v .labels)
 
   one-by-one : StepLines (encode ((drain s) .end)) (after opening es) ((drain s) .took)
   one-by-one =

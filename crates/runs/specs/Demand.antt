@@ -1,6 +1,6 @@
 -- Demand 3, of a list of lines sent to a fresh session: one record, a field for each clause.
 -- Assumes nothing.
-use Prim.Native.Nat.{ℕ, _*_, _≤_}
+use Prim.Native.Nat.{ℕ, _≤_}
 use mathlib.Core.Path.{_≡_}
 use mathlib.Core.Bool.{true}
 use mathlib.Core.List.{List, [], _∷_}
@@ -13,7 +13,7 @@ use Rattle.graph.specs.OneAtATime.{oneAtATime}
 use Rattle.graph.specs.Sessions.{Session}
 use Rattle.graph.specs.Steps.{Step}
 use Rattle.graph.specs.Drain.{drain}
-use Rattle.graph.specs.Counts.{resultOfLabel, ofKind, quotedSteps}
+use Rattle.graph.specs.Counts.{resultOfLabel, ofKind, quotedSteps, quoted}
 use Rattle.lines.specs.Forms.{work, drainForm, stepText, IsClaim}
 use Rattle.print.specs.Printed.{resultText}
 use Rattle.panel.specs.declared.tally.Tally.{Tally}
@@ -95,12 +95,13 @@ pub record Demand3 (es : List Sent) : Type 0 where
   pub graph : NonePending es → GraphOf (after opening es) ((oneAtATime calls) .nodes)
   -- "While a call is pending, an admit, realise, move or finish is allowed."
   pub progress : (l : ℕ) → Pending (after opening es) l → Progress (after opening es)
-  -- the steps taken, and at most 73 of the four kinds for each call accepted
+  -- the steps taken, and of the four kinds at most what "the licence then quotes" (S-3): "129 steps for an all-call and 73 for another, summed
+  -- over the calls accepted"
   pub steps : List Step
   pub taken : TakenBy opening es steps
-  pub bound : quotedSteps steps ≤ 73 * length (acceptedLines es)
-  -- "which stays far below resting": 73 × 65,535
-  pub below : quotedSteps steps ≤ 4784055
+  pub bound : quotedSteps steps ≤ quoted calls
+  -- "which stays far below resting": 129 × 65,535
+  pub below : quotedSteps steps ≤ 8454015
   -- "With one tally, zeros at the start .., each of these four kinds' number equals its count there"
   pub tally :
       OneTally zeros es
