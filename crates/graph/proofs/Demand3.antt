@@ -13,7 +13,7 @@ use lib.ListN.{length, length-append}
 use borrow.Author.Tests.{eqb-true, eqb-false, ne-eqb, eq-eqb}
 use Rattle.graph.specs.Refusals.{Answer, refused, done}
 use Rattle.graph.specs.KeyLists.{contains, count, sameKeys}
-use Rattle.graph.specs.Targets.{To, named, whole, listedIn, untouched}
+use Rattle.graph.specs.Targets.{To, named, whole, keysListed, untouched}
 use Rattle.graph.specs.Calls.{Call, toOf}
 use Rattle.graph.specs.Nodes.{Node, Op, Result, visitOp, stored}
 use Rattle.graph.specs.OneAtATime.{Labelled, labelled, World, passOp, process, processFrom, oneAtATime}
@@ -116,7 +116,7 @@ quoted-most (c ∷ cs) = go (toOf c) (quoted-most cs)
     go whole h = omega arith
 
 -- 73 = 65 + 8
-quote-covers : (to : To) → length (listedIn to) ≤ 8 → waitingTo (untouched to) ≤ quoteFor to
+quote-covers : (to : To) → length (keysListed to) ≤ 8 → waitingTo (untouched to) ≤ quoteFor to
 quote-covers (named ts) h = omega arith
 quote-covers whole h = omega arith
 

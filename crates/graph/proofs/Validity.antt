@@ -12,7 +12,7 @@ use Rattle.graph.specs.declared.act.Act.{Act}
 use Rattle.graph.specs.Refusals.{Answer, refused, done, mapDone, Test, unless}
 use Rattle.graph.specs.Words.{modulus, areWords}
 use Rattle.graph.specs.KeyLists.{isKey, areKeys, above, rising, contains, count}
-use Rattle.graph.specs.Targets.{To, named, whole, listedIn, untouched, isMarked}
+use Rattle.graph.specs.Targets.{To, named, whole, keysListed, untouched, isMarked}
 use Rattle.graph.specs.Calls.{Call, add, map, link, unlink, sum, top, pick, near, unmap, numbersOf, operandsOf, toOf, targetsOf, lacksInverse, formTests}
 use Rattle.graph.specs.OneAtATime.{isAdd, Labelled, addOf, opOf, operation, labelled}
 use Rattle.graph.specs.Nodes.{Op, Result, addResult}
@@ -306,7 +306,7 @@ accept-fits c s = holds-unless (callTests c s) (accepted c s) (λ h. (
 word : (v : ℕ) (vs : List ℕ) → areWords (v ∷ vs) ≡ true → v < modulus
 word v vs e = ltb-true v modulus (and-left _ _ e)
 
-valid-untouched : (to : To) → ValidTargets (listedIn to) → ValidRemaining (untouched to)
+valid-untouched : (to : To) → ValidTargets (keysListed to) → ValidRemaining (untouched to)
 valid-untouched (named ts) h = h
 valid-untouched whole h = tt
 
@@ -314,7 +314,7 @@ untouched-unmarked : (to : To) → isMarked (untouched to) ≡ false
 untouched-unmarked (named ts) = refl
 untouched-unmarked whole = refl
 
-valid-operation : (a : Act) (h : ℕ) (to : To) (l : ℕ) → ValidAct a → ValidHeld a h → 1 ≤ mostLabels a → areKeys (listedIn to) ≡ true → length (listedIn to) ≤ 8 → rising (listedIn to) ≡ true → ValidCall (operation a h to l)
+valid-operation : (a : Act) (h : ℕ) (to : To) (l : ℕ) → ValidAct a → ValidHeld a h → 1 ≤ mostLabels a → areKeys (keysListed to) ≡ true → length (keysListed to) ≤ 8 → rising (keysListed to) ≡ true → ValidCall (operation a h to l)
 valid-operation a h to l va vh m k f r = record {
   op = record { act = va; held = vh; targets = valid-untouched to (record { few = f; keys = k; rise = r }); named = omega arith; few = m };
   unmarked = untouched-unmarked to;
@@ -322,13 +322,13 @@ valid-operation a h to l va vh m k f r = record {
 
 valid-labelled : (c : Call) (l : ℕ) → FormFits c → ValidCall (labelled c l)
 valid-labelled (add v) l f = word v [] (f .words)
-valid-labelled (map a b to) l f = valid-operation _ 0 to l (word a (b ∷ listedIn to) (f .words), word b (listedIn to) (and-right (ltb a modulus) _ (f .words))) refl (omega arith) (f .keys) (f .few) (f .rise)
+valid-labelled (map a b to) l f = valid-operation _ 0 to l (word a (b ∷ keysListed to) (f .words), word b (keysListed to) (and-right (ltb a modulus) _ (f .words))) refl (omega arith) (f .keys) (f .few) (f .rise)
 valid-labelled (link k to) l f = valid-operation _ 0 to l (and-left _ _ (f .keys)) (lit≤ tt) (omega arith) (and-right (isKey k) _ (f .keys)) (f .few) (f .rise)
 valid-labelled (unlink k to) l f = valid-operation _ 0 to l (and-left _ _ (f .keys)) (lit≤ tt) (omega arith) (and-right (isKey k) _ (f .keys)) (f .few) (f .rise)
-valid-labelled (sum x to) l f = valid-operation _ x to l tt (word x (listedIn to) (f .words)) (omega arith) (f .keys) (f .few) (f .rise)
-valid-labelled (top x to) l f = valid-operation _ x to l tt (word x (listedIn to) (f .words)) (omega arith) (f .keys) (f .few) (f .rise)
-valid-labelled (pick x to) l f = valid-operation _ x to l tt (word x (listedIn to) (f .words)) (omega arith) (f .keys) (f .few) (f .rise)
-valid-labelled (near k x to) l f = valid-operation _ x to l (and-left _ _ (f .keys)) (word x (k ∷ listedIn to) (f .words)) (omega arith) (and-right (isKey k) _ (f .keys)) (f .few) (f .rise)
+valid-labelled (sum x to) l f = valid-operation _ x to l tt (word x (keysListed to) (f .words)) (omega arith) (f .keys) (f .few) (f .rise)
+valid-labelled (top x to) l f = valid-operation _ x to l tt (word x (keysListed to) (f .words)) (omega arith) (f .keys) (f .few) (f .rise)
+valid-labelled (pick x to) l f = valid-operation _ x to l tt (word x (keysListed to) (f .words)) (omega arith) (f .keys) (f .few) (f .rise)
+valid-labelled (near k x to) l f = valid-operation _ x to l (and-left _ _ (f .keys)) (word x (k ∷ keysListed to) (f .words)) (omega arith) (and-right (isKey k) _ (f .keys)) (f .few) (f .rise)
 valid-labelled (unmap a b to) l f =
     let i = inverse-fits (record { a = a; b = b }) in
     valid-operation _ 0 to l (i .scale, i .shift) refl (omega arith) (f .keys) (f .few) (f .rise)

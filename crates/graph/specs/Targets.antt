@@ -23,9 +23,9 @@ isTarget k (named ts) = contains k ts
 isTarget k whole = true
 
 -- the keys that the line lists
-abbrev pub listedIn : To → List ℕ
-listedIn (named ts) = ts
-listedIn whole = []
+abbrev pub keysListed : To → List ℕ
+keysListed (named ts) = ts
+keysListed whole = []
 
 -- of a call as it is accepted: nothing is struck, and an all-call has no mark
 abbrev pub untouched : To → Targets

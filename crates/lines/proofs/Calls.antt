@@ -17,7 +17,7 @@ use Rattle.graph.specs.declared.keys.Keys.{Keys}
 use Rattle.graph.specs.declared.remaining.Remaining.{Remaining}
 use Rattle.graph.specs.KeyLists.{isKey, areKeys, rising}
 use Rattle.graph.specs.Packed.{packed, packedTargets}
-use Rattle.graph.specs.Targets.{To, named, whole, listedIn, these, untouched}
+use Rattle.graph.specs.Targets.{To, named, whole, keysListed, these, untouched}
 use Rattle.text.specs.Text.{ascii}
 use Rattle.text.proofs.Splits.{cleanTest, clean-by}
 use Rattle.lines.specs.Forms.{callText, callNumbers}
@@ -143,7 +143,7 @@ answered f i w = by-tests f (areKeys (operandsOf f ++ targetsOf f)) (leb (length
 -- what an answer by targets is, where there is a key before them
 abbrev keyed : Bool → CallKind → ℕ → ℕ → To → CallLine
 keyed b k x y to =
-    cond (b && areKeys (listedIn to)) (cond (leb (length (listedIn to)) 8 && rising (listedIn to)) (callLine k x y to) (refusedCall 12)) (refusedCall 11)
+    cond (b && areKeys (keysListed to)) (cond (leb (length (keysListed to)) 8 && rising (keysListed to)) (callLine k x y to) (refusedCall 12)) (refusedCall 11)
 
 -- of a line without targets
 pub none-listed : {t : Remaining} {keys : Keys} → t ≡ record { all = false; mark = false; keys = keys } → keys ≡ packed [] → t ≡ packedTargets (these [])
@@ -152,7 +152,7 @@ none-listed e k = e ∙ ap (λ (q : Keys). record { all = false; mark = false; k
 pub add-answer : (value : ℕ) → value < modulus → callLine Add value 0 (named []) ≡ callAnswer (add value)
 add-answer value h = sym (answered (add value) refl (h, tt))
 
-pub map-answer : (a b : ℕ) (to : To) → a < modulus → b < modulus → Below (listedIn to) → callMade Map a b to ≡ callAnswer (map a b to)
+pub map-answer : (a b : ℕ) (to : To) → a < modulus → b < modulus → Below (keysListed to) → callMade Map a b to ≡ callAnswer (map a b to)
 map-answer a b to ha hb h = sym (answered (map a b to) refl (ha, (hb, h)))
 
 module _ (a b : ℕ) (to : Remaining) where
@@ -171,7 +171,7 @@ unmapAnswer (Refused n) to = refusedCall n
 unmapAnswer (Is kind a b) to = unmapMade a b to
 
 unmap-answer : (a b : ℕ) (to : To) → unmapAnswer (callAnswer (map a b to) .answer) (callAnswer (map a b to) .to) ≡ callAnswer (unmap a b to)
-unmap-answer a b to = go (areWords (callNumbers (map a b to))) (areKeys (listedIn to)) (leb (length (listedIn to)) 8 && rising (listedIn to)) (isOdd a) refl
+unmap-answer a b to = go (areWords (callNumbers (map a b to))) (areKeys (keysListed to)) (leb (length (keysListed to)) 8 && rising (keysListed to)) (isOdd a) refl
   where
     formed : (p q r odd : Bool) → Call → CallLine
     formed p q r odd f = settled refusedCall callRead (cond (not p) (refused 10) (cond (not q) (refused 11) (cond (not r) (refused 12) (cond (not odd) (refused 40) (done f)))))
@@ -197,7 +197,7 @@ module _ {l : List ℕ} (read r : CallLine) (h : CallAfter Map l read) where
   pub unmap-read : {kind : CallKind} {a b : ℕ} → read .answer ≡ Is kind a b → r ≡ unmapMade a b (read .to) → CallAfter Unmap l r
   unmap-read {kind} {a} {b} = unmap-after (Is kind a b)
 
-module _ (key start : ℕ) (to : To) (hk : key < modulus) (hs : start < modulus) (h : Below (listedIn to)) where
+module _ (key start : ℕ) (to : To) (hk : key < modulus) (hs : start < modulus) (h : Below (keysListed to)) where
   near-by : (b : Bool) → isKey key ≡ b → keyed b Near key start to ≡ callAnswer (near key start to)
   near-by b e = ap (λ (x : Bool). keyed x Near key start to) (sym e) ∙ sym (answered (near key start to) refl (hs, (hk, h)))
 
@@ -225,7 +225,7 @@ module _ (k : CallKind) (is : Links k) where
   pub link-after : {l : List ℕ} {r : CallLine} → OneField (ascii " key=") l r k
   link-after {l} {r} = links (OneField (ascii " key=") l r) (λ h. h) (λ h. h) k is
 
-  module _ (key : ℕ) (to : To) (hk : key < modulus) (h : Below (listedIn to)) where
+  module _ (key : ℕ) (to : To) (hk : key < modulus) (h : Below (keysListed to)) where
     link-by : (b : Bool) → isKey key ≡ b → keyed b k key 0 to ≡ callAnswer (callForm k key 0 to)
     link-by b e =
         ap (λ (x : Bool). keyed x k key 0 to) (sym e)
@@ -241,7 +241,7 @@ module _ (k : CallKind) (is : Starts k) where
   pub start-after : {l : List ℕ} {r : CallLine} → OneField (ascii " start=") l r k
   start-after {l} {r} = starts (OneField (ascii " start=") l r) (λ h. h) (λ h. h) (λ h. h) k is
 
-  pub start-answer : (start : ℕ) (to : To) → start < modulus → Below (listedIn to) → callMade k start 0 to ≡ callAnswer (callForm k start 0 to)
+  pub start-answer : (start : ℕ) (to : To) → start < modulus → Below (keysListed to) → callMade k start 0 to ≡ callAnswer (callForm k start 0 to)
   start-answer start to hs h =
       starts (λ (j : CallKind). callMade j start 0 to ≡ callAnswer (callForm j start 0 to))
       (sym (answered (sum start to) refl (hs, h))) (sym (answered (top start to) refl (hs, h))) (sym (answered (pick start to) refl (hs, h))) k is
@@ -249,13 +249,13 @@ module _ (k : CallKind) (is : Starts k) where
 -- ---- the answer by the targets
 
 -- the targets as `unmarked` makes them
-as-packed : (to : To) → record { all = isWhole to; mark = false; keys = packed (listedIn to) } ≡ packedTargets (untouched to)
+as-packed : (to : To) → record { all = isWhole to; mark = false; keys = packed (keysListed to) } ≡ packedTargets (untouched to)
 as-packed (named ts) = refl
 as-packed whole = refl
 
 module _ (k : CallKind) (x y : ℕ) (list : KeyList) (all : Bool) (key : List ℕ) (to : To) (p : ToRead to list all key) where
   abbrev ts : List ℕ
-  ts = listedIn to
+  ts = keysListed to
 
   by-keys : (a b : Bool) {r : CallLine} → list .keys ≡ a → (a ≡ true → leb (length ts) 8 && rising ts ≡ b)
       → r ≡ cond a (cond b (callLine k x y to) (refusedCall 12)) (refusedCall 11) → r ≡ callMade k x y to

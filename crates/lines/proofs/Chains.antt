@@ -6,7 +6,7 @@ use mathlib.Core.Bool.{Bool, true, false}
 use mathlib.Core.List.{List, [], _∷_, _++_, append-nil}
 use native.Mathlib.Omega.{arith}
 use lib.ListN.{length, drop, length-drop, drop-of-length-le}
-use Rattle.graph.specs.Targets.{To, named, whole, listedIn}
+use Rattle.graph.specs.Targets.{To, named, whole, keysListed}
 use Rattle.graph.specs.Words.{modulus}
 use Rattle.text.specs.Text.{upTo, decimal, ascii}
 use Rattle.text.specs.Inner.PartsRead.{LiteralAt, DecimalOf, Gap}
@@ -49,7 +49,7 @@ module _ (s : List ℕ) (at : ℕ) (literal : List ℕ) where
 -- ---- the targets
 
 module _ (s : List ℕ) (at : ℕ) where
-  pub targets-missing : LiteralAt s at (ascii " to=") Missing → (to : To) → Below (listedIn to) → drop at s ≡ targets to → ⊥
+  pub targets-missing : LiteralAt s at (ascii " to=") Missing → (to : To) → Below (keysListed to) → drop at s ≡ targets to → ⊥
   targets-missing p to b eq = p (toText to) eq
 
   module _ (n : ℕ) (p : LiteralAt s at (ascii " to=") (At n)) where
@@ -57,7 +57,7 @@ module _ (s : List ℕ) (at : ℕ) where
     value-is : (to : To) → drop at s ≡ targets to → upTo 32 (drop n s) ≡ toText to
     value-is to e = part-is 32 (drop n s) (toText to) [] (cancel (ascii " to=") (drop n s) (toText to) (sym (p .1) ∙ e) ∙ sym (append-nil (toText to))) (to-clean to) tt
 
-    pub targets-parted : n + length (upTo 32 (drop n s)) < length s → (to : To) → Below (listedIn to) → drop at s ≡ targets to → ⊥
+    pub targets-parted : n + length (upTo 32 (drop n s)) < length s → (to : To) → Below (keysListed to) → drop at s ≡ targets to → ⊥
     targets-parted h to b eq = omega (arith, p .0, length-drop n s, ap length (value-is to eq), ap length (cancel (ascii " to=") (drop n s) (toText to) (sym (p .1) ∙ eq)))
 
     module _ (end : length s ≤ n + length (upTo 32 (drop n s))) where
@@ -71,7 +71,7 @@ module _ (s : List ℕ) (at : ℕ) where
       targets-list ne (Are k) all key t = (named (t .0), to-end (named (t .0)) (t .1), t .2)
       targets-list ne AreNot all key never = neither
         where
-          neither : (to : To) → Below (listedIn to) → drop at s ≡ targets to → ⊥
+          neither : (to : To) → Below (keysListed to) → drop at s ≡ targets to → ⊥
           neither (named ts) b eq = never ts b (value-is (named ts) eq)
           neither whole b eq = ne (value-is whole eq)
 
@@ -169,7 +169,7 @@ module _ {R : Type 0} {ten r : R} {answer : Values → R} {s : List ℕ} {at x n
   last-is h e = number-then [] tt (omega arith) (end-is s n h e)
 
   -- the last number, and the targets
-  pub targets-not : ((to : To) → Below (listedIn to) → drop n s ≡ targets to → ⊥) → r ≡ ten → ReadAs (ValuesOf (a ∷ []) true (drop at s)) answer ten r
+  pub targets-not : ((to : To) → Below (keysListed to) → drop n s ≡ targets to → ⊥) → r ≡ ten → ReadAs (ValuesOf (a ∷ []) true (drop at s)) answer ten r
   targets-not never e = number-then [] tt (omega arith) (other (λ v i. never (v .to) (i .small .3) (i .same)) e)
 
   pub targets-are : {k : KeyList} {all : Bool} {key : List ℕ} → TargetsOf (drop n s) (Are k) all key → ((to : To) → ToRead to k all key → r ≡ answer (before x (only to)))

@@ -10,7 +10,7 @@ use lib.ListN.{length, length-append}
 use borrow.Author.Tests.{ltb-true}
 use Rattle.graph.specs.Words.{modulus, areWords}
 use Rattle.graph.specs.KeyLists.{isKey, areKeys}
-use Rattle.graph.specs.Targets.{To, named, whole, listedIn}
+use Rattle.graph.specs.Targets.{To, named, whole, keysListed}
 use Rattle.graph.specs.Calls.{Call, add, map, link, unlink, sum, top, pick, near, unmap}
 use Rattle.graph.proofs.Answers.{and-left, and-right}
 use Rattle.graph.proofs.KeyLaws.{key-high}
@@ -36,7 +36,7 @@ commas-short (t ∷ ts) h n = omega (arith, n, further-short ts (and-right (isKe
 word-short : (v : ℕ) (vs : List ℕ) → areWords (v ∷ vs) ≡ true → length (decimal v) ≤ 10
 word-short v vs h = len-ten v (ltb-true v modulus (and-left _ _ h))
 
-to-short : (to : To) → areKeys (listedIn to) ≡ true → length (listedIn to) ≤ 8 → length (toText to) ≤ 23
+to-short : (to : To) → areKeys (keysListed to) ≡ true → length (keysListed to) ≤ 8 → length (toText to) ≤ 23
 unfolding ascii
 to-short (named ts) h n = commas-short ts h n
 to-short whole h n = omega arith
@@ -45,13 +45,13 @@ to-short whole h n = omega arith
 pub call-short : (c : Call) → FormFits c → length (callText c) ≤ 63
 unfolding ascii
 call-short (add v) f = simp length-append (omega (arith, word-short v [] (f .words)))
-call-short (map a b to) f = simp length-append (omega (arith, word-short a (b ∷ listedIn to) (f .words), word-short b (listedIn to) (and-right (ltb a modulus) _ (f .words)), to-short to (f .keys) (f .few)))
-call-short (link k to) f = simp length-append (omega (arith, word-short k (listedIn to) (f .words), to-short to (and-right (isKey k) _ (f .keys)) (f .few)))
-call-short (unlink k to) f = simp length-append (omega (arith, word-short k (listedIn to) (f .words), to-short to (and-right (isKey k) _ (f .keys)) (f .few)))
-call-short (sum x to) f = simp length-append (omega (arith, word-short x (listedIn to) (f .words), to-short to (f .keys) (f .few)))
-call-short (top x to) f = simp length-append (omega (arith, word-short x (listedIn to) (f .words), to-short to (f .keys) (f .few)))
-call-short (pick x to) f = simp length-append (omega (arith, word-short x (listedIn to) (f .words), to-short to (f .keys) (f .few)))
+call-short (map a b to) f = simp length-append (omega (arith, word-short a (b ∷ keysListed to) (f .words), word-short b (keysListed to) (and-right (ltb a modulus) _ (f .words)), to-short to (f .keys) (f .few)))
+call-short (link k to) f = simp length-append (omega (arith, word-short k (keysListed to) (f .words), to-short to (and-right (isKey k) _ (f .keys)) (f .few)))
+call-short (unlink k to) f = simp length-append (omega (arith, word-short k (keysListed to) (f .words), to-short to (and-right (isKey k) _ (f .keys)) (f .few)))
+call-short (sum x to) f = simp length-append (omega (arith, word-short x (keysListed to) (f .words), to-short to (f .keys) (f .few)))
+call-short (top x to) f = simp length-append (omega (arith, word-short x (keysListed to) (f .words), to-short to (f .keys) (f .few)))
+call-short (pick x to) f = simp length-append (omega (arith, word-short x (keysListed to) (f .words), to-short to (f .keys) (f .few)))
 call-short (near k x to) f =
     simp length-append
-    (omega (arith, key-short k (and-left _ _ (f .keys)), word-short x (k ∷ listedIn to) (f .words), to-short to (and-right (isKey k) _ (f .keys)) (f .few)))
-call-short (unmap a b to) f = simp length-append (omega (arith, word-short a (b ∷ listedIn to) (f .words), word-short b (listedIn to) (and-right (ltb a modulus) _ (f .words)), to-short to (f .keys) (f .few)))
+    (omega (arith, key-short k (and-left _ _ (f .keys)), word-short x (k ∷ keysListed to) (f .words), to-short to (and-right (isKey k) _ (f .keys)) (f .few)))
+call-short (unmap a b to) f = simp length-append (omega (arith, word-short a (b ∷ keysListed to) (f .words), word-short b (keysListed to) (and-right (ltb a modulus) _ (f .words)), to-short to (f .keys) (f .few)))

@@ -6,7 +6,7 @@ use mathlib.Core.Bool.{Bool, true, false, false≢true}
 use mathlib.Core.List.{List, [], _∷_, _++_}
 use native.Mathlib.Omega.{arith}
 use lib.ListN.{length, drop}
-use Rattle.graph.specs.Targets.{To, listedIn}
+use Rattle.graph.specs.Targets.{To, keysListed}
 use Rattle.graph.specs.Words.{modulus}
 use Rattle.text.specs.Text.{upTo, decimal, ascii}
 use Rattle.text.specs.Inner.PartsRead.{LiteralAt, Gap}
@@ -53,7 +53,7 @@ withKind k p = record { kind = k; x = p .x; y = p .y; z = p .z; to = p .to }
 
 -- its numbers are 32-bit numbers
 abbrev pub Small : {K : Type 0} → Parts K → Type 0
-Small p = (p .x < modulus) × (p .y < modulus) × (p .z < modulus) × Below (listedIn (p .to))
+Small p = (p .x < modulus) × (p .y < modulus) × (p .z < modulus) × Below (keysListed (p .to))
 
 -- what its kind has no use for is zero, or empty
 abbrev pub Unused : {K : Type 0} → Grammar K → Parts K → Type 0

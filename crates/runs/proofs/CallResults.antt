@@ -7,7 +7,7 @@ use native.Mathlib.Omega.{arith}
 use mathlib.Core.List.{List, _∷_, _++_}
 use lib.ListN.{length}
 use Rattle.graph.specs.declared.act.Act.{Act}
-use Rattle.graph.specs.Targets.{To, named, whole, listedIn}
+use Rattle.graph.specs.Targets.{To, named, whole, keysListed}
 use Rattle.graph.specs.Calls.{Call, link, unlink, top, toOf}
 use Rattle.graph.specs.Nodes.{Result}
 use Rattle.graph.specs.OneAtATime.{operation, labelled}
@@ -29,7 +29,7 @@ module _ (es : List Sent) (h : Runs opening es) (before later : List Call) (c : 
   few : mostTargets (toOf c) (nodesAfter before) ≤ 64
   few = go (toOf c) (each-right FormFits before (c ∷ later) (lines-formed es h (before ++ (c ∷ later)) t) .0 .few)
     where
-      go : (to : To) → length (listedIn to) ≤ 8 → mostTargets to (nodesAfter before) ≤ 64
+      go : (to : To) → length (keysListed to) ≤ 8 → mostTargets to (nodesAfter before) ≤ 64
       go (named ts) l = omega arith
       go whole l = omega (arith, nodes-grow before (c ∷ later), lines-nodes es h (before ++ (c ∷ later)) t)
 

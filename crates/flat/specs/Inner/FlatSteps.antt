@@ -112,7 +112,7 @@ abbrev pub realiseFlat : ℕ → ℕ → ℕ → Flat → Answer Flat
 realiseFlat k = onFirstOp (soughtAt Acts k) (actFlat k)
 
 -- FINISH
--- x, which stands at p in a unit that ends at e, hands its mark on to the next of its unit
+-- where x, which stands at p, opens its unit, which ends at e, the next of the unit is to open it
 abbrev pub handOn : ℕ → ℕ → Tagged → List Tagged → List Tagged
 handOn p e x q = cond (ltb (suc p) e) (alter (suc p) (openAs (x .opens)) q) q
 

@@ -16,7 +16,7 @@ use Rattle.graph.specs.declared.remaining.Remaining.{Remaining}
 use Rattle.graph.specs.Valid.{Each}
 use Rattle.graph.specs.Packed.{packed}
 use Rattle.graph.specs.Refusals.{Answer, refused, done}
-use Rattle.graph.specs.Targets.{To, named, whole, listedIn}
+use Rattle.graph.specs.Targets.{To, named, whole, keysListed}
 use Rattle.graph.specs.Steps.{admit, realise, move, finish, join, split, swap, fuse}
 use Rattle.lines.specs.Forms.{targets, StepForm, work, drainForm}
 use Rattle.lines.specs.Inner.Answers.{ReadAs, callLine, refusedCall, callForm, callAnswer, stepAnswered, stepAnswer}
@@ -66,9 +66,9 @@ isWhole whole = true
 
 -- what is known of the targets: k and the array tell of the keys that they list, `all` whether they are all
 pub record ToRead (to : To) (k : KeyList) (all : Bool) (key : List ℕ) : Type 0 where
-  pub below : Below (listedIn to)
-  pub known : KeysOf (listedIn to) k
-  pub stored : KeysStored (listedIn to) key
+  pub below : Below (keysListed to)
+  pub known : KeysOf (keysListed to) k
+  pub stored : KeysStored (keysListed to) key
   pub wholly : all ≡ isWhole to
 
 -- `Are k`: the bytes are the text of a list of 32-bit numbers, and this is known of it. `Not`: of none
@@ -79,7 +79,7 @@ KeysRead l AreNot all key = (ts : List ℕ) → Below ts → l ≡ commas ts →
 -- the same of ` to=` and what follows it
 abbrev pub TargetsOf : List ℕ → Targets → Bool → List ℕ → Type 0
 TargetsOf l (Are k) all key = (to : To) × (l ≡ targets to) × ToRead to k all key
-TargetsOf l AreNot all key = (to : To) → Below (listedIn to) → l ≡ targets to → ⊥
+TargetsOf l AreNot all key = (to : To) → Below (keysListed to) → l ≡ targets to → ⊥
 
 -- ---- a field
 
@@ -119,7 +119,7 @@ pub record Values : Type 0 where
 
 -- the bytes are the text of these 32-bit numbers and targets; what there is no literal for is zero, or empty
 pub record ValuesOf (literals : List (List ℕ)) (listed : Bool) (l : List ℕ) (v : Values) : Type 0 where
-  pub small : (v .x < modulus) × (v .y < modulus) × (v .z < modulus) × Below (listedIn (v .to))
+  pub small : (v .x < modulus) × (v .y < modulus) × (v .z < modulus) × Below (keysListed (v .to))
   pub spare : Spare literals (v .x) (v .y) (v .z)
   pub tailed : Tailed listed (v .to)
   pub same : l ≡ fieldsText literals listed (v .x) (v .y) (v .z) (v .to)
@@ -177,7 +177,7 @@ Starts kind = (kind ≡ Sum) ⊎ ((kind ≡ Top) ⊎ (kind ≡ Pick))
 -- the answer to a call whose key is one, by its targets: 11, then 12, else the call
 abbrev pub callMade : CallKind → ℕ → ℕ → To → CallLine
 callMade kind x y to =
-    cond (areKeys (listedIn to)) (cond (leb (length (listedIn to)) 8 && rising (listedIn to)) (callLine kind x y to) (refusedCall 12)) (refusedCall 11)
+    cond (areKeys (keysListed to)) (cond (leb (length (keysListed to)) 8 && rising (keysListed to)) (callLine kind x y to) (refusedCall 12)) (refusedCall 11)
 
 -- the answer to the unmap of a map that was not refused: 40 for an even a, else the call
 abbrev pub unmapMade : ℕ → ℕ → Remaining → CallLine

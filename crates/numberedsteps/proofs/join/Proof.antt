@@ -1,4 +1,4 @@
--- The unit, the next, and the next one's mark.
+-- The unit, the next, and that the next opens none any more.
 -- Assumes nothing.
 use mathlib.Core.Path.{_≡_, refl, sym, ap, _∙_}
 use mathlib.Core.Bool.{true, false}
