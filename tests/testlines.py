@@ -108,6 +108,8 @@ EDGES = ["", "call=add value=0", "call=add value=00", "call=add value=05", "call
          "call=unlink a=3 b=4 to=1", "call=unmap key=3 to=1", "call=add value=5 to=all", "call=link key=65 to=all", "call=unlink key=0 to=all",
          "call=near key=65 start=0 to=all", "call=link key=65 to=all,1", "call=near key=65 start=4294967296 to=all",
          "call=map a=2 b=4 to=all", "call=unmap a=2 b=4 to=all", "call=unmap a=2 b=4 to=all,1", "call=unmap a=4294967295 b=4294967295 to=all",
+         "call=sum start=4 to=all\r", "call=sum start=4 to=all,all", "call=sum start=4 to=1all", "call=sum start=4 to=all1", "call=sum start=all to=1",
+         "call=sum to=all", "call=add value=all", "call=link key=all to=1", "call=unmap a=2 b=4 to=alle", "step=realise at=all", "claim=all",
          "step=realise at=64", "step=realise at=65", "step=realise at=0", "step=realise at=02", "step=join at=2 unit=0",
          "step=split at=2 unit=0 after=0", "step=split at=65 unit=1", "step=admit ", "step=drain at=1", "step=", "step=split at=2 unit=1 after=4294967296",
          "claim=0", "claim=65536", "claim=4294967295", "claim=4294967296", "claim=04", "claim=", "claim=4 ", " claim=4",

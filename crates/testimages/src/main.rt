@@ -7,8 +7,8 @@ use valid::session::open;
 ghost use mathlib.Core.Path.{_≡_};
 ghost use lib.ListN.{length};
 
-// Up to three bytes of the session below, each with its place and its new value. Cases 1 to 57 are refused, the others pass.
-const CASES: [[u16; 6]; 68] = [
+// Up to three bytes of the session below, each with its place and its new value. Cases 1 to 62 are refused, the others pass.
+const CASES: [[u16; 6]; 76] = [
     // 1 version 2
     [0, 2, 0, 2, 0, 2],
     // 2 version 4
@@ -83,68 +83,84 @@ const CASES: [[u16; 6]; 68] = [
     [1055, 3, 1055, 3, 1055, 3],
     // 37 an add with a target
     [1148, 1, 1149, 1, 1149, 1],
-    // 38 an operation's last byte
+    // 38 a mark without all
     [1071, 1, 1071, 1, 1071, 1],
-    // 39 an operation record that is not used
+    // 39 an all-call that lists targets
+    [1070, 1, 1070, 1, 1070, 1],
+    // 40 all 2
+    [1134, 2, 1134, 2, 1134, 2],
+    // 41 mark 2
+    [1134, 1, 1135, 2, 1135, 2],
+    // 42 an add for all
+    [1166, 1, 1166, 1, 1166, 1],
+    // 43 a mark in the top stream
+    [1138, 4, 1166, 1, 1167, 1],
+    // 44 an operation record that is not used
     [1168, 1, 1168, 1, 1168, 1],
-    // 40 no label
+    // 45 no label
     [1093, 0, 1094, 0, 1094, 0],
-    // 41 a sum with two labels
+    // 46 a sum with two labels
     [1093, 2, 1096, 9, 1096, 9],
-    // 42 an add with two labels
+    // 47 an add with two labels
     [1157, 2, 1160, 9, 1160, 9],
-    // 43 five labels
+    // 48 five labels
     [1061, 5, 1061, 5, 1061, 5],
-    // 44 a label place that is not used
+    // 49 a label place that is not used
     [1066, 4, 1066, 4, 1066, 4],
-    // 45 label 0
+    // 50 label 0
     [1094, 0, 1094, 0, 1094, 0],
-    // 46 a label above the last given
+    // 51 a label above the last given
     [4, 7, 4, 7, 4, 7],
-    // 47 a label in two operations
+    // 52 a label in two operations
     [1094, 3, 1094, 3, 1094, 3],
-    // 48 a label twice in one operation
+    // 53 a label twice in one operation
     [1064, 3, 1064, 3, 1064, 3],
-    // 49 a label in an operation and a result
+    // 54 a label in an operation and a result
     [3088, 2, 3088, 2, 3088, 2],
-    // 50 results out of label order
+    // 55 results out of label order
     [3088, 7, 3104, 1, 3104, 1],
-    // 51 two results of one label
+    // 56 two results of one label
     [3104, 1, 3104, 1, 3104, 1],
-    // 52 a result of label 0
+    // 57 a result of label 0
     [3088, 0, 3088, 0, 3088, 0],
-    // 53 a left key 65
+    // 58 a left key 65
     [3111, 65, 3111, 65, 3111, 65],
-    // 54 left keys that do not rise
+    // 59 left keys that do not rise
     [3110, 2, 3112, 9, 3112, 9],
-    // 55 a left place that is not used
+    // 60 a left place that is not used
     [3112, 1, 3112, 1, 3112, 1],
-    // 56 a result's last byte
+    // 61 a result's last byte
     [3103, 1, 3103, 1, 3103, 1],
-    // 57 a result record that is not used
+    // 62 a result record that is not used
     [3120, 1, 3120, 1, 3120, 1],
-    // 58 the session
+    // 63 the session
     [16, 7, 16, 7, 16, 7],
-    // 59 a target that was passed already
+    // 64 a target that was passed already
     [1085, 1, 1085, 1, 1085, 1],
-    // 60 a top stream in any label order
+    // 65 a top stream in any label order
     [1136, 65, 1158, 4, 1158, 4],
-    // 61 a map that waits with two labels
+    // 66 a map that waits with two labels
     [1158, 9, 1158, 9, 1158, 9],
-    // 62 a value held at a start
+    // 67 a value held at a start
     [1080, 255, 1080, 255, 1080, 255],
-    // 63 an unlink that removed a copy
+    // 68 an unlink that removed a copy
     [1106, 3, 1106, 3, 1106, 3],
-    // 64 an unlink's count above what lists hold
+    // 69 an unlink's count above what lists hold
     [1106, 3, 1112, 255, 1115, 255],
-    // 65 a linked key that no node has
+    // 70 a linked key that no node has
     [22, 64, 23, 64, 23, 64],
-    // 66 a last label far above
+    // 71 a last label far above
     [5, 255, 5, 255, 5, 255],
-    // 67 two units at one station
+    // 72 two units at one station
     [1073, 1, 1073, 1, 1073, 1],
-    // 68 a map with b alone
+    // 73 a map with b alone
     [1044, 0, 1048, 255, 1048, 255],
+    // 74 a near for all
+    [1134, 1, 1134, 1, 1134, 1],
+    // 75 a near for all, done at its station
+    [1134, 1, 1135, 1, 1135, 1],
+    // 76 a sum for all that waits
+    [1138, 4, 1166, 1, 1166, 1],
 ];
 
 // The session below, byte by byte: nodes 1 and 2; at station 1 a unit of a map with two labels and a sum, at station 2 a near; an
@@ -313,7 +329,7 @@ fn case(n: u32, row: [u16; 6]) {
 
 fn cases() {
     let mut i: usize = 0;
-    while i < 68 {
+    while i < 76 {
         let row = CASES[i];
         case(i as u32 + 1, row);
         i += 1;
@@ -354,12 +370,12 @@ fn nodes_and_add(n: u32, nodes: u8) {
 fn main() {
     cases();
     // 68 and 64 live labels
-    crowd(69, 17);
-    crowd(70, 16);
+    crowd(77, 17);
+    crowd(78, 16);
     // the opened image
-    crowd(71, 0);
+    crowd(79, 0);
     // 65 and 64 nodes and waiting adds
-    nodes_and_add(72, 64);
-    nodes_and_add(73, 63);
-    crowd_of_nodes(74, 64);
+    nodes_and_add(80, 64);
+    nodes_and_add(81, 63);
+    crowd_of_nodes(82, 64);
 }

@@ -6,7 +6,7 @@
 //! twice which bytes are zero or in which order records stand.
 
 use crate::line::{strictly_rising, KEYS, LIST};
-use crate::session::{Act, Node, Operation, Outcome, Session, Station, Waiting, LIVE};
+use crate::session::{Act, Node, Operation, Outcome, Session, Station, Targets, Waiting, LIVE};
 use crate::steps::LABELS;
 
 /// Every image has this length.
@@ -62,6 +62,7 @@ pub fn valid(session: &Session) -> bool {
     valid_nodes(session)
         && session.adds() <= usize::from(KEYS)
         && session.operations().all(valid_operation)
+        && session.top.iter().all(has_no_mark)
         && units_hold_operations(session)
         && session
             .results
@@ -88,7 +89,19 @@ fn valid_operation(operation: &Operation) -> bool {
         Act::Link { key, .. } | Act::Unlink { key, .. } | Act::Near { key, .. } => is_key(key),
         _ => true,
     };
-    (1..=most).contains(&operation.labels.len()) && operand && target_list(&operation.targets)
+    let targets = match &operation.targets {
+        Targets::Keys(keys) => target_list(keys),
+        Targets::All { .. } => true,
+    };
+    (1..=most).contains(&operation.labels.len()) && operand && targets
+}
+
+/// A mark is about a station, and a waiting call has none.
+fn has_no_mark(waiting: &Waiting) -> bool {
+    match waiting {
+        Waiting::Visit(operation) => operation.targets != Targets::All { done: true },
+        Waiting::Add { .. } => true,
+    }
 }
 
 fn units_hold_operations(session: &Session) -> bool {
@@ -161,6 +174,8 @@ struct Record {
     b: u32,
     targets: Vec<u8>,
     labels: Vec<u16>,
+    all: bool,
+    done: bool,
 }
 
 /// Oldest first: from the last station to the front, each streamlet from its head,
@@ -203,6 +218,10 @@ impl Record {
             Act::Pick { held } => (PICK, 0, 0, held),
             Act::Near { key, held } => (NEAR, key, 0, held),
         };
+        let (targets, all, done) = match &operation.targets {
+            Targets::Keys(keys) => (keys.clone(), false, false),
+            Targets::All { done } => (Vec::new(), true, *done),
+        };
         Record {
             station,
             opens,
@@ -210,8 +229,10 @@ impl Record {
             operand,
             a,
             b,
-            targets: operation.targets.clone(),
+            targets,
             labels: operation.labels.clone(),
+            all,
+            done,
         }
     }
 
@@ -229,6 +250,8 @@ impl Record {
             &mut bytes[22..30],
             self.labels.iter().map(|l| l.to_le_bytes()),
         );
+        bytes[30] = u8::from(self.all);
+        bytes[31] = u8::from(self.done);
         bytes
     }
 
@@ -242,6 +265,8 @@ impl Record {
             b: number(&bytes[8..12])?,
             targets: keys(&bytes[12..21])?,
             labels: labels(&bytes[21..30])?,
+            all: bytes[30] != 0,
+            done: bytes[31] != 0,
         })
     }
 
@@ -262,6 +287,16 @@ impl Record {
             NEAR => Act::Near { key, held },
             _ => return None,
         })
+    }
+
+    /// The targets. What is listed beside an all-call, and a mark beside a list, are
+    /// dropped.
+    fn targets(&self) -> Targets {
+        if self.all {
+            Targets::All { done: self.done }
+        } else {
+            Targets::Keys(self.targets.clone())
+        }
     }
 }
 
@@ -324,7 +359,7 @@ fn put(session: &mut Session, record: Record) -> Option<()> {
     }
     let operation = Operation {
         act: record.act()?,
-        targets: record.targets,
+        targets: record.targets(),
         labels: record.labels,
     };
     if record.station == TOP_STREAM {

@@ -18,10 +18,10 @@ pub mod session;
 mod steps;
 
 pub use image::{image, session_of, valid, IMAGE_BYTES};
-pub use line::{line_at, read_call, Call};
+pub use line::{line_at, read_call, Call, To};
 pub use meaning::meaning;
 pub use refusal::Refusal;
-pub use session::{Act, Node, Operation, Outcome, Session, Station, Unit, Waiting};
+pub use session::{Act, Node, Operation, Outcome, Session, Station, Targets, Unit, Waiting};
 
 /// The panel's eight counts: admit, realise, move, finish, join, split, swap, fuse.
 pub type Tally = [u32; 8];

@@ -26,8 +26,17 @@ pub fn line_at(frame: &[u8], at: usize) -> &[u8] {
 #[derive(Clone, Debug, PartialEq, Eq)]
 pub enum Call {
     Add { value: u32 },
-    Visit { act: Act, targets: Vec<u8> },
-    Unmap { a: u32, b: u32, targets: Vec<u8> },
+    Visit { act: Act, to: To },
+    Unmap { a: u32, b: u32, to: To },
+}
+
+/// The targets that a call names.
+#[derive(Clone, Debug, PartialEq, Eq)]
+pub enum To {
+    /// At most eight keys, rising.
+    Keys(Vec<u8>),
+    /// Every node that there is.
+    All,
 }
 
 /// A step line. A key is within 1 to 64; `unit` and `after` are as written.
@@ -50,15 +59,15 @@ pub fn read_call(line: &[u8]) -> Result<Call, Refusal> {
         CallForm::Add { value } => Ok(Call::Add { value }),
         CallForm::Visit { verb, to } => {
             let act = verb.act()?;
-            let targets = targets(&to)?;
-            Ok(Call::Visit { act, targets })
+            let to = to.judged()?;
+            Ok(Call::Visit { act, to })
         }
         CallForm::Unmap { a, b, to } => {
-            let targets = targets(&to)?;
+            let to = to.judged()?;
             if a % 2 == 0 {
                 return Err(Refusal::NoInverse);
             }
-            Ok(Call::Unmap { a, b, targets })
+            Ok(Call::Unmap { a, b, to })
         }
     }
 }
@@ -116,8 +125,22 @@ pub fn strictly_rising(keys: &[u8]) -> bool {
 /// A call line that came apart, its keys still any numbers.
 enum CallForm {
     Add { value: u32 },
-    Visit { verb: Verb, to: Vec<u32> },
-    Unmap { a: u32, b: u32, to: Vec<u32> },
+    Visit { verb: Verb, to: ToForm },
+    Unmap { a: u32, b: u32, to: ToForm },
+}
+
+enum ToForm {
+    Numbers(Vec<u32>),
+    All,
+}
+
+impl ToForm {
+    fn judged(self) -> Result<To, Refusal> {
+        match self {
+            ToForm::Numbers(numbers) => targets(&numbers).map(To::Keys),
+            ToForm::All => Ok(To::All),
+        }
+    }
 }
 
 enum Verb {
@@ -305,9 +328,12 @@ impl<'a> Reader<'a> {
         Some(numbers)
     }
 
-    fn targets(&mut self) -> Option<Vec<u32>> {
+    fn targets(&mut self) -> Option<ToForm> {
         self.text(" to=")?;
-        self.numbers()
+        match self.text("all") {
+            Some(()) => Some(ToForm::All),
+            None => self.numbers().map(ToForm::Numbers),
+        }
     }
 
     /// The form, if the whole line was read.

@@ -3,7 +3,7 @@
 //! It shares no code with the steps, so that the two can be compared: the numbers
 //! here are wide and are brought back by a remainder, as the rules word it.
 
-use crate::line::{Call, LIST};
+use crate::line::{Call, To, LIST};
 use crate::session::{Act, Node, Outcome};
 
 const MODULUS: u64 = 4_294_967_296;
@@ -37,31 +37,37 @@ fn process(nodes: &mut Vec<Node>, call: &Call) -> Outcome {
                 left: Vec::new(),
             }
         }
-        Call::Visit { act, targets } => {
-            let value = visit_all(act, met(nodes, targets));
-            let left = left(nodes, targets);
+        Call::Visit { act, to } => {
+            let value = visit_all(act, met(nodes, to));
+            let left = left(nodes, to);
             Outcome { value, left }
         }
-        Call::Unmap { a, b, targets } => {
-            for node in met(nodes, targets) {
+        Call::Unmap { a, b, to } => {
+            for node in met(nodes, to) {
                 node.value = former(*a, *b, node.value);
             }
-            let left = left(nodes, targets);
+            let left = left(nodes, to);
             Outcome { value: 0, left }
         }
     }
 }
 
 /// The nodes that are targets, from front to back.
-fn met<'a>(nodes: &'a mut [Node], targets: &'a [u8]) -> impl Iterator<Item = &'a mut Node> {
-    let struck = |node: &&mut Node| targets.contains(&node.key);
-    nodes.iter_mut().filter(struck)
+fn met<'a>(nodes: &'a mut [Node], to: &'a To) -> impl Iterator<Item = &'a mut Node> {
+    let is_target = move |node: &&mut Node| match to {
+        To::Keys(keys) => keys.contains(&node.key),
+        To::All => true,
+    };
+    nodes.iter_mut().filter(is_target)
 }
 
-/// The targets that no node has.
-fn left(nodes: &[Node], targets: &[u8]) -> Vec<u8> {
+/// The keys named that no node has.
+fn left(nodes: &[Node], to: &To) -> Vec<u8> {
     let unmet = |key: &&u8| nodes.iter().all(|node| node.key != **key);
-    targets.iter().filter(unmet).copied().collect()
+    match to {
+        To::Keys(keys) => keys.iter().filter(unmet).copied().collect(),
+        To::All => Vec::new(),
+    }
 }
 
 fn mapped(a: u32, b: u32, value: u32) -> u32 {

@@ -1,6 +1,6 @@
 //! Seeded random numbers and lines, for tests that compare.
 
-use crate::session::{Act, Operation, Session, Station, Waiting};
+use crate::session::{Act, Operation, Session, Station, Targets, Unit, Waiting};
 
 pub mod session;
 
@@ -8,6 +8,8 @@ pub mod session;
 const LEAST: u32 = 2_147_483_648;
 /// Where the signed order begins, passes zero and ends.
 const HEIGHTS: [u32; 4] = [LEAST, u32::MAX, 0, LEAST - 1];
+/// What is no list of targets, but nearly `all`.
+const NOT_ALL: [&str; 8] = ["all,1", "1,all", "ALL", "al", "alle", "all,", "all ", "a"];
 
 /// SplitMix64: small, seeded, and the same on every machine.
 #[derive(Clone, Debug)]
@@ -62,7 +64,10 @@ pub struct Scribe {
     heights: u64,
     /// One other visiting call in so many is a map or its unmap, mostly with the other next.
     unmaps: u64,
-    /// The call to be sent next: the second of a map and its unmap.
+    /// One visiting call in so many is for all nodes, mostly with a neighbour to try it with.
+    alls: u64,
+    /// The call to be sent next: the second of a map and its unmap, or of an all-call and
+    /// its neighbour.
     next: Option<String>,
 }
 
@@ -75,8 +80,9 @@ impl Scribe {
             claims: random.choose(&[1, 3, 9]),
             links: random.choose(&[2, 3, 20, 100]),
             unlinks: random.choose(&[2, 4, 40]),
-            heights: random.choose(&[2, 4, 20]),
+            heights: random.choose(&[2, 3, 12]),
             unmaps: random.choose(&[2, 3, 12]),
+            alls: random.choose(&[3, 5, 10, 40]),
             next: None,
             random,
         }
@@ -96,6 +102,10 @@ impl Scribe {
             _ => self.claim_line(session),
         }
         .into_bytes();
+        if line.ends_with(b" to=all") && self.random.once_in(15) {
+            line.truncate(line.len() - b"all".len());
+            line.extend_from_slice(self.random.choose(&NOT_ALL).as_bytes());
+        }
         if self.random.once_in(25) {
             damage(&mut self.random, &mut line);
         }
@@ -116,14 +126,20 @@ impl Scribe {
         if random.once_in(adds) {
             return format!("call=add value={}", value(random));
         }
+        if random.once_in(self.alls) {
+            let [first, second] = all_and_neighbour(random, session);
+            self.next = (!random.once_in(3)).then_some(second);
+            return first;
+        }
         if random.once_in(self.links) {
-            return format!("call=link key={} to=1,2", few_key(random));
+            let to = random.choose(&["1,2", "1,2", "1,2", "all"]);
+            return format!("call=link key={} to={to}", few_key(random));
         }
         let enough = random.choose(&[1, 3, 8]);
         let mut nodes = session.stations.iter().map(|station| &station.node);
         let linked = nodes.any(|node| node.links.len() >= enough);
         if linked && random.once_in(self.unlinks) {
-            let to = random.choose(&["1", "2", "1,2", "1,2", "1,2,64"]);
+            let to = random.choose(&["1", "2", "1,2", "1,2", "1,2,64", "all"]);
             return format!("call=unlink key={} to={to}", few_key(random));
         }
         let last = last_operation(session);
@@ -137,10 +153,11 @@ impl Scribe {
         }
         if let Some(last) = last.filter(|_| random.once_in(3)) {
             let word = random.choose(&["map", "map", "unmap"]);
-            let (a, b, to) = (value(random), value(random), text(&last.targets));
+            let (a, b, to) = (value(random), value(random), to_text(&last.targets));
             return format!("call={word} a={a} b={b} to={to}");
         }
-        visiting_line(random, session)
+        let to = target_text(random, session);
+        visiting_line(random, session, &to)
     }
 
     /// A line of one step that may well be allowed.
@@ -152,8 +169,18 @@ impl Scribe {
         if busy.is_empty() || (waiting && random.once_in(2)) {
             return String::from("step=admit");
         }
-        let station = random.choose(&busy);
+        let to_go_on = |station: &&&Station| {
+            let head = &station.streamlet[0];
+            head.iter().any(is_marked) || joins_alls(head)
+        };
+        let station = match busy.iter().find(to_go_on) {
+            Some(station) if random.once_in(2) => station,
+            _ => random.choose(&busy),
+        };
         let at = station.node.key;
+        if let Some(line) = all_step_line(random, station) {
+            return line;
+        }
         let any = random.below(station.streamlet.len() as u64) as usize;
         match random.below(14) {
             0 => format!("step=join at={at} unit={}", any + 1),
@@ -201,9 +228,8 @@ impl Scribe {
     }
 }
 
-/// Any call that visits nodes.
-fn visiting_line(random: &mut Random, session: &Session) -> String {
-    let to = target_text(random, session);
+/// Any call that visits nodes, with these targets.
+fn visiting_line(random: &mut Random, session: &Session, to: &str) -> String {
     match random.below(9) {
         0 | 1 => format!("call=map a={} b={} to={to}", value(random), value(random)),
         2 => format!("call=unmap a={} b={} to={to}", value(random), value(random)),
@@ -217,6 +243,36 @@ fn visiting_line(random: &mut Random, session: &Session) -> String {
             format!("call=near key={key} start={} to={to}", value(random))
         }
     }
+}
+
+/// An all-call and another, for all or not, in either order: two maps, two folds, or any. Or
+/// all are set to a height, and the top of some is asked for.
+fn all_and_neighbour(random: &mut Random, session: &Session) -> [String; 2] {
+    let listed = target_text(random, session);
+    let other = random.choose(&["all", "all", "", &listed]);
+    let to = ["all", other];
+    let mut pair = match random.below(7) {
+        0..=2 => to.map(|to| {
+            let word = random.choose(&["map", "map", "unmap"]);
+            let (a, b) = (factor(random), value(random));
+            format!("call={word} a={a} b={b} to={to}")
+        }),
+        3 | 4 => to.map(|to| {
+            let word = random.choose(&["sum", "top", "pick"]);
+            format!("call={word} start={} to={to}", height(random))
+        }),
+        5 => {
+            let height = height(random);
+            let start = neighbour(random, height);
+            let set = format!("call=map a=0 b={height} to=all");
+            return [set, format!("call=top start={start} to={other}")];
+        }
+        _ => to.map(|to| visiting_line(random, session, to)),
+    };
+    if random.once_in(2) {
+        pair.reverse();
+    }
+    pair
 }
 
 /// A map and its unmap, in either order.
@@ -247,7 +303,7 @@ fn height_line(random: &mut Random, last: Option<&Operation>) -> String {
     });
     if let Some((height, targets)) = set.filter(|_| !random.once_in(3)) {
         let start = neighbour(random, height);
-        return format!("call=top start={start} to={}", text(targets));
+        return format!("call=top start={start} to={}", to_text(targets));
     }
     let to = random.choose(&["1", "2", "3", "1,2", "1,2,3", "1,2,3,64"]);
     let height = height(random);
@@ -272,13 +328,64 @@ fn is_fusible(station: &Station, unit: usize) -> bool {
     map(unit).is_some() && map(unit) == map(unit + 1)
 }
 
+/// A step that marks or all-calls decide on, at times: to mark the all-calls of a unit, and
+/// then to cut it, so that they can fuse; to fuse, swap or join an all-call and its
+/// neighbour; to finish an all-call, wherever it stands.
+fn all_step_line(random: &mut Random, station: &Station) -> Option<String> {
+    let at = station.node.key;
+    let head = &station.streamlet[0];
+    if joins_alls(head) && !random.once_in(4) {
+        return Some(if head.iter().all(is_marked) {
+            format!("step=split at={at} unit=1 after=1")
+        } else {
+            format!("step=realise at={at}")
+        });
+    }
+    let beside = find(station, |unit| is_beside_all(station, unit));
+    if let Some(unit) = beside.filter(|_| random.once_in(2)) {
+        let pair = [unit, unit + 1].map(|unit| &station.streamlet[unit][0]);
+        let maps = pair.iter().all(|op| matches!(op.act, Act::Map { .. }));
+        let steps: &[&str] = match maps {
+            true if pair.iter().any(|op| is_marked(op)) => &["fuse"],
+            true => &["fuse", "join", "join"],
+            false => &["swap", "swap", "join"],
+        };
+        let step = random.choose(steps);
+        return Some(format!("step={step} at={at} unit={}", unit + 1));
+    }
+    let finishes = head.iter().any(is_all) && random.once_in(8);
+    finishes.then(|| format!("step=finish at={at}"))
+}
+
+fn is_all(operation: &Operation) -> bool {
+    matches!(operation.targets, Targets::All { .. })
+}
+
+fn is_marked(operation: &Operation) -> bool {
+    operation.targets == Targets::All { done: true }
+}
+
+/// Whether a unit has several operations, all of them all-calls.
+fn joins_alls(unit: &Unit) -> bool {
+    unit.len() > 1 && unit.iter().all(is_all)
+}
+
+/// Whether this unit and the next are one operation each, and an all-call among them.
+fn is_beside_all(station: &Station, unit: usize) -> bool {
+    let single = |unit: usize| match station.streamlet.get(unit)?.as_slice() {
+        [operation] => Some(is_all(operation)),
+        _ => None,
+    };
+    matches!((single(unit), single(unit + 1)), (Some(first), Some(second)) if first || second)
+}
+
 /// A step that the head unit of this streamlet allows.
 fn head_step(station: &Station) -> &'static str {
     let is_last = station.node.key == 1;
     let head = &station.streamlet[0];
-    if head.iter().any(|op| op.targets.contains(&station.node.key)) {
+    if head.iter().any(|op| op.targets.has(&station.node)) {
         "realise"
-    } else if is_last || head.iter().any(|op| op.targets.is_empty()) {
+    } else if is_last || head.iter().any(|op| op.targets.are_none()) {
         "finish"
     } else {
         "move"
@@ -396,16 +503,25 @@ fn target_text(random: &mut Random, session: &Session) -> String {
     text(&keys)
 }
 
-/// Mostly a few nodes, whose values an unmap then restores; else any, or eight and nine, or
-/// such that an unmap of an even a has two refusals.
+/// Mostly a few nodes, whose values an unmap then restores; else any, or all, or eight and
+/// nine, or such that an unmap of an even a has two refusals.
 fn few_targets(random: &mut Random, session: &Session) -> String {
     let lists: &[&str] = match random.below(10) {
         0 => return target_text(random, session),
         1 => &["1,2,3,4,5,6,7,8", "1,2,3,4,5,6,7,8,9"],
         2 => &["0,1", "1,65", "2,1", "2,2", "2,2,65"],
+        3 => &["all"],
         _ => &["1", "2", "1,2", "1,2", "1,2,3", "1,2,64"],
     };
     String::from(random.choose(lists))
+}
+
+/// The targets as a line names them, or those that remain.
+fn to_text(targets: &Targets) -> String {
+    match targets {
+        Targets::Keys(keys) => text(keys),
+        Targets::All { .. } => String::from("all"),
+    }
 }
 
 fn text<T: ToString>(keys: &[T]) -> String {

@@ -2,7 +2,7 @@
 
 use crate::image::{image, IMAGE_BYTES};
 use crate::program::dispatch;
-use crate::session::{Act, Operation, Outcome, Session, Station, Waiting};
+use crate::session::{Act, Operation, Outcome, Session, Station, Targets, Waiting};
 
 type Image = [u8; IMAGE_BYTES];
 
@@ -57,11 +57,51 @@ pub fn rich() -> Image {
     ]))
 }
 
+/// Nodes 1 to 3, each linked to 2; at station 1 a fused map for all, marked; at station 2 a
+/// unit of an unlink for all, which has removed a copy and has no mark, and a sum without
+/// targets; at station 3 a top for all, marked, and a map to 1; a near for all, an add and
+/// a link to 2 waiting.
+pub fn whole() -> Image {
+    image(&after(&[
+        "call=add value=5",
+        "call=add value=7",
+        "call=add value=258",
+        "call=link key=2 to=all",
+        "step=drain",
+        "claim=4",
+        "call=map a=3 b=4 to=all",
+        "call=map a=2 b=1 to=all",
+        "step=admit",
+        "step=admit",
+        "step=fuse at=3 unit=1",
+        "step=realise at=3",
+        "step=move at=3",
+        "step=realise at=2",
+        "step=move at=2",
+        "step=realise at=1",
+        "call=unlink key=2 to=all",
+        "call=sum start=10 to=",
+        "step=admit",
+        "step=admit",
+        "step=join at=3 unit=1",
+        "step=realise at=3",
+        "step=move at=3",
+        "call=top start=4294967295 to=all",
+        "call=map a=5 b=6 to=1",
+        "step=admit",
+        "step=admit",
+        "step=realise at=3",
+        "call=near key=2 start=65536 to=all",
+        "call=add value=9",
+        "call=link key=3 to=2",
+    ]))
+}
+
 /// A sum without targets.
 pub fn sum(label: u16) -> Operation {
     Operation {
         act: Act::Sum { held: 0 },
-        targets: Vec::new(),
+        targets: Targets::Keys(Vec::new()),
         labels: vec![label],
     }
 }
@@ -105,24 +145,29 @@ pub fn broken() -> Vec<(&'static str, Image)> {
         ("version 1, which means the same here", fresh_of(1)),
         ("version 2, which means the same here", fresh_of(2)),
     ];
-    let mut change = |what, changes: &[(usize, u8)]| {
-        let mut bytes = rich();
-        for &(place, byte) in changes {
-            assert_ne!(bytes[place], byte, "{what}: nothing changes at {place}");
-            bytes[place] = byte;
-        }
-        images.push((what, bytes));
-    };
     for &(what, changes) in CHANGES {
-        change(what, changes);
+        images.push((what, changed(rich(), changes)));
     }
     for place in 6..16 {
-        change("zero in the head", &[(place, 1)]);
+        images.push(("zero in the head", changed(rich(), &[(place, 1)])));
+    }
+    for &(what, changes) in ALL_CHANGES {
+        images.push((what, changed(whole(), changes)));
     }
     images
 }
 
-const fn operation(index: usize, place: usize) -> usize {
+/// An image with other bytes at some places.
+pub fn changed(mut bytes: Image, changes: &[(usize, u8)]) -> Image {
+    for &(place, byte) in changes {
+        assert_ne!(bytes[place], byte, "nothing changes at {place}");
+        bytes[place] = byte;
+    }
+    bytes
+}
+
+/// A place of an operation's record.
+pub const fn operation(index: usize, place: usize) -> usize {
     OPERATION + 32 * index + place
 }
 
@@ -241,8 +286,6 @@ const CHANGES: &[(&str, &[(usize, u8)])] = &[
     ),
     ("an add's label twice", &[(operation(5, 22), 12)]),
     ("a label past the count", &[(operation(0, 24), 4)]),
-    ("zero after the labels", &[(operation(0, 30), 1)]),
-    ("zero after the labels", &[(operation(5, 31), 1)]),
     ("an unused operation", &[(operation(6, 0), 1)]),
     ("an unused operation", &[(RESULT - 1, 1)]),
     ("label 0", &[(RESULT, 0)]),
@@ -264,4 +307,70 @@ const CHANGES: &[(&str, &[(usize, u8)])] = &[
     ("zero after left", &[(RESULT + 15, 1)]),
     ("an unused result", &[(RESULT + 16 * 3, 1)]),
     ("an unused result", &[(IMAGE_BYTES - 1, 1)]),
+];
+
+/// Places and bytes of the whole image.
+const ALL_CHANGES: &[(&str, &[(usize, u8)])] = &[
+    ("all 2, marked", &[(operation(0, 30), 2)]),
+    ("all 255", &[(operation(1, 30), 255)]),
+    ("all 2 beside no targets", &[(operation(2, 30), 2)]),
+    ("all 2 in the top stream", &[(operation(5, 30), 2)]),
+    ("mark 2", &[(operation(0, 31), 2)]),
+    ("mark 2", &[(operation(1, 31), 2)]),
+    ("mark 255", &[(operation(3, 31), 255)]),
+    ("mark 2 in the top stream", &[(operation(5, 31), 2)]),
+    ("mark without all", &[(operation(0, 30), 0)]),
+    ("mark without all", &[(operation(3, 30), 0)]),
+    ("mark beside no targets", &[(operation(2, 31), 1)]),
+    ("mark beside targets", &[(operation(4, 31), 1)]),
+    ("mark in the top stream", &[(operation(5, 31), 1)]),
+    (
+        "mark without all in the top stream",
+        &[(operation(5, 30), 0), (operation(5, 31), 1)],
+    ),
+    (
+        "mark beside targets in the top stream",
+        &[(operation(7, 31), 1)],
+    ),
+    ("all beside a target", &[(operation(4, 30), 1)]),
+    (
+        "all and mark beside a target",
+        &[(operation(4, 30), 1), (operation(4, 31), 1)],
+    ),
+    (
+        "all beside a target in the top stream",
+        &[(operation(7, 30), 1)],
+    ),
+    (
+        "a target beside all",
+        &[(operation(1, 12), 1), (operation(1, 13), 1)],
+    ),
+    (
+        "a target beside all and mark",
+        &[(operation(0, 12), 1), (operation(0, 13), 3)],
+    ),
+    (
+        "a target beside all in the top stream",
+        &[(operation(5, 12), 1), (operation(5, 13), 64)],
+    ),
+    ("a count beside all", &[(operation(1, 12), 1)]),
+    ("nine targets beside all", &[(operation(1, 12), 9)]),
+    ("255 targets beside all", &[(operation(3, 12), 255)]),
+    ("a key past the count beside all", &[(operation(1, 13), 1)]),
+    ("a key past the count beside all", &[(operation(3, 20), 1)]),
+    ("an add for all", &[(operation(6, 30), 1)]),
+    ("an add with a mark", &[(operation(6, 31), 1)]),
+    (
+        "an add for all with a mark",
+        &[(operation(6, 30), 1), (operation(6, 31), 1)],
+    ),
+    (
+        "an all-top of two labels",
+        &[(operation(3, 21), 2), (operation(3, 24), 4)],
+    ),
+    ("an all-map of five labels", &[(operation(0, 21), 5)]),
+    ("operand 0 of an all-unlink", &[(operation(1, 3), 0)]),
+    ("a of an all-top", &[(operation(3, 4), 1)]),
+    ("all in an unused operation", &[(operation(8, 30), 1)]),
+    ("mark in an unused operation", &[(operation(8, 31), 1)]),
 ];

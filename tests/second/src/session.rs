@@ -2,7 +2,7 @@
 
 use std::collections::{BTreeMap, VecDeque};
 
-use crate::line::{read_call, read_claim, read_step, Call, KEYS};
+use crate::line::{read_call, read_claim, read_step, Call, To, KEYS};
 use crate::print;
 use crate::refusal::{answer, Refusal};
 use crate::Tally;
@@ -44,10 +44,19 @@ pub type Unit = Vec<Operation>;
 #[derive(Clone, Debug, PartialEq, Eq)]
 pub struct Operation {
     pub act: Act,
-    /// The keys not struck yet, rising.
-    pub targets: Vec<u8>,
+    pub targets: Targets,
     /// More than one only for maps that were fused.
     pub labels: Vec<u16>,
+}
+
+/// Where an operation has yet to act.
+#[derive(Clone, Debug, PartialEq, Eq)]
+pub enum Targets {
+    /// At the keys not struck yet, rising.
+    Keys(Vec<u8>),
+    /// At each station that it meets. The mark says that it has acted at this one; an
+    /// all-call that waits has none.
+    All { done: bool },
 }
 
 /// What an operation does at a target, with the value that it holds so far.
@@ -209,12 +218,16 @@ impl Waiting {
     fn new(call: Call, label: u16) -> Waiting {
         match call {
             Call::Add { value } => Waiting::Add { label, value },
-            Call::Visit { act, targets } => Waiting::visit(act, targets, label),
-            Call::Unmap { a, b, targets } => Waiting::visit(Act::undoing(a, b), targets, label),
+            Call::Visit { act, to } => Waiting::visit(act, to, label),
+            Call::Unmap { a, b, to } => Waiting::visit(Act::undoing(a, b), to, label),
         }
     }
 
-    fn visit(act: Act, targets: Vec<u8>, label: u16) -> Waiting {
+    fn visit(act: Act, to: To, label: u16) -> Waiting {
+        let targets = match to {
+            To::Keys(keys) => Targets::Keys(keys),
+            To::All => Targets::All { done: false },
+        };
         Waiting::Visit(Operation {
             act,
             targets,

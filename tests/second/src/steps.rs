@@ -5,7 +5,7 @@
 
 use crate::line::{Step, LIST};
 use crate::refusal::Refusal;
-use crate::session::{Act, Node, Operation, Outcome, Session, Station, Unit, Waiting};
+use crate::session::{Act, Node, Operation, Outcome, Session, Station, Targets, Unit, Waiting};
 use crate::Tally;
 
 /// A fused map has at most this many labels.
@@ -106,8 +106,9 @@ impl Session {
     /// Stores the operation's result for each of its labels.
     fn store(&mut self, operation: Operation) {
         let value = operation.act.result();
+        let left = operation.targets.left();
         for label in operation.labels {
-            let left = operation.targets.clone();
+            let left = left.clone();
             self.results.insert(label, Outcome { value, left });
         }
     }
@@ -132,10 +133,13 @@ impl Session {
         let last = self.is_last(place);
         let Station { node, streamlet } = &mut self.stations[place];
         let head = streamlet.front().ok_or(Refusal::NoUnit)?;
-        if last || head.iter().any(|operation| operation.targets(node)) {
+        if last || head.iter().any(|operation| operation.targets.has(node)) {
             return Err(Refusal::NotAllowed);
         }
-        let unit = streamlet.pop_front().ok_or(Refusal::NoUnit)?;
+        let mut unit = streamlet.pop_front().ok_or(Refusal::NoUnit)?;
+        for operation in &mut unit {
+            operation.targets.unmark();
+        }
         self.stations[place + 1].streamlet.push_back(unit);
         Ok(())
     }
@@ -255,22 +259,18 @@ impl Station {
 }
 
 impl Operation {
-    fn targets(&self, node: &Node) -> bool {
-        self.targets.contains(&node.key)
-    }
-
     /// The first rule that holds for it at the node's station.
     ///
     /// Once no targets are left, LAST or PROP holds beside COMPLETE. The paper's figure
     /// prints PROP before COMPLETE; asked there, it would keep such an operation from
     /// finishing before the last station.
     fn rule(&self, node: &Node, last: bool) -> Rule {
-        let (targeted, fold) = (self.targets(node), self.act.is_fold());
+        let (targeted, fold) = (self.targets.has(node), self.act.is_fold());
         if targeted && !fold {
             Rule::Map
         } else if targeted && fold {
             Rule::Fold
-        } else if self.targets.is_empty() {
+        } else if self.targets.are_none() {
             Rule::Complete
         } else if last {
             Rule::Last
@@ -279,15 +279,15 @@ impl Operation {
         }
     }
 
-    /// Acts at the node and strikes its key.
+    /// Acts at the node, which is no target any more.
     fn visit(&mut self, node: &mut Node) {
         self.act.visit(node);
-        self.targets.retain(|&key| key != node.key);
+        self.targets.strike(node.key);
     }
 
     fn may_swap(&self, other: &Operation) -> bool {
-        let disjoint = !self.targets.iter().any(|key| other.targets.contains(key));
-        disjoint || (self.act.is_fold() && other.act.is_fold())
+        let both_folds = self.act.is_fold() && other.act.is_fold();
+        both_folds || !self.targets.share_one(&other.targets)
     }
 
     /// This map followed by the other, where the two may become one.
@@ -309,6 +309,59 @@ impl Operation {
             targets,
             labels,
         })
+    }
+}
+
+impl Targets {
+    /// Whether the node is one of them, where the operation stands at its station.
+    pub fn has(&self, node: &Node) -> bool {
+        match self {
+            Targets::Keys(keys) => keys.contains(&node.key),
+            Targets::All { done } => !done,
+        }
+    }
+
+    /// Whether there are none wherever the operation goes. An all-call that is marked may
+    /// have stations ahead.
+    pub fn are_none(&self) -> bool {
+        match self {
+            Targets::Keys(keys) => keys.is_empty(),
+            Targets::All { .. } => false,
+        }
+    }
+
+    fn strike(&mut self, key: u8) {
+        match self {
+            Targets::Keys(keys) => keys.retain(|&other| other != key),
+            Targets::All { done } => *done = true,
+        }
+    }
+
+    /// What a station marked does not count at the next.
+    fn unmark(&mut self) {
+        if let Targets::All { done } = self {
+            *done = false;
+        }
+    }
+
+    /// Marks do not matter here: an all-call is for the stations ahead too.
+    fn share_one(&self, other: &Targets) -> bool {
+        match (self, other) {
+            (Targets::Keys(keys), Targets::Keys(others)) => {
+                keys.iter().any(|key| others.contains(key))
+            }
+            (Targets::All { .. }, Targets::All { .. }) => true,
+            (Targets::All { .. }, Targets::Keys(keys))
+            | (Targets::Keys(keys), Targets::All { .. }) => !keys.is_empty(),
+        }
+    }
+
+    /// The keys that were not met. An all-call names none.
+    fn left(self) -> Vec<u8> {
+        match self {
+            Targets::Keys(keys) => keys,
+            Targets::All { .. } => Vec::new(),
+        }
     }
 }
 

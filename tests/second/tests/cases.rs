@@ -4,7 +4,7 @@ mod common;
 
 use common::{calls, mapped, Desk, UNDOING};
 use second::random::Random;
-use second::{meaning, Act, Operation};
+use second::{meaning, Act, Operation, Targets};
 
 /// Drains the calls, and sees that one-at-a-time processing gives the same.
 fn drained(lines: &[&str]) -> Desk {
@@ -506,8 +506,8 @@ fn a_map_and_its_unmap_fuse_to_the_identity() {
             let fused = head_operation(&desk);
             assert_eq!(fused.act, Act::Map { a: 1, b: 0 });
             assert_eq!(
-                (&fused.targets[..], &fused.labels[..]),
-                (&[1, 9][..], &[2, 3][..])
+                (&fused.targets, &fused.labels[..]),
+                (&Targets::Keys(vec![1, 9]), &[2, 3][..])
             );
             desk.refuses(22, "step=finish at=1");
             desk.all(&["step=realise at=1", "step=finish at=1"]);

@@ -6,9 +6,9 @@ use std::collections::VecDeque;
 
 use common::{top_by, Desk, SIGNED, UNDOING, WRONG_ORDERS};
 use second::random::{session, Scribe};
-use second::samples::{broken, crowd, rich, sum};
+use second::samples::{broken, changed, crowd, operation, rich, sum, whole};
 use second::{host, image, session_of, valid, IMAGE_BYTES};
-use second::{Act, Operation, Outcome, Session, Station, Waiting};
+use second::{Act, Operation, Outcome, Session, Station, Targets, Waiting};
 
 const NODE: usize = 16;
 const OPERATION: usize = 1040;
@@ -218,6 +218,168 @@ fn one_fact_broken() {
     }
 }
 
+/// The all byte and the mark are the last two of an operation's record.
+#[test]
+fn all_and_mark_stand_at_their_places() {
+    let bytes = whole();
+    assert_eq!(bytes[..6], [3, 3, 8, 3, 13, 0]);
+    let ends: Vec<&[u8]> = (0..8).map(|i| &bytes[operation(i, 30)..][..2]).collect();
+    let ends_expected = [
+        [1, 1],
+        [1, 0],
+        [0, 0],
+        [1, 1],
+        [0, 0],
+        [1, 0],
+        [0, 0],
+        [0, 0],
+    ];
+    assert_eq!(ends, ends_expected);
+    let mut record = [0; 32];
+    record[..12].copy_from_slice(&[1, 1, 1, 0, 6, 0, 0, 0, 9, 0, 0, 0]);
+    record[21..26].copy_from_slice(&[2, 5, 0, 6, 0]);
+    record[30..].copy_from_slice(&[1, 1]);
+    assert_eq!(bytes[operation(0, 0)..][..32], record);
+    for index in [0, 1, 3, 5] {
+        assert_eq!(bytes[operation(index, 12)..][..9], [0; 9], "{index}");
+    }
+    let session = session_of(&bytes).expect("it was written");
+    let marks = |place: usize| -> Vec<&Targets> {
+        let units = session.stations[place].streamlet.iter().flatten();
+        units.map(|op| &op.targets).collect()
+    };
+    let (all, done) = (Targets::All { done: false }, Targets::All { done: true });
+    assert_eq!(marks(0), [&done, &Targets::Keys(vec![1])]);
+    assert_eq!(marks(1), [&all, &Targets::Keys(vec![])]);
+    assert_eq!(marks(2), [&done]);
+}
+
+/// The other side of what refusal 2 says of the two bytes: operation 2 has no targets,
+/// operation 7 waits with one.
+#[test]
+fn all_and_mark_that_pass() {
+    let (all, mark) = (|index| operation(index, 30), |index| operation(index, 31));
+    let changes: [&[(usize, u8)]; 9] = [
+        &[],
+        &[(mark(0), 0)],
+        &[(mark(1), 1)],
+        &[(mark(0), 0), (mark(3), 0), (mark(1), 1)],
+        &[(all(0), 0), (mark(0), 0)],
+        &[(all(2), 1)],
+        &[(all(2), 1), (mark(2), 1)],
+        &[(all(5), 0)],
+        &[(all(7), 1), (operation(7, 12), 0), (operation(7, 13), 0)],
+    ];
+    for changes in changes {
+        let bytes = changed(whole(), changes);
+        let session = session_of(&bytes).expect("such a session");
+        assert_eq!(image(&session), bytes);
+        stays_valid(&mut Scribe::new(12), session);
+    }
+}
+
+#[test]
+fn a_session_with_a_waiting_mark_is_not_valid() {
+    let mut session = session_of(&whole()).expect("it was written");
+    let Some(Waiting::Visit(near)) = session.top.front_mut() else {
+        panic!("the near waits first");
+    };
+    assert_eq!(near.targets, Targets::All { done: false });
+    near.targets = Targets::All { done: true };
+    assert!(!valid(&session));
+}
+
+/// Random sessions have both kinds of call, marked and not, fused and not, and unmarked
+/// ones that wait; damage often hits the two bytes, and both passes and is refused there.
+#[test]
+fn random_sessions_have_all_calls() {
+    let mut scribe = Scribe::new(13);
+    let (mut both, mut marked, mut unmarked, mut fused, mut waiting) = (0, 0, 0, 0, 0);
+    let (mut hit, mut passed) = (0, 0);
+    for _ in 0..3000 {
+        let session = session::any(&mut scribe.random);
+        let is_all = |op: &&Operation| matches!(op.targets, Targets::All { .. });
+        let done = |op: &&Operation| op.targets == Targets::All { done: true };
+        let alls = session.operations().filter(is_all).count();
+        both += u32::from(alls > 0 && alls < session.operations().count());
+        marked += session.operations().filter(done).count();
+        unmarked += alls - session.operations().filter(done).count();
+        let several = |op: &&Operation| op.labels.len() > 1;
+        fused += session.operations().filter(done).filter(several).count();
+        let all_waits = |w: &&Waiting| matches!(w, Waiting::Visit(op) if is_all(&op));
+        waiting += session.top.iter().filter(all_waits).count();
+        let before = image(&session);
+        let mut after = before;
+        session::damage_image(&mut scribe.random, &mut after);
+        let ends = (0..64).flat_map(|i| [operation(i, 30), operation(i, 31)]);
+        if ends.clone().any(|place| before[place] != after[place]) {
+            hit += 1;
+            passed += u32::from(session_of(&after).is_some());
+        }
+    }
+    assert!(both > 1000 && waiting > 500, "{both}, {waiting}");
+    assert!(marked > 1000 && unmarked > 1000, "{marked}, {unmarked}");
+    assert!(fused > 300, "{fused}");
+    assert!(
+        hit > 200 && passed > 5 && hit - passed > 100,
+        "{hit}, {passed}"
+    );
+}
+
+/// An all-call's act, in any session: the first of the head unit that has not acted there
+/// gets its mark, and what moves has none.
+#[test]
+fn all_calls_without_a_history() {
+    let mut scribe = Scribe::new(14);
+    let (mut realised, mut moved) = (0, 0);
+    for _ in 0..3000 {
+        let session = session::any(&mut scribe.random);
+        for (place, station) in session.stations.iter().enumerate() {
+            let at = station.node.key;
+            let Some(head) = station.streamlet.front() else {
+                continue;
+            };
+            let acts = |op: &Operation| match &op.targets {
+                Targets::Keys(keys) => keys.contains(&at),
+                Targets::All { done } => !done,
+            };
+            let first = head.iter().position(acts);
+            let mut after = session.clone();
+            let line = format!("step=realise at={at}");
+            let answer = after.step(line.as_bytes(), &mut [0; 8]);
+            assert_eq!(answer, if first.is_some() { 0 } else { -22 });
+            if let Some(first) = first {
+                let unit = &after.stations[place].streamlet[0];
+                assert_eq!(unit.len(), head.len());
+                if let Targets::All { .. } = head[first].targets {
+                    assert_eq!(unit[first].targets, Targets::All { done: true });
+                    realised += 1;
+                }
+                assert_eq!(unit[first + 1..], head[first + 1..]);
+            }
+            let mut after = session.clone();
+            let line = format!("step=move at={at}");
+            let answer = after.step(line.as_bytes(), &mut [0; 8]);
+            let moves = first.is_none() && at > 1;
+            assert_eq!(answer, if moves { 0 } else { -22 });
+            if moves {
+                let unit = after.stations[place + 1]
+                    .streamlet
+                    .back()
+                    .expect("it moved");
+                assert!(unit
+                    .iter()
+                    .all(|op| op.targets != Targets::All { done: true }));
+                let marks = head
+                    .iter()
+                    .filter(|op| op.targets == Targets::All { done: true });
+                moved += marks.count();
+            }
+        }
+    }
+    assert!(realised > 500 && moved > 100, "{realised}, {moved}");
+}
+
 #[test]
 fn counts_at_their_limits() {
     let passes = |session: Session| session_of(&image(&session)) == Some(session);
@@ -248,7 +410,7 @@ fn history_is_not_tested() {
     passes(&session); // a top stream in any label order
     let fused = Operation {
         act: Act::Map { a: 1, b: 2 },
-        targets: vec![3],
+        targets: Targets::Keys(vec![3]),
         labels: vec![9, 1, 8, 3],
     };
     session.top.push_back(Waiting::Visit(fused.clone()));
@@ -261,7 +423,7 @@ fn history_is_not_tested() {
             key: 64,
             full: u32::MAX,
         },
-        targets: vec![1],
+        targets: Targets::Keys(vec![1]),
         labels: vec![4],
     };
     session.stations[2].node.links = vec![7; 8];
@@ -324,7 +486,7 @@ fn a_tops_number_stands_in_b() {
 fn unlink(removed: u32, targets: &[u8]) -> Operation {
     Operation {
         act: Act::Unlink { key: 9, removed },
-        targets: targets.to_vec(),
+        targets: Targets::Keys(targets.to_vec()),
         labels: vec![1],
     }
 }
@@ -395,7 +557,7 @@ fn a_waiting_unlink_with_a_count() {
 /// The first operation of the head unit that targets the node.
 fn next_to_act(station: &Station) -> Option<&Operation> {
     let mut head = station.streamlet.front()?.iter();
-    head.find(|op| op.targets.contains(&station.node.key))
+    head.find(|op| op.targets.has(&station.node))
 }
 
 /// What an operation holds once it is realised at this station, where it is next to act.
@@ -515,7 +677,7 @@ fn a_waiting_map_of_several_labels() {
     session.last = 3;
     session.top.push_back(Waiting::Visit(Operation {
         act: Act::Map { a: 1, b: 2 },
-        targets: vec![3],
+        targets: Targets::Keys(vec![3]),
         labels: vec![3, 1],
     }));
     assert_eq!(session.step(b"step=admit", &mut [0; 8]), 0);

@@ -6,7 +6,9 @@
 use super::{neighbour, value, Random};
 use crate::image::IMAGE_BYTES;
 use crate::line::{KEYS, LIST};
-use crate::session::{Act, Node, Operation, Outcome, Session, Station, Unit, Waiting, LIVE};
+use crate::session::{
+    Act, Node, Operation, Outcome, Session, Station, Targets, Unit, Waiting, LIVE,
+};
 
 /// Any valid session: full ones and small ones, all kinds, all places.
 pub fn any(random: &mut Random) -> Session {
@@ -42,6 +44,8 @@ pub fn damage_image(random: &mut Random, image: &mut [u8; IMAGE_BYTES]) {
         let place = start + random.below(length + 1) as usize;
         let place = if random.once_in(30) {
             random.below(IMAGE_BYTES as u64) as usize
+        } else if operations > 0 && random.once_in(8) {
+            all_or_mark(random, operations)
         } else {
             place.min(IMAGE_BYTES - 1)
         };
@@ -49,6 +53,13 @@ pub fn damage_image(random: &mut Random, image: &mut [u8; IMAGE_BYTES]) {
         let byte = random.choose(&[0, 1, 2, 3, 4, 5, 8, 9, 64, 65, 66, 255, near, near]);
         image[place] = byte;
     }
+}
+
+/// The place of the byte of some operation that says whether it is for all, or of the next,
+/// which has its mark.
+fn all_or_mark(random: &mut Random, operations: u8) -> usize {
+    let operation = random.below(u64::from(operations)) as usize;
+    1040 + 32 * operation + random.choose(&[30, 31])
 }
 
 fn small_or_up_to(random: &mut Random, most: u64) -> u64 {
@@ -139,6 +150,9 @@ fn put_operation(random: &mut Random, session: &mut Session, label: u16, more: &
         return put_waiting(random, session, label, more);
     }
     let mut operation = operation(random, label, more);
+    if let Targets::All { done } = &mut operation.targets {
+        *done = random.once_in(2);
+    }
     let stations = session.stations.len() as u64;
     let near = random.choose(&[1, stations.min(2), stations]);
     let place = match random.below(2) {
@@ -158,10 +172,13 @@ fn put_operation(random: &mut Random, session: &mut Session, label: u16, more: &
 /// Lets an operation find work at this node: it is a target, its list has the key, and its
 /// value is near what a top holds, by some order.
 fn aim(random: &mut Random, operation: &mut Operation, node: &Node) {
-    let targets = &mut operation.targets;
-    if targets.len() < LIST && !targets.contains(&node.key) {
-        targets.push(node.key);
-        targets.sort_unstable();
+    match &mut operation.targets {
+        Targets::Keys(keys) if keys.len() < LIST && !keys.contains(&node.key) => {
+            keys.push(node.key);
+            keys.sort_unstable();
+        }
+        Targets::Keys(_) => {}
+        Targets::All { done } => *done = false,
     }
     if let Act::Unlink { key, .. } | Act::Near { key, .. } = &mut operation.act {
         if !node.links.is_empty() {
@@ -173,7 +190,7 @@ fn aim(random: &mut Random, operation: &mut Operation, node: &Node) {
     }
 }
 
-/// An operation of this label; a map may take more of them.
+/// An operation of this label, with no mark; a map may take more labels.
 fn operation(random: &mut Random, label: u16, more: &mut Vec<u16>) -> Operation {
     let held = value(random);
     let act = match random.below(12) {
@@ -202,7 +219,11 @@ fn operation(random: &mut Random, label: u16, more: &mut Vec<u16>) -> Operation 
         let others = random.choose(&[0, 0, 1, 2, 3]).min(more.len());
         labels.extend(more.drain(more.len() - others..));
     }
-    let targets = target_list(random);
+    let targets = if random.once_in(4) {
+        Targets::All { done: false }
+    } else {
+        Targets::Keys(target_list(random))
+    };
     Operation {
         act,
         targets,
