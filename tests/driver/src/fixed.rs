@@ -2,7 +2,7 @@
 
 use hosts::{Entry, LISTING_BYTES, RESULT_BYTES};
 use second::random::{session, Random};
-use second::samples::{broken, crowd, rich};
+use second::samples::{broken, crowd, rich, whole};
 use second::{image, Outcome, Session, IMAGE_BYTES};
 
 use crate::lent::{Lent, MET};
@@ -49,7 +49,7 @@ fn fact(bytes: &[u8]) -> Result<(), String> {
 /// One byte changed, at every place of some images: both say which of them are still a session's.
 pub fn single_bytes() -> Result<(), String> {
     let full = image(&full_session());
-    for bytes in [rich(), full, image(&greatest()), image(&Session::open())] {
+    for bytes in [rich(), whole(), full, image(&greatest()), image(&Session::open())] {
         for place in 0..IMAGE_BYTES {
             let was = bytes[place];
             let near = [was ^ 1, was.wrapping_add(1), was.wrapping_sub(1)];
@@ -89,6 +89,22 @@ pub fn long_lines() -> Result<(), String> {
         }
     }
     Ok(())
+}
+
+/// What the licence quotes for an all-call is reached: over 64 nodes, with nothing joined, it takes an
+/// admit, 64 realises, 63 moves and a finish.
+pub fn quoted_for_all() -> Result<(), String> {
+    let mut lent = Lent::new(&image(&Session::open()), RESULT_BYTES, [0; 8]);
+    for label in 1..=64 {
+        lent.expect(label, Entry::Call, b"call=add value=1", 0)?;
+    }
+    lent.expect(0, Entry::Step, b"step=drain", 0)?;
+    lent.expect_tally([64, 0, 0, 0, 0, 0, 0, 0])?;
+    let claimed = b"label=1 value=1 left=\n";
+    lent.expect(claimed.len() as i64, Entry::Claim, b"claim=1", 0)?;
+    lent.expect(65, Entry::Call, b"call=sum start=0 to=all", 0)?;
+    lent.expect(0, Entry::Step, b"step=drain", 0)?;
+    lent.expect_tally([64 + 1, 64, 63, 1, 0, 0, 0, 0])
 }
 
 /// A claim and a listing need room for all that they write, and write no more.

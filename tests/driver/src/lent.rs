@@ -89,6 +89,13 @@ impl Lent {
         }
     }
 
+    pub fn expect_tally(&self, due: Tally) -> Result<(), String> {
+        match self.tally {
+            tally if tally == due => Ok(()),
+            tally => Err(format!("both count {tally:?}, expected {due:?}")),
+        }
+    }
+
     fn differs(&self, other: &Lent) -> Option<String> {
         let mut pairs = self.bytes.iter().zip(&other.bytes);
         let (image, out) = (MARGIN, 2 * MARGIN + self.image_len);

@@ -192,7 +192,7 @@ fn random_bytes(random: &mut Random, most: u64) -> Vec<u8> {
 
 /// Words of the lines in any order.
 fn words(random: &mut Random) -> Vec<u8> {
-    const WORDS: [&str; 55] = [
+    const WORDS: [&str; 58] = [
         "call=",
         "call=",
         "step=",
@@ -222,6 +222,7 @@ fn words(random: &mut Random) -> Vec<u8> {
         " start=",
         " to=",
         " to=",
+        " to=all",
         " at=",
         " at=",
         " unit=",
@@ -237,6 +238,8 @@ fn words(random: &mut Random) -> Vec<u8> {
         "65",
         "00",
         "-1",
+        "all",
+        "ALL",
         "2147483648",
         "4294967295",
         "4294967296",
