@@ -21,6 +21,7 @@ fn main() {
         scene::typical(),
         scene::full(),
         scene::settled(),
+        scene::whole(),
         scene::images(),
     ];
     let mut copy = f64::INFINITY;

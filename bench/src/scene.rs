@@ -171,6 +171,8 @@ fn at_its_first_target(
     desk
 }
 
+const MAP_FOR_ALL: &str = "call=map a=65537 b=4294967295 to=all";
+
 /// A session in which a step of every kind is allowed: a result that is left alone, sums at one station,
 /// maps at another, a unit of two at a third, a sum without targets at the front, and calls that wait. For a realise of an
 /// unlink and of a top one each with as many live calls: the unlink or the top at its first target, and sums that wait.
@@ -211,7 +213,9 @@ fn busy(nodes: u32, links: u32, targets: u32, stations: [u32; 3], counts: [u32; 
         desk.row("open", Entry::Open, "", 0),
         with_a_place_free.row("call", Entry::Call, &map, 0),
         with_a_place_free.row("call unmap", Entry::Call, &unmap, 0),
+        with_a_place_free.row("call for all", Entry::Call, MAP_FOR_ALL, 0),
         desk.row("call, 10", Entry::Call, &format!("{map},"), 10),
+        desk.row("call for all, 10", Entry::Call, &format!("{MAP_FOR_ALL},1"), 10),
         desk.row("call unmap, 40", Entry::Call, &even, 40),
         step("step admit", "step=admit".into(), 0),
         step("step realise", format!("step=realise at={low}"), 0),
@@ -237,6 +241,35 @@ fn busy(nodes: u32, links: u32, targets: u32, stations: [u32; 3], counts: [u32; 
         desk.row("list, 33", Entry::List, "", 33),
         step("drain", "step=drain".into(), 0),
     ]
+}
+
+/// One all-call over as many nodes as there can be: each kind of step that it takes, and all of them in a drain.
+pub fn whole() -> Scene {
+    let call = "call=sum start=4294967295 to=all";
+    let mut without = Desk::open();
+    without.add_nodes(64, 8);
+    let mut waiting = without.clone();
+    waiting.serve(call);
+    let mut unmarked = waiting.clone();
+    unmarked.serve("step=admit");
+    let mut marked = unmarked.clone();
+    marked.serve("step=realise at=64");
+    let mut last = marked.clone();
+    for key in (1..64).rev() {
+        last.serve(&format!("step=move at={}", key + 1));
+        last.serve(&format!("step=realise at={key}"));
+    }
+    let rows = vec![
+        without.row("call", Entry::Call, call, 0),
+        waiting.row("step admit", Entry::Step, "step=admit", 0),
+        unmarked.row("step realise", Entry::Step, "step=realise at=64", 0),
+        marked.row("step move", Entry::Step, "step=move at=64", 0),
+        marked.row("step finish, 22", Entry::Step, "step=finish at=64", 22),
+        last.row("step finish", Entry::Step, "step=finish at=1", 0),
+        waiting.row("drain", Entry::Step, "step=drain", 0),
+    ];
+    let name = "A call over the whole scene: 64 nodes with 8 links each, one sum for all, nothing else live";
+    Scene { name, rows }
 }
 
 /// Images of several sizes. The line is of no form, so that hardly more than the test of the image is timed.
