@@ -5,7 +5,8 @@
 
 - a block of `lines` and the block `printed` that follows it: the input and the whole output;
 - a table under <!-- rows: BEFORE >> AFTER -->: the first cell of a row is a line, which is sent after the lines
-  BEFORE and followed by the lines AFTER; the code in its other cells is what is printed, `refused=N` for its own line;
+  BEFORE and followed by the lines AFTER; the code in its other cells is what is printed, `refused=N` for its own line, and `0`
+  for a step that is served, of which nothing is printed;
 - a table under <!-- names -->: the file in crates/ and the names that it defines;
 - the program in C: it compiles, and with LIBRARY (build/libcg.a) prints the block that follows it;
 - docs/steps/*.svg: they are what docs/steps.py draws, and the model agrees with PROGRAM before and after each step.
@@ -58,9 +59,9 @@ def c_prints(source):
         return subprocess.run([f"{folder}/page"], stdout=subprocess.PIPE).stdout.decode() if library else None
 
 
-def tables(mark):
+def tables(word):
     """The rows of each table under a comment, as the code in their cells."""
-    for argument, table in re.findall(rf"^<!-- {mark}(.*?) -->\n\n?((?:\|.*\n)+)", PAGE, re.M):
+    for argument, table in re.findall(rf"^<!-- {word}(.*?) -->\n\n?((?:\|.*\n)+)", PAGE, re.M):
         for row in table.splitlines()[2:]:
             yield argument, [re.findall(r"`([^`]*)`", cell) for cell in row.strip("|").split("|")]
 
@@ -71,7 +72,7 @@ def rows():
         (line,), spans = cells[0], sum(cells[1:], [])
         printed = run(before + [line] + after).splitlines()
         own = f"line={len(before) + 1} "
-        right = spans and all(span in printed or own + span in printed for span in spans)
+        right = spans and all(span == "0" or span in printed or own + span in printed for span in spans)
         refused = [words for words in printed if " refused=" in words]
         tell(right and len(refused) == sum(span.startswith("refused=") for span in spans), f"the row of {line}: {printed}")
 

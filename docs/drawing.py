@@ -11,6 +11,10 @@ def box(x, y, width, height, fill, edge, radius=6, changed=False):
     return f'<rect x="{x}" y="{y}" width="{width}" height="{height}" rx="{radius}" fill="{fill}" stroke="{stroke}"/>'
 
 
+def dot(x, y, radius):
+    return f'<circle cx="{x}" cy="{y}" r="{radius}" fill="#222"/>'
+
+
 def arrow(x1, y1, x2, y2):
     return f'<line x1="{x1}" y1="{y1}" x2="{x2}" y2="{y2}" stroke="#555" stroke-width="1.5" marker-end="url(#head)"/>'
 

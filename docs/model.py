@@ -13,6 +13,8 @@ TWO_UNITS = ("join", "swap", "fuse")
 
 @dataclass
 class Op:
+    """`targets` are the keys that remain; an all-call lists none, and is `marked` while it is done at its station."""
+
     kind: str
     labels: list
     targets: list
@@ -20,6 +22,15 @@ class Op:
     a: int = 0
     b: int = 0
     held: int = 0
+    for_all: bool = False
+    marked: bool = False
+
+    def hits(self, key):
+        """Does it target the node with this key, at whose station it is?"""
+        return not self.marked if self.for_all else key in self.targets
+
+    def has_targets(self):
+        return self.for_all or bool(self.targets)
 
 
 @dataclass
@@ -44,10 +55,11 @@ class Session:
         fields = dict(fields)
         if entry == "call":
             self.last += 1
-            targets = [int(key) for key in fields.pop("to", "").split(",") if key]
+            to = fields.pop("to", "")
+            targets = [int(key) for key in to.split(",")] if to not in ("", "all") else []
             held = int(fields.pop("start", fields.pop("value", 0)))
             numbers = {name: int(value) for name, value in fields.items()}
-            self.top.append(Op(word, [self.last], targets, held=held, **numbers))
+            self.top.append(Op(word, [self.last], targets, held=held, for_all=to == "all", **numbers))
             return 0
         if entry == "step":
             return self.step(word, {name: int(value) for name, value in fields.items()})
@@ -121,11 +133,13 @@ class Session:
 
     def at_unit(self, word, station, last, units, i, fields):
         unit = units[i]
-        here = [op for op in unit if station.key in op.targets]
-        done = [op for op in unit if not op.targets or (last and op not in here)]
+        here = [op for op in unit if op.hits(station.key)]
+        done = [op for op in unit if not op.has_targets() or (last and op not in here)]
         if word == "realise" and here:
             act(here[0], station)
         elif word == "move" and not here and not last:
+            for op in unit:
+                op.marked = False
             self.stations[self.stations.index(station) + 1].units.append(units.pop(0))
         elif word == "finish" and done:
             self.store(done[0])
@@ -145,7 +159,7 @@ class Session:
 
 
 def act(op, node):
-    op.targets = [key for key in op.targets if key != node.key]
+    op.targets, op.marked = [key for key in op.targets if key != node.key], op.for_all
     if op.kind == "map":
         node.value = (op.a * node.value + op.b) % WRAP
     elif op.kind == "link" and len(node.links) < 8:
@@ -167,15 +181,22 @@ def signed(number):
     return number if number < WRAP // 2 else number - WRAP
 
 
+def share_a_target(first, second):
+    if first.for_all or second.for_all:
+        return first.has_targets() and second.has_targets()
+    return bool(set(first.targets) & set(second.targets))
+
+
 def may_swap(first, second):
-    return not set(first.targets) & set(second.targets) or (first.kind in FOLDS and second.kind in FOLDS)
+    return not share_a_target(first, second) or (first.kind in FOLDS and second.kind in FOLDS)
 
 
 def may_fuse(first, second):
     maps = first.kind == second.kind == "map"
-    return maps and first.targets == second.targets and len(first.labels + second.labels) <= 4
+    same = (first.targets, first.for_all, first.marked) == (second.targets, second.for_all, second.marked)
+    return maps and same and len(first.labels + second.labels) <= 4
 
 
 def fused(first, second):
     a, b = second.a * first.a % WRAP, (second.a * first.b + second.b) % WRAP
-    return Op("map", first.labels + second.labels, first.targets, a=a, b=b)
+    return Op("map", first.labels + second.labels, first.targets, a=a, b=b, for_all=first.for_all, marked=first.marked)

@@ -14,7 +14,7 @@ COLUMN, TOP, UNIT_HEIGHT = 196, 66, 44
 # What stands where after line 18. A unit is a list of operations: text, then targets and labels.
 WAITING = [["near 3", "to 1 · label 9"]]
 STATIONS = [
-    ("node 3", "value 11", "links –", [["map 6, 9 (fused)", "to 1,2 · labels 5,6"], ["top", "to 1,2,9 · label 8"], ["sum", "to 1,2,3 · label 7"]]),
+    ("node 3", "value 11", "links –", [["map 6, 9 (fused)", "to 1,2 · labels 5,6"], ["top", "to 1,2,9 · label 8"], ["sum", "to all · label 7"]]),
     ("node 2", "value 7", "links –", [["link 3", "to 1 · label 4"]]),
     ("node 1", "value 5", "links –", []),
 ]

@@ -3,12 +3,13 @@
 
     python3 docs/steps.py
 
-Both sessions are computed by docs/model.py from the lines below. What a step changes has a red edge.
+Both sessions are computed by docs/model.py from the lines below. What a step changes has a red edge. A mark is a dark dot in the
+operation's box, below the word 'marked'.
 """
 
 import pathlib
 
-from drawing import arrow, box, picture, text
+from drawing import arrow, box, dot, picture, text
 from model import FOLDS, Session
 
 # The name of each picture, the lines before the step, and the step.
@@ -18,7 +19,9 @@ PICTURES = [
     ("admit-add", ONE + ["call=add value=7", "call=sum start=10 to=1"], "step=admit"),
     ("admit", TWO + ["call=map a=3 b=4 to=1,2", "step=admit", "call=sum start=10 to=1,9"], "step=admit"),
     ("realise", TWO + ["call=sum start=10 to=1", "call=map a=3 b=4 to=1,2", "step=admit", "step=admit", "step=join at=2 unit=1"], "step=realise at=2"),
+    ("all-realise", TWO + ["call=sum start=10 to=all", "call=map a=3 b=4 to=all", "step=admit", "step=admit"], "step=realise at=2"),
     ("move", TWO + ["call=link key=2 to=1", "call=map a=3 b=4 to=1", "call=sum start=10 to=1,2", "step=admit", "step=move at=2", "step=admit", "step=admit"], "step=move at=2"),
+    ("all-move", TWO + ["call=sum start=10 to=all", "call=map a=3 b=4 to=all", "step=admit", "step=admit", "step=realise at=2"], "step=move at=2"),
     ("finish", ONE + ["call=sum start=10 to=1,9", "call=map a=3 b=4 to=1", "step=admit", "step=realise at=1", "step=admit"], "step=finish at=1"),
     ("join", ONE + ["call=map a=3 b=4 to=1", "call=sum start=10 to=1", "step=admit", "step=admit"], "step=join at=1 unit=1"),
     ("split", ONE + ["call=map a=3 b=4 to=1", "call=sum start=10 to=1", "call=unlink key=2 to=1"] + ["step=admit"] * 3 + ["step=join at=1 unit=1"] * 2, "step=split at=1 unit=1 after=1"),
@@ -28,18 +31,26 @@ PICTURES = [
 ]
 
 COLUMN, TOP, OP, GAP = 132, 76, 46, 44
+MARKED = "to all, marked"
 
 
 def keys(numbers):
     return ",".join(map(str, numbers)) or "–"
 
 
+def to_of(op):
+    if op.kind == "add":
+        return "a new node"
+    if op.for_all:
+        return MARKED if op.marked else "to all"
+    return f"to {keys(op.targets)}"
+
+
 def words_of(op):
     """The three lines of an operation or a waiting call."""
     numbers = {"map": f" {op.a}, {op.b}", "add": f" {op.held}"}.get(op.kind, f" {op.key}" if op.key else "")
     held = f", holds {op.held}" if op.kind in FOLDS else ""
-    to = "a new node" if op.kind == "add" else f"to {keys(op.targets)}"
-    return op.kind + numbers + held, to, f"label{'s' if op.labels[1:] else ''} {keys(op.labels)}"
+    return op.kind + numbers + held, to_of(op), f"label{'s' if op.labels[1:] else ''} {keys(op.labels)}"
 
 
 def columns(session):
@@ -77,6 +88,8 @@ def column_of(x, height, column, other):
             if place:
                 drawn.append(f'<line x1="{left + 6}" y1="{top}" x2="{left + COLUMN - 38}" y2="{top}" stroke="#999" stroke-dasharray="3 3"/>')
             drawn += [text(middle, top + 15 + 13 * i, words, 11, "normal" if i else "bold") for i, words in enumerate(lines)]
+            if lines[1] == MARKED:
+                drawn.append(dot(left + COLUMN - 41, top + 36, 5))
         y += OP * len(unit) + 8
     return drawn
 

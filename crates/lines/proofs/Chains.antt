@@ -18,8 +18,8 @@ use Rattle.lines.specs.Inner.Answers.{ReadAs, form, other}
 use Rattle.lines.specs.Inner.LineParts.{Below, ToRead, KeysRead, TargetsOf, FieldOf, tailText, fieldsText, Spare, Values, ValuesOf}
 use Rattle.lines.specs.declared.fields.Field.the-variants.{Is, Not}
 use Rattle.lines.specs.declared.keylist.KeyList.{KeyList}
-use Rattle.lines.specs.declared.keylist.Targets.{Targets}
-use Rattle.lines.specs.declared.keylist.Targets.the-variants.{Are, Not as AreNot}
+use Rattle.lines.specs.declared.keylist.TargetsAnswer.{TargetsAnswer}
+use Rattle.lines.specs.declared.keylist.TargetsAnswer.the-variants.{Are, Not as AreNot}
 use Rattle.lines.proofs.ToTexts.{to-clean}
 
 -- ---- a number after a literal
@@ -67,7 +67,7 @@ module _ (s : List ℕ) (at : ℕ) where
           p .1 ∙ ap (λ (r : List ℕ). ascii " to=" ++ r) (all ∙ e)
 
       -- where the value is not `all`, it is read as a list
-      pub targets-list : (upTo 32 (drop n s) ≡ ascii "all" → ⊥) → (answer : Targets) (all : Bool) (key : List ℕ) → KeysRead (upTo 32 (drop n s)) answer all key → TargetsOf (drop at s) answer all key
+      pub targets-list : (upTo 32 (drop n s) ≡ ascii "all" → ⊥) → (answer : TargetsAnswer) (all : Bool) (key : List ℕ) → KeysRead (upTo 32 (drop n s)) answer all key → TargetsOf (drop at s) answer all key
       targets-list ne (Are k) all key t = (named (t .0), to-end (named (t .0)) (t .1), t .2)
       targets-list ne AreNot all key never = neither
         where

@@ -23,7 +23,7 @@ use Rattle.graph.proofs.KeyLaws.{key-high, areKeys-snoc, packed-more}
 use Rattle.graph.proofs.Answers.{and-left, and-right}
 use Rattle.lines.specs.Inner.LineParts.{Below, lastOr, KeysOf, KeysStored, KeysRead}
 use Rattle.lines.specs.declared.keylist.KeyList.{KeyList}
-use Rattle.lines.specs.declared.keylist.Targets.the-variants.{Are}
+use Rattle.lines.specs.declared.keylist.TargetsAnswer.the-variants.{Are}
 
 -- ---- one number more
 

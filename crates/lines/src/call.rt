@@ -5,7 +5,7 @@ use crate::fields::targets_field;
 use crate::fields::too_long;
 use crate::fields::value_at;
 use crate::keylist::KeyList;
-use crate::keylist::Targets;
+use crate::keylist::TargetsAnswer;
 use crate::keylist::is_key;
 use graph::affine::is_odd;
 use graph::keys::Keys;
@@ -158,7 +158,7 @@ fn map_call(line: &[u8], at: usize) -> CallLine
     };
     let to = targets_field(line, m);
     let answer = to.answer;
-    let Targets::Are(list) = answer else {
+    let TargetsAnswer::Are(list) = answer else {
         return refused_call(10);
     };
     let keys = to.key;
@@ -175,7 +175,7 @@ fn link_call(kind: CallKind, line: &[u8], at: usize) -> CallLine
     };
     let to = targets_field(line, n);
     let answer = to.answer;
-    let Targets::Are(list) = answer else {
+    let TargetsAnswer::Are(list) = answer else {
         return refused_call(10);
     };
     if !is_key(key) {
@@ -195,7 +195,7 @@ fn start_call(kind: CallKind, line: &[u8], at: usize) -> CallLine
     };
     let to = targets_field(line, n);
     let answer = to.answer;
-    let Targets::Are(list) = answer else {
+    let TargetsAnswer::Are(list) = answer else {
         return refused_call(10);
     };
     let keys = to.key;
@@ -215,7 +215,7 @@ fn near_call(line: &[u8], at: usize) -> CallLine
     };
     let to = targets_field(line, m);
     let answer = to.answer;
-    let Targets::Are(list) = answer else {
+    let TargetsAnswer::Are(list) = answer else {
         return refused_call(10);
     };
     if !is_key(key) {

@@ -1,6 +1,6 @@
 // The fields that follow a line's first word: numbers, and the targets at the end.
 use crate::keylist::KeyList;
-use crate::keylist::Targets;
+use crate::keylist::TargetsAnswer;
 use crate::keylist::TargetsRead;
 use crate::keylist::no_targets;
 use crate::keylist::read_keys;
@@ -65,7 +65,7 @@ pub fn targets_field(line: &[u8], at: usize) -> TargetsRead
     }
     if check::same(value, b"all") {
         return TargetsRead {
-            answer: Targets::Are(KeyList::none()),
+            answer: TargetsAnswer::Are(KeyList::none()),
             all: true,
             key: [0u8; 8],
         };

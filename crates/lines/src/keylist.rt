@@ -9,7 +9,7 @@ ghost use Prim.Native.Nat.{ℕ, _≤_, _<_};
 ghost use lib.ListN.{set};
 ghost use Rattle.graph.specs.KeyLists.{isKey};
 ghost use Rattle.lines.specs.Inner.LineParts.{KeysOf, KeysRead};
-ghost use Rattle.lines.specs.declared.keylist.Targets.the-variants.{Not};
+ghost use Rattle.lines.specs.declared.keylist.TargetsAnswer.the-variants.{Not};
 
 // What is known of the numbers so far: how many (9 for more than eight), the last, whether all are keys, and whether they
 // rise strictly.
@@ -21,7 +21,7 @@ pub struct KeyList {
 }
 
 // Whether bytes are targets.
-pub enum Targets {
+pub enum TargetsAnswer {
     Are(KeyList),
     Not,
 }
@@ -29,7 +29,7 @@ pub enum Targets {
 // The answer, whether they are all, and the keys where they are at most eight. These stand beside it: no covered enum
 // holds an array. Of all no key is listed.
 pub struct TargetsRead {
-    pub answer: Targets,
+    pub answer: TargetsAnswer,
     pub all: bool,
     pub key: [u8; 8],
 }
@@ -38,7 +38,7 @@ pub fn no_targets() -> TargetsRead
     ensures { λ r. ⌜ r .answer ≡ Not ⌝ }
 {
     TargetsRead {
-        answer: Targets::Not,
+        answer: TargetsAnswer::Not,
         all: false,
         key: [0u8; 8],
     }
@@ -112,7 +112,7 @@ pub fn read_keys(s: &[u8]) -> TargetsRead
     let mut key = [0u8; 8];
     if s.len() == 0 {
         return TargetsRead {
-            answer: Targets::Are(k),
+            answer: TargetsAnswer::Are(k),
             all: false,
             key: key,
         };
@@ -129,7 +129,7 @@ pub fn read_keys(s: &[u8]) -> TargetsRead
         at = at + part.len() + 1;
         if s.len() < at {
             return TargetsRead {
-                answer: Targets::Are(k),
+                answer: TargetsAnswer::Are(k),
                 all: false,
                 key: key,
             };

@@ -197,7 +197,7 @@ given-none last k l e = go (givenOnce last l) refl
     go true q = sym e ∙ given-drop last k l q
     go false q = refl
 
--- SEEN: the lower bytes of the labels from i on are marked
+-- SEEN: the lower bytes of the labels from i on are noted
 pub record Seen (l : List ℕ) (i : ℕ) (seen : List ℕ) : Type 0 where
   pub size : length seen ≡ 256
   pub marked : (y : ℕ) → contains y (drop i l) ≡ true → getD seen (y % 256) 0 ≡ 1

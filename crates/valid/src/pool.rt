@@ -108,7 +108,7 @@ fn is_again(s: &[u16], at: usize, x: u16, seen: u8) -> bool
     if seen == 1 { is_among(s, at, x) } else { false }
 }
 
-// Each of the first n labels is from 1 to `last`, and stands once among them. They are looked at from the last one on, and `seen` marks
+// Each of the first n labels is from 1 to `last`, and stands once among them. They are looked at from the last one on, and `seen` notes
 // their lower bytes: labels less than 256 apart are never compared.
 fn given_once(s: &[u16], n: usize, last: u16) -> bool
     requires { ⌜ Padded n (now s) ⌝ }

@@ -29,8 +29,8 @@ use Rattle.lines.specs.declared.call.CallWord.the-variants.{Is as CallIs
 use Rattle.lines.specs.declared.fields.Field.{Field}
 use Rattle.lines.specs.declared.fields.Field.the-variants.{Is, Not}
 use Rattle.lines.specs.declared.keylist.KeyList.{KeyList}
-use Rattle.lines.specs.declared.keylist.Targets.{Targets}
-use Rattle.lines.specs.declared.keylist.Targets.the-variants.{Are, Not as AreNot}
+use Rattle.lines.specs.declared.keylist.TargetsAnswer.{TargetsAnswer}
+use Rattle.lines.specs.declared.keylist.TargetsAnswer.the-variants.{Are, Not as AreNot}
 use Rattle.lines.specs.declared.step.StepKind.{StepKind}
 use Rattle.lines.specs.declared.step.StepKind.the-variants.{Admit, Realise, Move, Finish, Join, Split, Swap, Fuse, Drain}
 use Rattle.lines.specs.declared.step.StepLine.{StepLine}
@@ -72,12 +72,12 @@ pub record ToRead (to : To) (k : KeyList) (all : Bool) (key : List ℕ) : Type 0
   pub wholly : all ≡ isWhole to
 
 -- `Are k`: the bytes are the text of a list of 32-bit numbers, and this is known of it. `Not`: of none
-abbrev pub KeysRead : List ℕ → Targets → Bool → List ℕ → Type 0
+abbrev pub KeysRead : List ℕ → TargetsAnswer → Bool → List ℕ → Type 0
 KeysRead l (Are k) all key = (ts : List ℕ) × (l ≡ commas ts) × ToRead (named ts) k all key
 KeysRead l AreNot all key = (ts : List ℕ) → Below ts → l ≡ commas ts → ⊥
 
 -- the same of ` to=` and what follows it
-abbrev pub TargetsOf : List ℕ → Targets → Bool → List ℕ → Type 0
+abbrev pub TargetsOf : List ℕ → TargetsAnswer → Bool → List ℕ → Type 0
 TargetsOf l (Are k) all key = (to : To) × (l ≡ targets to) × ToRead to k all key
 TargetsOf l AreNot all key = (to : To) → Below (keysListed to) → l ≡ targets to → ⊥
 
