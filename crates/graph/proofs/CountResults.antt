@@ -14,13 +14,13 @@ use Rattle.graph.specs.declared.act.Act.the-variants.{Link, Unlink}
 use Rattle.graph.specs.Affine.{plus}
 use Rattle.graph.specs.Words.{modulus}
 use Rattle.graph.specs.KeyLists.{count, isFull}
-use Rattle.graph.specs.Targets.{To, named, whole, isTarget}
+use Rattle.graph.specs.Targets.{To, named, whole}
 use Rattle.graph.specs.Acts.{newHeld, resultValue}
 use Rattle.graph.specs.Calls.{Call, link, unlink}
 use Rattle.graph.specs.Nodes.{Node, Op, Result, actOn}
 use Rattle.graph.specs.OneAtATime.{World, operation, labelled, passNodes, passOp, oneAtATime}
 use Rattle.graph.specs.Counts.{resultOfLabel}
-use Rattle.graph.specs.CallResults.{nodesAfter, targeted, mostTargets, overLists, oneIfFull, LinkResult, UnlinkResult}
+use Rattle.graph.specs.CallResults.{isTarget, nodesAfter, targeted, mostTargets, overLists, oneIfFull, LinkResult, UnlinkResult}
 use Rattle.graph.proofs.Striking.{strike-less, count-strike, strike-none}
 use Rattle.graph.proofs.Demand3.{oneAtATime-last}
 use Rattle.graph.proofs.MadeNodes.{Made, made, op, past, visit-at, visit-to, past-same}

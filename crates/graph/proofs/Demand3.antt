@@ -115,7 +115,7 @@ quoted-most (c ∷ cs) = go (toOf c) (quoted-most cs)
     go (named ts) h = omega arith
     go whole h = omega arith
 
--- 73 = 65 + 8
+-- 73 = 65 + 8, and 129 for all
 quote-covers : (to : To) → length (keysListed to) ≤ 8 → waitingTo (untouched to) ≤ quoteFor to
 quote-covers (named ts) h = omega arith
 quote-covers whole h = omega arith
@@ -353,7 +353,7 @@ pub accepted-formed : (es : List Event) → Each FormFits ((run es) .accepted)
 accepted-formed es = good-events es start good-start .formed
 
 -- the accepted calls make at most 64 nodes, one at a time: a drain leaves them in a valid session
-graph-length : (ss : List Station) → length (graphOf ss) ≡ length ss
+pub graph-length : (ss : List Station) → length (graphOf ss) ≡ length ss
 graph-length [] = refl
 graph-length (s ∷ ss) = ap suc (graph-length ss)
 

@@ -18,7 +18,7 @@ use Rattle.graph.specs.Sessions.{Station, station, Session, labelsOfUnit
 use Rattle.graph.specs.Steps.{Step, admit, realise, move, finish, join, split, swap, fuse, step, anyHits}
 use Rattle.graph.specs.Allowed.{fromKey, anyFinishes, rule, allowed}
 use Rattle.graph.specs.Drain.{orHere, backmost, AfterStep, taking, orElse, drainStepAt, drainStep, Drained, drainOn, drainFor, enoughSteps, drain}
-use Rattle.graph.specs.Valid.{Each, ValidRemaining, ValidOp, ValidUnit, ValidStation, ValidCall, KeysFall, Valid}
+use Rattle.graph.specs.Valid.{Each, ValidTargets, ValidOp, ValidUnit, ValidStation, ValidCall, KeysFall, Valid}
 use Rattle.graph.specs.Counts.{quotedSteps}
 use Rattle.graph.specs.EventRuns.{stepAll, SessionProgress}
 use Rattle.graph.proofs.Answers.{Holds, refuses, holds, holds-at, isDone, isDone-map, or-left, eqb-same}
@@ -265,12 +265,12 @@ ends-for (suc n) s g h = go (drainStep s) refl (drain-took s) (ends-for n)
         ih (t .to) (x .valid) (omega (arith, x .lighter))
 
 -- BOUND: a valid session weighs at most 129 for each live label
-weight-most : (d : ℕ) (t : Targets) → d ≤ 63 → ValidRemaining t → weightTo d t ≤ 129
+weight-most : (d : ℕ) (t : Targets) → d ≤ 63 → ValidTargets t → weightTo d t ≤ 129
 weight-most d (these ts) h g = omega (arith, g .few)
 weight-most d (all true) h g = omega arith
 weight-most d (all false) h g = omega arith
 
-waiting-most : (t : Targets) → ValidRemaining t → waitingTo t ≤ 129
+waiting-most : (t : Targets) → ValidTargets t → waitingTo t ≤ 129
 waiting-most (these ts) g = omega (arith, g .few)
 waiting-most (all m) g = omega arith
 

@@ -16,12 +16,12 @@ use Rattle.graph.specs.declared.act.Act.the-variants.{Map, Link, Unlink,
 use Rattle.graph.specs.Words.{modulus, signed}
 use Rattle.graph.specs.Affine.{plus}
 use Rattle.graph.specs.KeyLists.{isKey, areKeys, contains, count, strike, above, rising, isFull}
-use Rattle.graph.specs.Targets.{Targets, these, all, struck, cleared, leftOf, sameTargets}
+use Rattle.graph.specs.Targets.{Targets, these, all, struck, withoutMark, leftOf, sameTargets}
 use Rattle.graph.specs.Acts.{isMap, affineOf, newValue, newLinks, newHeld, resultValue}
 use Rattle.graph.specs.Nodes.{Node, Op, actOn, actBy, resultsFor, stored, newNode, addResult}
 use Rattle.graph.specs.Sessions.{Station}
 use Rattle.graph.specs.Steps.{Change, onwards, putUnit, mayFuse, fused}
-use Rattle.graph.specs.Valid.{Each, ValidTargets, ValidRemaining, ValidNode, ValidAct, ValidHeld, ValidOp, ValidUnit, ValidStation, ValidResult}
+use Rattle.graph.specs.Valid.{Each, ValidKeys, ValidTargets, ValidNode, ValidAct, ValidHeld, ValidOp, ValidUnit, ValidStation, ValidResult}
 use Rattle.graph.proofs.Answers.{and-left, and-right, and-both}
 use Rattle.graph.proofs.Striking.{strike-le}
 use Rattle.graph.proofs.KeyLaws.{areKeys-snoc, areKeys-strike}
@@ -77,21 +77,21 @@ rising-strike k (t ∷ ts) e = go (eqb k t) (above-strike k t ts e)
     go true h = rising-above t (strike k ts) h
     go false h = h
 
-valid-strike : (k : ℕ) (ts : List ℕ) → ValidTargets ts → ValidTargets (strike k ts)
+valid-strike : (k : ℕ) (ts : List ℕ) → ValidKeys ts → ValidKeys (strike k ts)
 valid-strike k ts h = record { few = omega (arith, strike-le k ts, h .few); keys = areKeys-strike k ts (h .keys); rise = rising-strike k ts (h .rise) }
 
-valid-struck : (k : ℕ) (t : Targets) → ValidRemaining t → ValidRemaining (struck k t)
+valid-struck : (k : ℕ) (t : Targets) → ValidTargets t → ValidTargets (struck k t)
 valid-struck k (these ts) h = valid-strike k ts h
 valid-struck k (all m) h = tt
 
-valid-cleared : (t : Targets) → ValidRemaining t → ValidRemaining (cleared t)
-valid-cleared (these ts) h = h
-valid-cleared (all m) h = tt
+valid-without : (t : Targets) → ValidTargets t → ValidTargets (withoutMark t)
+valid-without (these ts) h = h
+valid-without (all m) h = tt
 
-valid-none : ValidTargets []
+valid-none : ValidKeys []
 valid-none = record { few = omega arith; keys = refl; rise = refl }
 
-valid-left : (t : Targets) → ValidRemaining t → ValidTargets (leftOf t)
+valid-left : (t : Targets) → ValidTargets t → ValidKeys (leftOf t)
 valid-left (these ts) h = h
 valid-left (all m) h = valid-none
 
@@ -204,7 +204,7 @@ valid-put (o ∷ os) us g h = (record { some = omega arith; ops = g }, h)
 valid-onwards : (u : List Op) → Each ValidOp u → Each ValidOp (onwards u)
 valid-onwards [] g = tt
 valid-onwards (o ∷ os) g = (
-  record { act = g .0 .act; held = g .0 .held; targets = valid-cleared (o .targets) (g .0 .targets); named = g .0 .named; few = g .0 .few },
+  record { act = g .0 .act; held = g .0 .held; targets = valid-without (o .targets) (g .0 .targets); named = g .0 .named; few = g .0 .few },
   valid-onwards os (g .1),
 )
 

@@ -10,11 +10,11 @@ use lib.ListN.{length}
 use Rattle.graph.specs.KeyLists.{contains, strike}
 use Rattle.graph.specs.declared.act.Act.{Act}
 use Rattle.graph.specs.Acts.{newHeld}
-use Rattle.graph.specs.Targets.{To, named, whole, isTarget, untouched}
+use Rattle.graph.specs.Targets.{To, named, whole, untouched}
 use Rattle.graph.specs.Calls.{Call, toOf}
 use Rattle.graph.specs.Nodes.{Node, Op, hits, actOn, actBy, onward, visitNode, visitOp}
 use Rattle.graph.specs.OneAtATime.{World, labelled, passNodes, process, processFrom, oneAtATime}
-use Rattle.graph.specs.CallResults.{nodesAfter, targeted}
+use Rattle.graph.specs.CallResults.{isTarget, nodesAfter, targeted}
 use Rattle.graph.proofs.Striking.{contains-strike}
 use Rattle.graph.proofs.Meeting.{visit-key}
 use Rattle.graph.proofs.Limits.{short-links}

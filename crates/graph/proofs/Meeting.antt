@@ -6,12 +6,12 @@ use mathlib.Core.Bool.{Bool, true, false, cond, _||_, true≢false}
 use mathlib.Core.List.{List, [], _∷_, _++_}
 use Rattle.graph.specs.declared.act.Act.{Act}
 use Rattle.graph.specs.declared.act.Act.the-variants.{Map, Link, Unlink, Sum, Top, Pick, Near}
-use Rattle.graph.specs.Targets.{reaches, struck, apart}
+use Rattle.graph.specs.Targets.{reaches, struck, disjointTargets}
 use Rattle.graph.specs.Acts.{isFold, newValue, newLinks, newHeld, mayShare}
 use Rattle.graph.specs.Nodes.{Node, Op, hits, actOn, actBy, onward, visitNode, visitOp}
 use Rattle.graph.specs.Steps.{maySwap, anyHits, onwards}
 use Rattle.graph.proofs.Answers.{by-bool, or-left, or-right, and-left, and-right}
-use Rattle.graph.proofs.Targeting.{awaits, reach-awaits, struck-awaits, cleared-awaits, apart-awaits}
+use Rattle.graph.proofs.Targeting.{awaits, reach-awaits, struck-awaits, without-awaits, disjoint-awaits}
 use Rattle.graph.proofs.Outcome.{flowNode, flowOps}
 
 cond-key : (b : Bool) (m n : Node) → m .key ≡ n .key → (cond b m n) .key ≡ n .key
@@ -99,10 +99,10 @@ pub data Commute (o q : Op) : Type 0 where
   shares : Free (o .act) (q .act) → Commute o q
 
 pub swap-commutes : (o q : Op) → maySwap o q ≡ true → Commute o q
-swap-commutes o q e = go (apart (o .targets) (q .targets)) refl e
+swap-commutes o q e = go (disjointTargets (o .targets) (q .targets)) refl e
   where
-    go : (b : Bool) → apart (o .targets) (q .targets) ≡ b → (b || mayShare (o .act) (q .act)) ≡ true → Commute o q
-    go true f e = parted (apart-awaits (o .targets) (q .targets) f)
+    go : (b : Bool) → disjointTargets (o .targets) (q .targets) ≡ b → (b || mayShare (o .act) (q .act)) ≡ true → Commute o q
+    go true f e = parted (disjoint-awaits (o .targets) (q .targets) f)
     go false f e = shares (share-free (o .act) (q .act) e)
 
 -- where both target the node n, their acts are free
@@ -136,13 +136,13 @@ commute-node o q n h =
     (λ e2. pass-node q (actOn o n) e2 ∙ sym (hit-node o n e1) ∙ sym (ap (visitNode o) (pass-node q n e2))))
     (λ e1. ap (visitNode q) (pass-node o n e1) ∙ sym (pass-node o (visitNode q n) (ap (λ (k : ℕ). reaches k (o .targets)) (visit-key q n) ∙ e1)))
 
--- a visit only strikes, and keeps the act
+-- a visit strikes or clears, and keeps the act
 cond-targets : (b : Bool) (k : ℕ) (p o : Op) → (awaits k (o .targets) ≡ false → awaits k (p .targets) ≡ false) → awaits k (o .targets) ≡ false → awaits k ((cond b p o) .targets) ≡ false
 cond-targets true k p o f e = f e
 cond-targets false k p o f e = e
 
 visit-targets : (o : Op) (n : Node) (k : ℕ) → awaits k (o .targets) ≡ false → awaits k ((visitOp o n) .targets) ≡ false
-visit-targets o n k e = cleared-awaits k ((cond (hits o n) (actBy o n) o) .targets) ∙ cond-targets (hits o n) k (actBy o n) o (struck-awaits k (n .key) (o .targets)) e
+visit-targets o n k e = without-awaits k ((cond (hits o n) (actBy o n) o) .targets) ∙ cond-targets (hits o n) k (actBy o n) o (struck-awaits k (n .key) (o .targets)) e
 
 cond-act : (b : Bool) (p o : Op) → p .act ≡ o .act → (cond b p o) .act ≡ o .act
 cond-act true p o e = e

@@ -14,14 +14,14 @@ use Rattle.graph.specs.declared.act.Act.{Act}
 use Rattle.graph.specs.declared.act.Act.the-variants.{Map}
 use Rattle.graph.specs.Affine.{composed}
 use Rattle.graph.specs.KeyLists.{isNil}
-use Rattle.graph.specs.Targets.{Targets, reaches, struck, cleared, leftOf, sameTargets}
+use Rattle.graph.specs.Targets.{Targets, reaches, struck, withoutMark, leftOf, sameTargets}
 use Rattle.graph.specs.Acts.{isMap, affineOf, resultValue}
 use Rattle.graph.specs.Nodes.{Node, Op, Result, hits, actOn, actBy, onward, visitNode, visitOp, nothingLeft, mayFinish, resultsFor, stored, newNode}
 use Rattle.graph.specs.OneAtATime.{Labelled, addOf, opOf}
 use Rattle.graph.specs.Sessions.{Station, station, Session, store}
 use Rattle.graph.specs.Steps.{Step, Change, anyHits, onwards, putUnit, mayFuse, fused, enter, admitted, admitHead, stepAt, step}
 use Rattle.graph.proofs.Answers.{Holds, refuses, holds, holds-map, by-bool, and-left, and-right}
-use Rattle.graph.proofs.Targeting.{same-targets, struck-misses, none-misses, none-cleared, left-cleared}
+use Rattle.graph.proofs.Targeting.{same-targets, struck-misses, none-misses, none-without, left-without}
 use Rattle.graph.proofs.AffineLaws.{applied-composed, map-of}
 use Rattle.graph.proofs.Effects.{Reshaped, joined, cut, swapped, fusing, before, after, Effect, realised, moved, finished, reshaped, further, effect-at, effect-size, by-station}
 use Rattle.graph.proofs.Outcome.{flat, flowNode, flowOps, Seen, front, plus, seen-path, plus-zero, plus-plus, plus-swap, flat-append, flowNode-append, flowOps-append, sum, through, admitting, outcome, sum-store, sumOps-append, through-enter}
@@ -34,7 +34,7 @@ Idle o (s ∷ ss) = (hits o (s .node) ≡ false) × Idle (onward o) ss
 
 idle-nil : (o : Op) (ss : List Station) → nothingLeft o ≡ true → Idle o ss
 idle-nil o [] h = tt
-idle-nil o (s ∷ ss) h = (none-misses (o .targets) h (s .node .key), idle-nil (onward o) ss (none-cleared (o .targets) ∙ h))
+idle-nil o (s ∷ ss) h = (none-misses (o .targets) h (s .node .key), idle-nil (onward o) ss (none-without (o .targets) ∙ h))
 
 finish-idle : (o : Op) (n : Node) (ss : List Station) → mayFinish o n (isNil ss) ≡ true → Idle o (station n [] ∷ ss)
 finish-idle o n ss e = go (nothingLeft o) refl ss e
@@ -66,7 +66,7 @@ abbrev with : Act → ℕ → Targets → List ℕ → Op
 with a h ts ls = record { act = a; held = h; targets = ts; labels = ls }
 
 stored-onward : (o : Op) → stored (onward o) ≡ stored o
-stored-onward o = λ i. resultsFor (o .labels) (resultValue (o .act) (o .held)) (left-cleared (o .targets) i)
+stored-onward o = λ i. resultsFor (o .labels) (resultValue (o .act) (o .held)) (left-without (o .targets) i)
 
 module _ (w : Result → ℕ) where
   -- FINISH: an idle operation may as well go at once
@@ -119,13 +119,13 @@ module _ (w : Result → ℕ) where
       let pN : visitNode q (visitNode o m) ≡ actOn r m = ap (visitNode q) (hit-node o m e) ∙ hit-node q (actOn o m) e ∙ (λ i. record { key = m .key; value = sym (applied-composed f g (m .value)) i; links = m .links }) in
       let pO : visitOp q (visitNode o m) ≡ onward (actBy q m) = ap (visitOp q) (hit-node o m e) ∙ hit-op q (actOn o m) e in
       (λ i. front (flowNode post (pN i)) (through w ss (flowOps xs n ++ (hit-op o m e i ∷ pO i ∷ flowOps post (pN i)))))
-      ∙ ap (front _) (through-fuse ss (flowOps xs n) (flowOps post (actOn r m)) f g h1 h2 (cleared (struck (m .key) ts)) ls ms)
+      ∙ ap (front _) (through-fuse ss (flowOps xs n) (flowOps post (actOn r m)) f g h1 h2 (withoutMark (struck (m .key) ts)) ls ms)
       ∙ sym (λ i. front (flowNode post (hit-node r m e i)) (through w ss (flowOps xs n ++ (hit-op r m e i ∷ flowOps post (hit-node r m e i))))))
       (λ e.
       let pN : visitNode q (visitNode o m) ≡ m = ap (visitNode q) (pass-node o m e) ∙ pass-node q m e in
       let pO : visitOp q (visitNode o m) ≡ onward q = ap (visitOp q) (pass-node o m e) ∙ pass-op q m e in
       (λ i. front (flowNode post (pN i)) (through w ss (flowOps xs n ++ (pass-op o m e i ∷ pO i ∷ flowOps post (pN i)))))
-      ∙ ap (front _) (through-fuse ss (flowOps xs n) (flowOps post m) f g h1 h2 (cleared ts) ls ms)
+      ∙ ap (front _) (through-fuse ss (flowOps xs n) (flowOps post m) f g h1 h2 (withoutMark ts) ls ms)
       ∙ sym (λ i. front (flowNode post (pass-node r m e i)) (through w ss (flowOps xs n ++ (pass-op r m e i ∷ flowOps post (pass-node r m e i)))))))
 
   fused-through : (ss : List Station) (pre post : List Op) (o q : Op) → mayFuse o q ≡ true → through w ss (pre ++ (o ∷ q ∷ post)) ≡ through w ss (pre ++ (fused o q ∷ post))

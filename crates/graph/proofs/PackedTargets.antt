@@ -10,7 +10,7 @@ use lib.ListN.{length}
 use borrow.Author.Tests.{ne-eqb}
 use Rattle.graph.specs.declared.remaining.Remaining.{Remaining}
 use Rattle.graph.specs.KeyLists.{isNil}
-use Rattle.graph.specs.Targets.{Targets, these, all, noneLeft, leftOf, apart}
+use Rattle.graph.specs.Targets.{Targets, these, all, noneLeft, leftOf, disjointTargets}
 use Rattle.graph.specs.Packed.{packed, targetsIn, packedTargets}
 use Rattle.graph.proofs.KeyLaws.{listed-packed}
 
@@ -20,9 +20,9 @@ nil-length [] = refl
 nil-length (t ∷ ts) = ne-eqb (suc (length ts)) 0 (λ (e : suc (length ts) ≡ 0). omega arith)
 
 -- an all-call shares a target with all but those that have none left
-pub apart-all : (mark : Bool) (t : Targets) → apart (all mark) t ≡ noneLeft t
-apart-all mark (these ts) = refl
-apart-all mark (all other) = refl
+pub disjoint-all : (mark : Bool) (t : Targets) → disjointTargets (all mark) t ≡ noneLeft t
+disjoint-all mark (these ts) = refl
+disjoint-all mark (all other) = refl
 
 pub packed-left : (t : Targets) → (packedTargets t) .keys ≡ packed (leftOf t)
 packed-left (these ts) = refl

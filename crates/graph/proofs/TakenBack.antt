@@ -15,12 +15,12 @@ use Rattle.graph.specs.declared.act.Act.{Act}
 use Rattle.graph.specs.declared.act.Act.the-variants.{Map}
 use Rattle.graph.specs.Affine.{isOdd, applied, inverse}
 use Rattle.graph.specs.Acts.{newValue, newHeld}
-use Rattle.graph.specs.Targets.{To, named, whole, isTarget}
+use Rattle.graph.specs.Targets.{To, named, whole}
 use Rattle.graph.specs.Calls.{Call, add, map, link, unlink, sum, top, pick, near, unmap, toOf}
 use Rattle.graph.specs.Nodes.{Node, Op, actOn, visitNode, visitOp}
 use Rattle.graph.specs.OneAtATime.{Labelled, World, operation, labelled, passNodes, process, processFrom, oneAtATime}
 use Rattle.graph.specs.TakenBack.{MapAndUnmapCalls, mapCallFirst, unmapCallFirst, actsOnValue, valueAt, NoneActs, withPair, TakenBack, Restores}
-use Rattle.graph.specs.CallResults.{nodesAfter}
+use Rattle.graph.specs.CallResults.{isTarget, nodesAfter}
 use Rattle.graph.proofs.Striking.{contains-strike}
 use Rattle.graph.proofs.Meeting.{visit-key}
 use Rattle.graph.proofs.MadeNodes.{Made, made, made-process, op, past, visit-at, visit-to}

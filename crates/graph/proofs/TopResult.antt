@@ -12,13 +12,13 @@ use borrow.Author.Tests.{eq-eqb}
 use Rattle.graph.specs.declared.act.Act.the-variants.{Top}
 use Rattle.graph.specs.Words.{signed}
 use Rattle.graph.specs.KeyLists.{contains}
-use Rattle.graph.specs.Targets.{To, isTarget}
+use Rattle.graph.specs.Targets.{To}
 use Rattle.graph.specs.Acts.{signedMax}
 use Rattle.graph.specs.Calls.{Call, top}
 use Rattle.graph.specs.Nodes.{Node, Op, Result}
 use Rattle.graph.specs.OneAtATime.{passOp, oneAtATime}
 use Rattle.graph.specs.Counts.{resultOfLabel}
-use Rattle.graph.specs.CallResults.{nodesAfter, targeted, valuesOf, SignedGreatest, TopResult}
+use Rattle.graph.specs.CallResults.{isTarget, nodesAfter, targeted, valuesOf, SignedGreatest, TopResult}
 use Rattle.graph.proofs.MadeNodes.{Made, made, op, past, visit-to, past-same}
 use Rattle.graph.proofs.OwnResult.{own-value}
 use Rattle.graph.proofs.SignedOrder.{ltZ-true-le, ltZ-false-le, ≤ℤ-trans}

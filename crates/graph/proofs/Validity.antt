@@ -13,13 +13,13 @@ use Rattle.graph.specs.Refusals.{Answer, refused, done, mapDone, Test, u
 use Rattle.graph.specs.Words.{modulus, areWords}
 use Rattle.graph.specs.KeyLists.{isKey, areKeys, above, rising, contains, count}
 use Rattle.graph.specs.Targets.{To, named, whole, keysListed, untouched, isMarked}
-use Rattle.graph.specs.Calls.{Call, add, map, link, unlink, sum, top, pick, near, unmap, numbersOf, operandsOf, toOf, targetsOf, lacksInverse, formTests}
+use Rattle.graph.specs.Calls.{Call, add, map, link, unlink, sum, top, pick, near, unmap, numbersOf, operandsOf, toOf, listedOf, lacksInverse, formTests}
 use Rattle.graph.specs.OneAtATime.{isAdd, Labelled, addOf, opOf, operation, labelled}
 use Rattle.graph.specs.Nodes.{Op, Result, addResult}
 use Rattle.graph.specs.Sessions.{Station, Session, fresh, insert, store, labelsOfStations, labelsOfCalls, labelsOfResults, pending, live, addsIn}
 use Rattle.graph.specs.Steps.{Step, Change, enter, admitted, changed, admitHead, stepAt, step}
 use Rattle.graph.specs.Acceptance.{callTests, accepted, accept, Claimed, takeResult, claim, keeping}
-use Rattle.graph.specs.Valid.{Each, ValidTargets, ValidRemaining, ValidAct, ValidHeld, mostLabels, ValidOp, ValidUnit, ValidStation, ValidCall, ValidResult, KeysFall, Given, Valid}
+use Rattle.graph.specs.Valid.{Each, ValidKeys, ValidTargets, ValidAct, ValidHeld, mostLabels, ValidOp, ValidUnit, ValidStation, ValidCall, ValidResult, KeysFall, Given, Valid}
 use Rattle.graph.proofs.Answers.{Holds, refuses, holds, holds-map, holds-cond, by-bool, and-left, and-right, and-both, test-most}
 use Rattle.graph.proofs.Inverses.{inverse-fits}
 use Rattle.graph.proofs.Effects.{Effect, realised, moved, finished, reshaped, further, effect-at, effect-size, by-station}
@@ -260,10 +260,10 @@ claim-fine l s v = go (leb 1 l && leb l (s .last)) (contains l (pending s)) refl
 -- CALLS
 -- the facts of a call whose form passes its tests
 pub record FormFits (c : Call) : Type 0 where
-  pub words : areWords (numbersOf c ++ (operandsOf c ++ targetsOf c)) ≡ true
-  pub keys : areKeys (operandsOf c ++ targetsOf c) ≡ true
-  pub few : length (targetsOf c) ≤ 8
-  pub rise : rising (targetsOf c) ≡ true
+  pub words : areWords (numbersOf c ++ (operandsOf c ++ listedOf c)) ≡ true
+  pub keys : areKeys (operandsOf c ++ listedOf c) ≡ true
+  pub few : length (listedOf c) ≤ 8
+  pub rise : rising (listedOf c) ≡ true
   pub invertible : lacksInverse c ≡ false
 
 -- the facts of a call that is accepted: no test applied
@@ -283,12 +283,12 @@ and-room false n e h = absurd (true≢false (sym h))
 
 pub form-passes : (c : Call) → Each (λ (t : Test). t .applies ≡ false) (formTests c) → FormFits c
 form-passes c h =
-    let targets : (leb (length (targetsOf c)) 8 && rising (targetsOf c)) ≡ true = not-false _ (h .1 .1 .0) in
+    let targets : (leb (length (listedOf c)) 8 && rising (listedOf c)) ≡ true = not-false _ (h .1 .1 .0) in
     record {
       words = not-false _ (h .0);
       keys = not-false _ (h .1 .0);
-      few = leb-true (length (targetsOf c)) 8 (and-left _ _ targets);
-      rise = and-right (leb (length (targetsOf c)) 8) _ targets;
+      few = leb-true (length (listedOf c)) 8 (and-left _ _ targets);
+      rise = and-right (leb (length (listedOf c)) 8) _ targets;
       invertible = h .1 .1 .1 .0;
     }
 
@@ -306,7 +306,7 @@ accept-fits c s = holds-unless (callTests c s) (accepted c s) (λ h. (
 word : (v : ℕ) (vs : List ℕ) → areWords (v ∷ vs) ≡ true → v < modulus
 word v vs e = ltb-true v modulus (and-left _ _ e)
 
-valid-untouched : (to : To) → ValidTargets (keysListed to) → ValidRemaining (untouched to)
+valid-untouched : (to : To) → ValidKeys (keysListed to) → ValidTargets (untouched to)
 valid-untouched (named ts) h = h
 valid-untouched whole h = tt
 

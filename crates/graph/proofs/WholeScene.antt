@@ -1,7 +1,8 @@
--- An all-call, one at a time: whether it acts at a node goes by the mark, and it goes on without one.
+-- An all-call, one at a time: whether it acts at a node goes by the mark, and it goes on without one. And where it may finish.
 -- Assumes nothing.
 use mathlib.Core.Path.{_≡_, refl, sym, _∙_, ap}
 use Prim.Native.Nat.{ℕ, suc}
+use mathlib.Core.Bool.{Bool, true, false, not, _&&_}
 use mathlib.Core.List.{List, [], _∷_, _++_}
 use mathlib.Core.Option.{some}
 use lib.ListN.{length}
@@ -13,7 +14,7 @@ use Rattle.graph.specs.Nodes.{Node, Op, Result, stored}
 use Rattle.graph.specs.OneAtATime.{operation, labelled, passNodes, passOp, oneAtATime}
 use Rattle.graph.specs.Counts.{resultOfLabel}
 use Rattle.graph.specs.CallResults.{nodesAfter}
-use Rattle.graph.specs.WholeScene.{everyNode, heldThrough, ActsAtEveryNode, WholeResult}
+use Rattle.graph.specs.WholeScene.{everyNode, heldThrough, ActsAtEveryNode, FinishesOnlyAtTheLast, WholeResult}
 use Rattle.graph.proofs.MadeNodes.{op}
 use Rattle.graph.proofs.OwnResult.{own-result, own-value}
 
@@ -37,3 +38,10 @@ whole-result a h before later c is r e =
       value = own-value a h whole before later c is r e ∙ ap (λ (o : Op). resultValue a (o .held)) past;
       left = sym (ap (λ (q : Result). q .left) (own-result a h whole before later c is r e)) ∙ ap (λ (o : Op). leftOf (o .targets)) past;
     }
+
+pub finishes-only-at-the-last : FinishesOnlyAtTheLast
+finishes-only-at-the-last o mark e n isLast = rw e (go mark isLast)
+  where
+    go : (mark isLast : Bool) → (isLast && not (not mark)) ≡ isLast && mark
+    go true isLast = refl
+    go false isLast = refl

@@ -4,13 +4,13 @@
 -- Assumes nothing.
 use Prim.Native.Nat.{ℕ, _+_, _*_, _≤_}
 use mathlib.Core.Path.{_≡_}
-use mathlib.Core.Bool.{true, cond}
+use mathlib.Core.Bool.{Bool, true, cond}
 use mathlib.Core.List.{List, [], _∷_, _++_, map}
 use lib.ListN.{length}
 use lib.Signed.{_≤ℤ_}
 use Rattle.graph.specs.Words.{signed}
 use Rattle.graph.specs.KeyLists.{contains, count, isFull}
-use Rattle.graph.specs.Targets.{To, named, whole, isTarget}
+use Rattle.graph.specs.Targets.{To, named, whole}
 use Rattle.graph.specs.Calls.{Call, unlink}
 use Rattle.graph.specs.Nodes.{Node, Result}
 use Rattle.graph.specs.OneAtATime.{oneAtATime}
@@ -19,6 +19,11 @@ use Rattle.graph.specs.Valid.{Each}
 -- the nodes that the calls leave, one at a time
 abbrev pub nodesAfter : List Call → List Node
 nodesAfter cs = (oneAtATime cs) .nodes
+
+-- is the node with this key a target of the call?
+abbrev pub isTarget : ℕ → To → Bool
+isTarget k (named ts) = contains k ts
+isTarget k whole = true
 
 -- the nodes that are targets: each of them for an all-call (S-3)
 abbrev pub targeted : To → List Node → List Node

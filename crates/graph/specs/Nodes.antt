@@ -5,7 +5,7 @@ use mathlib.Core.Bool.{Bool, cond, not, _&&_, _||_}
 use mathlib.Core.List.{List, [], _∷_}
 use Rattle.graph.specs.declared.act.Act.{Act}
 use Rattle.graph.specs.Acts.{newValue, newLinks, newHeld, resultValue}
-use Rattle.graph.specs.Targets.{Targets, reaches, struck, cleared, noneLeft, leftOf}
+use Rattle.graph.specs.Targets.{Targets, reaches, struck, withoutMark, noneLeft, leftOf}
 
 -- "a node (key, 32-bit unsigned value, list of linked keys)"
 pub record Node : Type 0 where
@@ -39,9 +39,9 @@ actBy o n = record { act = o .act; held = newHeld (o .act) (o .held) (n .value) 
 
 -- the operation as it goes on to another station: without a mark
 abbrev pub onward : Op → Op
-onward o = record { act = o .act; held = o .held; targets = cleared (o .targets); labels = o .labels }
+onward o = record { act = o .act; held = o .held; targets = withoutMark (o .targets); labels = o .labels }
 
--- the node after they met, and the operation as it goes on: as they were, where the operation doesn't target the node
+-- the node after they met, unchanged where the operation doesn't target it; and the operation as it goes on, without a mark
 abbrev pub visitNode : Op → Node → Node
 visitNode o n = cond (hits o n) (actOn o n) n
 

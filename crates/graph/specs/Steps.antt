@@ -9,7 +9,7 @@ use Rattle.graph.specs.declared.act.Act.the-variants.{Map}
 use Rattle.graph.specs.Refusals.{Answer, refused, done, mapDone}
 use Rattle.graph.specs.Affine.{composed}
 use Rattle.graph.specs.KeyLists.{isNil}
-use Rattle.graph.specs.Targets.{apart, sameTargets}
+use Rattle.graph.specs.Targets.{disjointTargets, sameTargets}
 use Rattle.graph.specs.Acts.{isMap, affineOf, mayShare}
 use Rattle.graph.specs.Nodes.{Node, Op, Result, hits, actOn, actBy, onward, mayFinish, stored, newNode, addResult}
 use Rattle.graph.specs.OneAtATime.{Labelled, addOf, opOf}
@@ -147,7 +147,7 @@ module _ {A : Type 0} where
 -- SWAP (REORDERD, REORDERRR; not REORDERRW): "Allowed where their remaining targets are disjoint or both are folds." An all-call's are
 -- disjoint only from those of an operation that has none left (S-3)
 abbrev pub maySwap : Op → Op → Bool
-maySwap o q = apart (o .targets) (q .targets) || mayShare (o .act) (q .act)
+maySwap o q = disjointTargets (o .targets) (q .targets) || mayShare (o .act) (q .act)
 
 abbrev pub swapOps : Op → Op → Answer (List (List Op))
 swapOps o q = cond (maySwap o q) (done ((q ∷ []) ∷ (o ∷ []) ∷ [])) (refused 22)

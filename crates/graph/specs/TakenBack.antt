@@ -13,12 +13,12 @@ use Rattle.graph.specs.declared.act.Act.{Act}
 use Rattle.graph.specs.declared.act.Act.the-variants.{Map}
 use Rattle.graph.specs.Words.{modulus}
 use Rattle.graph.specs.Affine.{identity, composed, inverse}
-use Rattle.graph.specs.Targets.{To, isTarget}
+use Rattle.graph.specs.Targets.{To}
 use Rattle.graph.specs.Calls.{Call, add, map, link, unlink, sum, top, pick, near, unmap, toOf}
 use Rattle.graph.specs.Nodes.{Node, Op}
 use Rattle.graph.specs.Refusals.{done}
 use Rattle.graph.specs.Steps.{mayFuse, fuseOps}
-use Rattle.graph.specs.CallResults.{nodesAfter}
+use Rattle.graph.specs.CallResults.{isTarget, nodesAfter}
 use Rattle.graph.specs.Valid.{Each}
 
 -- "the map that undoes" m: n after m and n before m change no value, and no other 32-bit numbers are such a map's

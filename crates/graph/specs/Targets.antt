@@ -17,11 +17,6 @@ pub data Targets : Type 0 where
   these : List ℕ → Targets
   all : (mark : Bool) → Targets
 
--- is the node with this key a target of the call?
-abbrev pub isTarget : ℕ → To → Bool
-isTarget k (named ts) = contains k ts
-isTarget k whole = true
-
 -- the keys that the line lists
 abbrev pub keysListed : To → List ℕ
 keysListed (named ts) = ts
@@ -43,9 +38,9 @@ struck k (these ts) = these (strike k ts)
 struck k (all mark) = all true
 
 -- "cleared when it moves"
-abbrev pub cleared : Targets → Targets
-cleared (these ts) = these ts
-cleared (all mark) = all false
+abbrev pub withoutMark : Targets → Targets
+withoutMark (these ts) = these ts
+withoutMark (all mark) = all false
 
 abbrev pub isMarked : Targets → Bool
 isMarked (these ts) = false
@@ -62,11 +57,11 @@ leftOf (these ts) = ts
 leftOf (all mark) = []
 
 -- do they share no target? An all-call "shares a target with every operation that has targets left or is itself for all"
-abbrev pub apart : Targets → Targets → Bool
-apart (these ts) (these us) = disjoint ts us
-apart (these ts) (all mark) = isNil ts
-apart (all mark) (these us) = isNil us
-apart (all mark) (all other) = false
+abbrev pub disjointTargets : Targets → Targets → Bool
+disjointTargets (these ts) (these us) = disjoint ts us
+disjointTargets (these ts) (all mark) = isNil ts
+disjointTargets (all mark) (these us) = isNil us
+disjointTargets (all mark) (all other) = false
 
 -- "equal remaining targets"; two all-calls "only when both are unmarked or both are marked"
 abbrev pub sameTargets : Targets → Targets → Bool

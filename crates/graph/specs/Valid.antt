@@ -20,15 +20,15 @@ module _ {A : Type 0} (P : A → Type 0) where
   Each (x ∷ xs) = P x × Each xs
 
 -- targets and `left`: "0 to 8 keys, strictly rising"
-pub record ValidTargets (ts : List ℕ) : Type 0 where
+pub record ValidKeys (ts : List ℕ) : Type 0 where
   pub few : length ts ≤ 8
   pub keys : areKeys ts ≡ true
   pub rise : rising ts ≡ true
 
 -- an operation's: listed, or all, marked or not
-abbrev pub ValidRemaining : Targets → Type 0
-ValidRemaining (these ts) = ValidTargets ts
-ValidRemaining (all mark) = Unit {0}
+abbrev pub ValidTargets : Targets → Type 0
+ValidTargets (these ts) = ValidKeys ts
+ValidTargets (all mark) = Unit {0}
 
 -- "A link list holds at most 8 keys, repeats allowed"
 pub record ValidNode (n : Node) : Type 0 where
@@ -68,7 +68,7 @@ mostLabels (Near k) = 1
 pub record ValidOp (o : Op) : Type 0 where
   pub act : ValidAct (o .act)
   pub held : ValidHeld (o .act) (o .held)
-  pub targets : ValidRemaining (o .targets)
+  pub targets : ValidTargets (o .targets)
   pub named : 1 ≤ length (o .labels)
   pub few : length (o .labels) ≤ mostLabels (o .act)
 
@@ -93,7 +93,7 @@ ValidCall (opOf o) = ValidWaiting o
 
 pub record ValidResult (r : Result) : Type 0 where
   pub value : r .value < modulus
-  pub left : ValidTargets (r .left)
+  pub left : ValidKeys (r .left)
 
 -- "node keys fall from n to 1"
 abbrev pub KeysFall : List Station → Type 0

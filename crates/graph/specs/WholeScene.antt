@@ -1,14 +1,15 @@
--- Calls over the whole scene (S-3): one-at-a-time processing of an all-call, said without marks. proofs/WholeScene.antt proves it, and
--- runs/proofs/CallResults.antt what is said of the result, of every list of lines sent to a fresh session.
+-- Calls over the whole scene (S-3): one-at-a-time processing of an all-call, said without marks, and where an all-call may finish.
+-- proofs/WholeScene.antt proves it, and runs/proofs/CallResults.antt what is said of the result, of every list of lines.
 -- Assumes nothing.
 use Prim.Native.Nat.{ℕ}
 use mathlib.Core.Path.{_≡_}
+use mathlib.Core.Bool.{Bool, _&&_}
 use mathlib.Core.List.{List, [], _∷_, _++_}
 use Rattle.graph.specs.declared.act.Act.{Act}
 use Rattle.graph.specs.Acts.{newValue, newLinks, newHeld, resultValue}
-use Rattle.graph.specs.Targets.{whole}
+use Rattle.graph.specs.Targets.{whole, all}
 use Rattle.graph.specs.Calls.{Call}
-use Rattle.graph.specs.Nodes.{Node, Result}
+use Rattle.graph.specs.Nodes.{Node, Op, Result, mayFinish}
 use Rattle.graph.specs.OneAtATime.{operation, World, process}
 use Rattle.graph.specs.CallResults.{nodesAfter}
 
@@ -29,6 +30,10 @@ ActsAtEveryNode =
       nodes = everyNode a (x .nodes);
       results = x .results ++ (record { label = l; value = resultValue a (heldThrough a h (x .nodes)); left = [] } ∷ []);
     }
+
+-- "It may finish only at the last station, marked done there"
+abbrev pub FinishesOnlyAtTheLast : Type 0
+FinishesOnlyAtTheLast = (o : Op) (mark : Bool) → o .targets ≡ all mark → (n : Node) (isLast : Bool) → mayFinish o n isLast ≡ isLast && mark
 
 -- the result of an all-call that does a and holds h at first, by the nodes as the calls before leave them
 pub record WholeResult (before : List Call) (a : Act) (h : ℕ) (r : Result) : Type 0 where

@@ -1,7 +1,7 @@
 // What an operation has yet to act at: listed keys, or all nodes (`to=all`).
 use crate::keys::Keys;
 ghost use mathlib.Core.Path.{_≡_};
-ghost use Rattle.graph.specs.Targets.{reaches, struck, noneLeft, leftOf, apart, sameTargets};
+ghost use Rattle.graph.specs.Targets.{reaches, struck, noneLeft, leftOf, disjointTargets, sameTargets};
 ghost use Rattle.graph.specs.Packed.{packed, targetsIn, packedTargets};
 
 // Where `all` holds, `mark` says that it is done at this station, and no key is listed. Elsewhere there is no mark.
@@ -61,8 +61,8 @@ impl Remaining {
     }
 
     // Do they share no target?
-    pub fn apart(self, other: Remaining) -> bool
-        ensures { λ r. ⌜ r ≡ apart (targetsIn self) (targetsIn other) ⌝ }
+    pub fn disjoint(self, other: Remaining) -> bool
+        ensures { λ r. ⌜ r ≡ disjointTargets (targetsIn self) (targetsIn other) ⌝ }
     {
         if self.all {
             return other.none_left();

@@ -139,7 +139,7 @@ module _ (p e : ℕ) (x : Tagged) (q : List Tagged) where
       go true = alter-length (openAs (x .opens)) (suc p) q
       go false = refl
 
--- the mark is handed on first, and then the operation goes
+-- the next is to open the unit first, and then the operation goes
 pub taken-shown : (f : Flat) (p e : ℕ) (t u : List ℕ) → Shows (withQueue f (handOn p e (getD (f .queue) p noOp) (f .queue))) t
     → Shows (withQueue (flatIn t) (removeAt p (flatIn t .queue))) u → Shows (withQueue f (takeOut p e (getD (f .queue) p noOp) (f .queue))) u
 taken-shown f p e t u first second = subst (λ (g : Flat). Shows (withQueue g (removeAt p (g .queue))) u) (first .shows) second

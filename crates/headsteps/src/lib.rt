@@ -150,7 +150,7 @@ fn first_in_head(image: &[u8], sought: Sought, k: u8) -> Spot
     }
 }
 
-// In the head unit, the first operation that targets the node acts and strikes its key.
+// In the head unit, the first operation that targets the node acts and strikes its key or is marked.
 pub fn realise(image: &mut [u8], k: u8) -> u32
     requires { ⌜ ValidImage (now image) ⌝ }
     ensures { λ r. ⌜ Works (flatStep (realise k) (flatIn (now (image .entry)))) (now (image .entry)) (now (image .exit)) r ⌝ }

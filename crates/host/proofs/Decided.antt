@@ -15,7 +15,7 @@ use Rattle.graph.specs.Targets.{Targets, these, all, isMarked}
 use Rattle.graph.specs.Nodes.{Node, Op, Result}
 use Rattle.graph.specs.OneAtATime.{Labelled, addOf, opOf}
 use Rattle.graph.specs.Sessions.{Station, Session, live, addsIn, labelsOfResults}
-use Rattle.graph.specs.Valid.{Each, ValidTargets, ValidRemaining, ValidNode, ValidAct, ValidHeld, mostLabels, ValidOp, ValidUnit, ValidStation, ValidCall, ValidResult, KeysFall, Valid}
+use Rattle.graph.specs.Valid.{Each, ValidKeys, ValidTargets, ValidNode, ValidAct, ValidHeld, mostLabels, ValidOp, ValidUnit, ValidStation, ValidCall, ValidResult, KeysFall, Valid}
 use Rattle.lines.proofs.Decided.{Decision, is, isNot, Decided, one, none, same-bytes}
 use Rattle.valid.specs.Inner.Tests.{givenOnce}
 use Rattle.valid.specs.Values.{encode}
@@ -53,12 +53,12 @@ each P d (x ∷ xs) = both (d x) (each P d xs)
 
 -- ---- valid sessions, fact by fact
 
-targets : (ts : List ℕ) → Decision (ValidTargets ts)
+targets : (ts : List ℕ) → Decision (ValidKeys ts)
 targets ts =
     by (λ h. record { few = h .0; keys = h .1 .0; rise = h .1 .1 }) (λ v. (v .few, (v .keys, v .rise)))
     (both (at-most (length ts) 8) (both (by-test (areKeys ts)) (by-test (rising ts))))
 
-remaining : (t : Targets) → Decision (ValidRemaining t)
+remaining : (t : Targets) → Decision (ValidTargets t)
 remaining (these ts) = targets ts
 remaining (all mark) = is tt
 

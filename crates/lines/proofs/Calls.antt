@@ -9,7 +9,7 @@ use native.Mathlib.Omega.{arith}
 use borrow.Author.Tests.{le-leb, lt-leb}
 use lib.Dec.{eqb, leb}
 use lib.ListN.{length, getD}
-use Rattle.graph.specs.Calls.{Call, add, map, link, unlink, sum, top, pick, near, unmap, operandsOf, targetsOf, lacksInverse}
+use Rattle.graph.specs.Calls.{Call, add, map, link, unlink, sum, top, pick, near, unmap, operandsOf, listedOf, lacksInverse}
 use Rattle.graph.specs.Words.{modulus, areWords}
 use Rattle.graph.specs.Affine.{isOdd}
 use Rattle.graph.specs.Refusals.{refused, done}
@@ -130,15 +130,15 @@ call-unique = unique call-forms
 -- ---- the answer
 
 -- the form's own tests, in their order
-by-tests : (f : Call) (a b : Bool) → lacksInverse f ≡ false → areWords (callNumbers f) ≡ true → areKeys (operandsOf f ++ targetsOf f) ≡ a → leb (length (targetsOf f)) 8 && rising (targetsOf f) ≡ b
+by-tests : (f : Call) (a b : Bool) → lacksInverse f ≡ false → areWords (callNumbers f) ≡ true → areKeys (operandsOf f ++ listedOf f) ≡ a → leb (length (listedOf f)) 8 && rising (listedOf f) ≡ b
     → callAnswer f ≡ cond a (cond b (callRead f) (refusedCall 12)) (refusedCall 11)
 by-tests f true true i w ea eb = rw (w, ea, eb, i)
 by-tests f true false i w ea eb = rw (w, ea, eb)
 by-tests f false b i w ea eb = rw (w, ea)
 
 -- the answer to a call of 32-bit numbers, but for an unmap of an even a
-answered : (f : Call) → lacksInverse f ≡ false → Below (callNumbers f) → callAnswer f ≡ cond (areKeys (operandsOf f ++ targetsOf f)) (cond (leb (length (targetsOf f)) 8 && rising (targetsOf f)) (callRead f) (refusedCall 12)) (refusedCall 11)
-answered f i w = by-tests f (areKeys (operandsOf f ++ targetsOf f)) (leb (length (targetsOf f)) 8 && rising (targetsOf f)) i (below-words (callNumbers f) w) refl refl
+answered : (f : Call) → lacksInverse f ≡ false → Below (callNumbers f) → callAnswer f ≡ cond (areKeys (operandsOf f ++ listedOf f)) (cond (leb (length (listedOf f)) 8 && rising (listedOf f)) (callRead f) (refusedCall 12)) (refusedCall 11)
+answered f i w = by-tests f (areKeys (operandsOf f ++ listedOf f)) (leb (length (listedOf f)) 8 && rising (listedOf f)) i (below-words (callNumbers f) w) refl refl
 
 -- what an answer by targets is, where there is a key before them
 abbrev keyed : Bool → CallKind → ℕ → ℕ → To → CallLine

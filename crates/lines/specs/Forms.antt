@@ -4,7 +4,7 @@
 use Prim.Native.Nat.{ℕ, _<_}
 use Prim.Native.String.{String}
 use mathlib.Core.List.{List, [], _∷_, _++_}
-use Rattle.graph.specs.Calls.{Call, add, map, link, unlink, sum, top, pick, near, unmap, numbersOf, operandsOf, targetsOf}
+use Rattle.graph.specs.Calls.{Call, add, map, link, unlink, sum, top, pick, near, unmap, numbersOf, operandsOf, listedOf}
 use Rattle.graph.specs.Targets.{To, named, whole}
 use Rattle.graph.specs.Steps.{Step, admit, realise, move, finish, join, split, swap, fuse}
 use Rattle.text.specs.Text.{ascii, decimal, commas, upTo}
@@ -42,7 +42,7 @@ callText (unmap a b to) = field "call=unmap a=" a (field " b=" b (targets to))
 
 -- every number of the line
 abbrev pub callNumbers : Call → List ℕ
-callNumbers f = numbersOf f ++ (operandsOf f ++ targetsOf f)
+callNumbers f = numbersOf f ++ (operandsOf f ++ listedOf f)
 
 -- ---- steps
 

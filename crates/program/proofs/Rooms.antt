@@ -1,9 +1,9 @@
 -- A line of a valid session has at most 128 bytes, and a listing 129 such lines: nothing that is lent as much is refused for want of room.
 -- Assumes nothing.
-use mathlib.Core.Path.{_≡_, refl, ap}
+use mathlib.Core.Path.{_≡_}
 use mathlib.Core.Bool.{true}
 use mathlib.Core.List.{List, [], _∷_, _++_}
-use Prim.Native.Nat.{ℕ, suc, _+_, _*_, _≤_, _<_}
+use Prim.Native.Nat.{ℕ, _+_, _*_, _≤_, _<_}
 use native.Mathlib.Omega.{arith}
 use lib.ListN.{length, length-append}
 use Rattle.text.specs.Text.{ascii, texts}
@@ -15,6 +15,7 @@ use Rattle.graph.specs.Sessions.{Station, Session, graphOf, labelsOfResults, pe
 use Rattle.graph.specs.Valid.{Each, ValidNode, ValidStation, ValidResult, KeysFall, Given, Valid}
 use Rattle.graph.proofs.Labels.{length-labels}
 use Rattle.graph.proofs.Limits.{each-right}
+use Rattle.graph.proofs.Demand3.{graph-length}
 use Rattle.lines.proofs.Lengths.{commas-short}
 use Rattle.print.specs.Printed.{lineOf, resultText, nodeText, headText}
 use Rattle.listing.specs.Listed.{listingOf}
@@ -45,10 +46,6 @@ results-short [] last h v g = omega arith
 results-short (r ∷ rs) last h v g =
     omega (arith, length-append (resultText r) (texts resultText rs), result-short r (omega (arith, h, g .0 .1)) (v .0), results-short rs last h (v .1) (g .1))
 
-nodes-length : (ss : List Station) → length (graphOf ss) ≡ length ss
-nodes-length [] = refl
-nodes-length (s ∷ ss) = ap suc (nodes-length ss)
-
 -- the head and up to 128 lines: no listing that is lent as much is refused for want of room
 pub listing-short : (s : Session) → Valid s → length (listingOf s) ≤ 16512
 listing-short s v =
@@ -59,7 +56,7 @@ listing-short s v =
     let few : length (s .stations) ≤ 64 = omega (arith, v .room) in
     let head : List ℕ = headText (length nodes) (length results) (length (pending s)) in
     let short : length head ≤ 128 =
-    head-short (length nodes) (length results) (length (pending s)) (omega (arith, nodes-length (s .stations), few)) (omega (arith, labels, both, v .places)) (omega (arith, both, v .places)) in
+    head-short (length nodes) (length results) (length (pending s)) (omega (arith, graph-length (s .stations), few)) (omega (arith, labels, both, v .places)) (omega (arith, both, v .places)) in
     let a = nodes-short (s .stations) few (v .falling) (v .stations) in
     let b = results-short results (s .last) (v .labels) (v .results) (each-right (Given (s .last)) (pending s) (labelsOfResults results) (v .given)) in
     let whole : length (listingOf s) ≡ length (head ++ texts nodeText nodes) + length (texts resultText results) = length-append (head ++ texts nodeText nodes) (texts resultText results) in

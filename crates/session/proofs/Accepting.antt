@@ -7,7 +7,7 @@ use mathlib.Core.Bool.{true}
 use mathlib.Core.List.{List, _∷_, _++_}
 use lib.Dec.{leb}
 use borrow.Author.Tests.{leb-true}
-use Rattle.graph.specs.Calls.{Call, operandsOf, targetsOf, formTests}
+use Rattle.graph.specs.Calls.{Call, operandsOf, listedOf, formTests}
 use Rattle.graph.specs.KeyLists.{isKey, areKeys}
 use Rattle.graph.specs.Targets.{To}
 use Rattle.graph.specs.declared.act.Act.the-variants.{Map}
@@ -43,8 +43,8 @@ pub unmap-as : (k : CallKind) (x y : ℕ) (to : To) → k ≡ Unmap → (m : Aff
 unmap-as k x y to e m i l = labelled-as k Unmap x y to e l ∙ ap (λ (f : Affine). operation (Map f) 0 to l) (sym i)
 
 -- a good call's key is at most 64
-pub key-small : (c kind : CallKind) (x y : ℕ) (to : To) (k : ℕ) (ts : List ℕ) → c ≡ kind → firstOf (formTests (callForm c x y to)) ≡ 0 → operandsOf (callForm kind x y to) ++ targetsOf (callForm kind x y to) ≡ k ∷ ts → k < 256
+pub key-small : (c kind : CallKind) (x y : ℕ) (to : To) (k : ℕ) (ts : List ℕ) → c ≡ kind → firstOf (formTests (callForm c x y to)) ≡ 0 → operandsOf (callForm kind x y to) ++ listedOf (callForm kind x y to) ≡ k ∷ ts → k < 256
 key-small c kind x y to k ts e g q =
-    let all : areKeys (k ∷ ts) ≡ true = subst (λ (xs : List ℕ). areKeys xs ≡ true) (ap (λ (j : CallKind). operandsOf (callForm j x y to) ++ targetsOf (callForm j x y to)) e ∙ q) (form-fits (callForm c x y to) g .keys) in
+    let all : areKeys (k ∷ ts) ≡ true = subst (λ (xs : List ℕ). areKeys xs ≡ true) (ap (λ (j : CallKind). operandsOf (callForm j x y to) ++ listedOf (callForm j x y to)) e ∙ q) (form-fits (callForm c x y to) g .keys) in
     let high : k ≤ 64 = leb-true k 64 (and-right (leb 1 k) (leb k 64) (and-left (isKey k) (areKeys ts) all)) in
     omega arith

@@ -11,7 +11,7 @@ use borrow.Author.Tests.{lt-ltb, ne-eqb}
 use Rattle.graph.specs.Acts.{isMap, isFold}
 use Rattle.graph.specs.OneAtATime.{Labelled, addOf, opOf, isOp}
 use Rattle.graph.specs.Packed.{targetsIn, packedTargets}
-use Rattle.graph.specs.Targets.{Targets, these, all, cleared}
+use Rattle.graph.specs.Targets.{Targets, these, all, withoutMark}
 use Rattle.graph.specs.Nodes.{onward}
 use Rattle.graph.specs.declared.act.Act.{Act}
 use Rattle.graph.specs.declared.act.Act.the-variants.{Map, Link, Unlink, Sum, Top, Pick, Near}
@@ -169,7 +169,7 @@ call-opened p b d (addOf l v) = refl
 call-opened p b d (opOf o) = refl
 
 -- as a move takes it: its mark is cleared
-record-moved : (k p : ℕ) (b : Bool) (f : Fields) (t : Targets) (ls : List ℕ) → opRecord k b f (cleared t) ls ≡ movedOn k (opRecord p b f t ls)
+record-moved : (k p : ℕ) (b : Bool) (f : Fields) (t : Targets) (ls : List ℕ) → opRecord k b f (withoutMark t) ls ≡ movedOn k (opRecord p b f t ls)
 record-moved k p b f (these ts) ls = refl
 record-moved k p b f (all mark) ls = refl
 
@@ -177,13 +177,13 @@ call-moved : (k p : ℕ) (b : Bool) (c : Labelled) → callRecord k b (ofOp c (�
 call-moved k p b (addOf l v) = refl
 call-moved k p b (opOf o) = record-moved k p b (fieldsOf (o .act) (o .held)) (o .targets) (o .labels)
 
-cleared-read : (r : OpRecord) → cleared (targetsIn (remainingOf r)) ≡ targetsIn (record { all = eqb (r .all) 1; mark = false; keys = r .targets })
-cleared-read r = by-bool (eqb (r .all) 1) (λ e. rw e refl) (λ e. rw e refl)
+without-read : (r : OpRecord) → withoutMark (targetsIn (remainingOf r)) ≡ targetsIn (record { all = eqb (r .all) 1; mark = false; keys = r .targets })
+without-read r = by-bool (eqb (r .all) 1) (λ e. rw e refl) (λ e. rw e refl)
 
 moved-read : (r : OpRecord) (k : ℕ) → ofOp (decodedCall r) (λ o. opOf (onward o)) (decodedCall r) ≡ decodedCall (movedOn k r)
 moved-read r k =
     by-bool (eqb (r .kind) 0) (λ e. rw e refl)
-    (λ e. rw e (λ i. opOf (record { act = actOf (r .kind) (r .key) (r .a) (r .b); held = heldOf (r .kind) (r .b); targets = cleared-read r i; labels = labelsOf (r .labels) })))
+    (λ e. rw e (λ i. opOf (record { act = actOf (r .kind) (r .key) (r .a) (r .b); held = heldOf (r .kind) (r .b); targets = without-read r i; labels = labelsOf (r .labels) })))
 
 module _ (r : OpRecord) (clean : taggedRecord (taggedOf r) ≡ r) where
   pub clean-opens : r .opens ≤ 1

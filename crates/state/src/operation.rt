@@ -100,7 +100,7 @@ pub fn flag(b: bool) -> u8
     0
 }
 
-// The targets that remain, of a record whose two bytes for them are 0 or 1.
+// The targets that remain: all where the byte for it is 1, and marked where the mark's is.
 pub fn remaining_of(r: OpRecord) -> Remaining
     ensures { λ t. ⌜ t ≡ remainingOf r ⌝ }
 {

@@ -16,7 +16,7 @@ use Rattle.graph.specs.Packed.{listed, packed, targetsIn, packedTargets}
 use Rattle.graph.specs.Targets.{Targets, these, all, isMarked, leftOf}
 use Rattle.graph.specs.Nodes.{Node, Result}
 use Rattle.graph.specs.OneAtATime.{Labelled, addOf, opOf}
-use Rattle.graph.specs.Valid.{Each, ValidTargets, ValidRemaining, ValidNode, ValidAct, ValidHeld, mostLabels, ValidOp, ValidResult}
+use Rattle.graph.specs.Valid.{Each, ValidKeys, ValidTargets, ValidNode, ValidAct, ValidHeld, mostLabels, ValidOp, ValidResult}
 use Rattle.graph.proofs.Answers.{and-left, and-right, by-bool}
 use Rattle.graph.proofs.KeyLaws.{listed-packed}
 use Rattle.graph.proofs.PackedTargets.{packed-left, targets-packed}
@@ -87,7 +87,7 @@ module _ (prev : ℕ) (r : ResultRecord) (f : FitResult r) (e : resultOk prev r 
       let z : 0 ≡ r .spare = sym (eqb-true (r .spare) 0 (and-left _ _ (and-right (ltb prev (r .label)) _ e))) in
       λ j. record { label = r .label; value = r .value; left = keys-packed true (r .left) (f .left) left-keys j; spare = z j }
 
-targets-good : (ts : List ℕ) → ValidTargets ts → KeysGood true ts
+targets-good : (ts : List ℕ) → ValidKeys ts → KeysGood true ts
 targets-good ts v = record { few = v .few; keys = v .keys; rises = λ b. v .rise }
 
 module _ (r : Result) (v : ValidResult r) where
@@ -244,7 +244,7 @@ module _ (n prev : ℕ) (o : OpRecord) (fit : FitOp o) (e : opOk n prev o ≡ tr
       (λ q. rw q (λ i. record { all = true; mark = eqb (o .mark) 1; keys = unlisted (afacts .none q) i }))
       (λ q. rw q (λ i. record { all = false; mark = sym (mfacts .listed q) i; keys = keys-packed true (o .targets) (fit .targets) (facts .targets) i }))
 
-  remaining-valid : ValidRemaining (targetsIn (remainingOf o))
+  remaining-valid : ValidTargets (targetsIn (remainingOf o))
   remaining-valid = by-bool (eqb (o .all) 1) (λ q. rw q tt) (λ q. rw q (record { few = tgood .few; keys = tgood .keys; rise = tgood .rises refl }))
 
   unmarked : o .station ≡ 65 → isMarked (targetsIn (remainingOf o)) ≡ false
@@ -377,7 +377,7 @@ record RemainingGood (p kind : ℕ) (t : Targets) : Type 0 where
   all : allOk kind (packedTargets t .keys .count) (cond (packedTargets t .all) 1 0) ≡ true
   mark : markOk p (cond (packedTargets t .all) 1 0) (cond (packedTargets t .mark) 1 0) ≡ true
 
-remaining-good : (p kind : ℕ) (t : Targets) → eqb kind 0 ≡ false → ValidRemaining t → (p ≡ 65 → isMarked t ≡ false) → RemainingGood p kind t
+remaining-good : (p kind : ℕ) (t : Targets) → eqb kind 0 ≡ false → ValidTargets t → (p ≡ 65 → isMarked t ≡ false) → RemainingGood p kind t
 unfolding packed
 remaining-good p kind (these ts) k v m =
     record { keys = targets-good ts v; all = refl; mark = refl }

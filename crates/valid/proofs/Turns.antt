@@ -206,7 +206,7 @@ pub none-seen : (l : List ℕ) (i : ℕ) (seen : List ℕ) → length l ≤ i �
 none-seen l i seen h e = record { size = e; marked = λ y t. absurd (true≢false (sym t ∙ ap (contains y) (drop-of-length-le l h))) }
 
 module _ (l : List ℕ) (k : ℕ) (seen : List ℕ) (S : Seen l (k + 1) seen) (x : ℕ) where
-  -- where the lower byte is not marked, the label is not there
+  -- where the lower byte is not noted, the label is not there
   pub searched : (found : Bool) → found ≡ contains x (drop (k + 1) l) → (eqb (getD seen (x % 256) 0) 1 && found) ≡ contains x (drop (k + 1) l)
   searched found e = go (eqb (getD seen (x % 256) 0) 1) refl (contains x (drop (k + 1) l)) refl
     where

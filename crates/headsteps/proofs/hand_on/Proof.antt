@@ -1,4 +1,4 @@
--- The last of a unit has no next; another hands its mark on.
+-- The last of a unit has no next; after another the next opens the unit where that one did.
 -- Assumes nothing.
 use mathlib.Core.Path.{sym, ap, _∙_}
 use lib.ListN.{getD}

@@ -1,4 +1,4 @@
--- The mark first, then the operation goes.
+-- First the next is to open the unit, then the operation goes.
 -- Assumes nothing.
 use mathlib.Core.Path.{sym, ap, _∙_}
 use lib.ListN.{length, getD}

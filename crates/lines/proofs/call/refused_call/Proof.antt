@@ -1,4 +1,4 @@
--- `lines::call::refused_call` meets its contract: the empty list of targets is `Keys::none`'s.
+-- `lines::call::refused_call` meets its contract: no target is listed, and it is not for all.
 -- Assumes nothing.
 use mathlib.Core.Path.{ap}
 use borrow.Author.Needs.{needs}

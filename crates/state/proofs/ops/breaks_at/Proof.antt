@@ -1,4 +1,4 @@
--- A station other than k breaks the unit, and so does a mark.
+-- A station other than k breaks the unit, and so does an operation that opens one.
 -- Assumes nothing.
 use mathlib.Core.Path.{sym, _∙_}
 use borrow.Author.Tests.{eq-eqb, ne-eqb}

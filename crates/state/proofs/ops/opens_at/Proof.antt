@@ -1,4 +1,4 @@
--- The mark of the record.
+-- Whether the record opens a unit.
 -- Assumes nothing.
 use mathlib.Core.Path.{sym, ap}
 use Rattle.flat.specs.Flat.{Tagged}

@@ -1,4 +1,4 @@
--- The record of the operation, at the old one's station and with its mark.
+-- The record of the operation, at the old one's station, opening a unit where that did.
 -- Assumes nothing.
 use mathlib.Core.Path.{sym, ap, _∙_}
 use lib.ListN.{set}

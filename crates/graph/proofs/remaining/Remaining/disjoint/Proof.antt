@@ -3,15 +3,15 @@
 use mathlib.Core.Path.{sym, _∙_}
 use Rattle.graph.specs.Packed.{targetsIn}
 use borrow.Author.Needs.{needs}
-use Rattle.graph.proofs.PackedTargets.{apart-all}
-use Rattle.graph.proofs.remaining.Remaining.apart.Statement.{statement}
-use Rattle.graph.proofs.remaining.Remaining.apart.Tie as tie
+use Rattle.graph.proofs.PackedTargets.{disjoint-all}
+use Rattle.graph.proofs.remaining.Remaining.disjoint.Statement.{statement}
+use Rattle.graph.proofs.remaining.Remaining.disjoint.Tie as tie
 
 none-left-requires : tie.Need-none-left-requires
 none-left-requires c κs = search needs
 
 returns : tie.Need-returns
-returns c = c .none-left .ensures ∙ rw (c .before .if1 .taken) (sym (apart-all (c .before .before .args .self .mark) (targetsIn (c .before .before .args .other))))
+returns c = c .none-left .ensures ∙ rw (c .before .if1 .taken) (sym (disjoint-all (c .before .before .args .self .mark) (targetsIn (c .before .before .args .other))))
 
 none-left-requires-2 : tie.Need-none-left-requires-2
 none-left-requires-2 c κs = search needs
@@ -25,6 +25,6 @@ disjoint-requires c κs = search needs
 returns-3 : tie.Need-returns-3
 returns-3 c = rw (c .before .before .before .if1 .left, c .before .before .if2 .left) (c .disjoint .ensures)
 
-pub apart-spec : {M : Type 1} → statement M
-apart-spec =
+pub disjoint-spec : {M : Type 1} → statement M
+disjoint-spec =
     tie.close (tie.spec none-left-requires returns none-left-requires-2 returns-2 disjoint-requires returns-3)
