@@ -23,7 +23,7 @@ enum {
     CG_NOT_A_SESSION = 2,  /* not the image of a session, or an image of another version */
     CG_BAD_LINE = 10,      /* not one of the entry's forms, or 256 bytes or more */
     CG_BAD_KEY = 11,       /* a key outside 1 to 64 */
-    CG_BAD_TARGETS = 12,   /* more than eight targets, or not strictly rising */
+    CG_BAD_TARGETS = 12,   /* more than eight listed targets, or not strictly rising */
     CG_ADDS_SPENT = 13,    /* an add where nodes and waiting adds are 64 */
     CG_LIVE_FULL = 14,     /* a call while 64 are live: claim a result first */
     CG_LABELS_SPENT = 15,  /* a call after 65,535 were accepted */
@@ -48,7 +48,7 @@ typedef struct cg_tally {
 int64_t cg_open(uint8_t *image, size_t image_len);
 
 /* Accepts a line such as "call=add value=5"; the call waits in the image. Gives its label.
- * Targets are up to eight rising keys, or all, as in "call=sum start=0 to=all": a call to all acts at each
+ * Targets are up to eight rising keys, or all, as in "call=sum start=0 to=all": such an all-call acts at each
  * node that it meets, and the left of its result is empty.
  * "call=unmap a=3 b=4 to=1" submits the map that undoes "call=map a=3 b=4 to=1"; its a must be odd.
  * Numbers in lines have no sign: send -1 as 4294967295, that is (uint32_t)-1; read a value as a uint32_t

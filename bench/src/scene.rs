@@ -3,6 +3,8 @@
 
 use hosts::{Entry, Host, Tally, IMAGE_BYTES, LISTING_BYTES, PRODUCT, RESULT_BYTES};
 
+const MAP_TO_ALL: &str = "call=map a=65537 b=4294967295 to=all";
+
 pub type Image = [u8; IMAGE_BYTES];
 
 pub struct Scene {
@@ -171,8 +173,6 @@ fn at_its_first_target(
     desk
 }
 
-const MAP_FOR_ALL: &str = "call=map a=65537 b=4294967295 to=all";
-
 /// A session in which a step of every kind is allowed: a result that is left alone, sums at one station,
 /// maps at another, a unit of two at a third, a sum without targets at the front, and calls that wait. For a realise of an
 /// unlink and of a top one each with as many live calls: the unlink or the top at its first target, and sums that wait.
@@ -213,9 +213,14 @@ fn busy(nodes: u32, links: u32, targets: u32, stations: [u32; 3], counts: [u32; 
         desk.row("open", Entry::Open, "", 0),
         with_a_place_free.row("call", Entry::Call, &map, 0),
         with_a_place_free.row("call unmap", Entry::Call, &unmap, 0),
-        with_a_place_free.row("call for all", Entry::Call, MAP_FOR_ALL, 0),
+        with_a_place_free.row("call to all", Entry::Call, MAP_TO_ALL, 0),
         desk.row("call, 10", Entry::Call, &format!("{map},"), 10),
-        desk.row("call for all, 10", Entry::Call, &format!("{MAP_FOR_ALL},1"), 10),
+        desk.row(
+            "call to all, 10",
+            Entry::Call,
+            &format!("{MAP_TO_ALL},1"),
+            10,
+        ),
         desk.row("call unmap, 40", Entry::Call, &even, 40),
         step("step admit", "step=admit".into(), 0),
         step("step realise", format!("step=realise at={low}"), 0),
@@ -268,7 +273,7 @@ pub fn whole() -> Scene {
         last.row("step finish", Entry::Step, "step=finish at=1", 0),
         waiting.row("drain", Entry::Step, "step=drain", 0),
     ];
-    let name = "A call over the whole scene: 64 nodes with 8 links each, one sum for all, nothing else live";
+    let name = "A call over the whole scene: 64 nodes with 8 links each, one sum to all, nothing else live";
     Scene { name, rows }
 }
 

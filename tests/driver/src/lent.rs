@@ -51,6 +51,14 @@ impl Lent {
         Lent::new(image, out_len, self.tally)
     }
 
+    /// The same with other counts.
+    pub fn with_tally(&self, tally: Tally) -> Lent {
+        Lent {
+            tally,
+            ..self.clone()
+        }
+    }
+
     /// Has both serve, compares everything that they answer and leave, and gives the answer.
     pub fn serve(&mut self, entry: Entry, frame: &[u8], at: usize) -> Result<i64, String> {
         let before = self.clone();

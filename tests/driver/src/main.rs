@@ -62,7 +62,7 @@ impl Count {
         }
         self.check("single bytes", fixed::single_bytes());
         self.check("long lines", fixed::long_lines());
-        self.check("quoted for all", fixed::quoted_for_all());
+        self.check("bound for all", fixed::bound_for_all());
         self.check("room", fixed::room());
         self.seeds(0, |count| count);
         self.check("all answers and steps met", fixed::all_met());

@@ -337,7 +337,7 @@ impl Targets {
         }
     }
 
-    /// What a station marked does not count at the next.
+    /// Clears the mark, which is about the station that it leaves.
     fn unmark(&mut self) {
         if let Targets::All { done } = self {
             *done = false;

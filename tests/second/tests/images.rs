@@ -355,6 +355,7 @@ fn all_calls_without_a_history() {
                     assert_eq!(unit[first].targets, Targets::All { done: true });
                     realised += 1;
                 }
+                assert_eq!(unit[..first], head[..first]);
                 assert_eq!(unit[first + 1..], head[first + 1..]);
             }
             let mut after = session.clone();

@@ -199,16 +199,16 @@ fn an_all_call_can_take_129_steps() {
     assert_eq!(desk.result(65), (64, &[][..]));
 }
 
-/// Every step line that may be served in a session of two nodes.
+/// Every step line that may be served.
 fn step_lines(session: &Session) -> Vec<String> {
     let mut lines = vec![String::from("step=admit")];
     for station in &session.stations {
         let at = station.node.key;
         lines.extend(["realise", "move", "finish"].map(|word| format!("step={word} at={at}")));
-        for unit in 1..=station.streamlet.len() {
-            let at = format!("at={at} unit={unit}");
+        for (place, unit) in station.streamlet.iter().enumerate() {
+            let at = format!("at={at} unit={}", place + 1);
             lines.extend(["join", "swap", "fuse"].map(|word| format!("step={word} {at}")));
-            lines.extend((1..4).map(|after| format!("step=split {at} after={after}")));
+            lines.extend((1..unit.len()).map(|after| format!("step=split {at} after={after}")));
         }
     }
     lines

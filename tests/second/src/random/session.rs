@@ -6,6 +6,7 @@
 use super::{neighbour, value, Random};
 use crate::image::IMAGE_BYTES;
 use crate::line::{KEYS, LIST};
+use crate::samples;
 use crate::session::{
     Act, Node, Operation, Outcome, Session, Station, Targets, Unit, Waiting, LIVE,
 };
@@ -59,7 +60,7 @@ pub fn damage_image(random: &mut Random, image: &mut [u8; IMAGE_BYTES]) {
 /// which has its mark.
 fn all_or_mark(random: &mut Random, operations: u8) -> usize {
     let operation = random.below(u64::from(operations)) as usize;
-    1040 + 32 * operation + random.choose(&[30, 31])
+    samples::operation(operation, random.choose(&[30, 31]))
 }
 
 fn small_or_up_to(random: &mut Random, most: u64) -> u64 {
