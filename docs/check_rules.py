@@ -8,7 +8,7 @@
   BEFORE and followed by the lines AFTER; the code in its other cells is what is printed, `refused=N` for its own line, and `0`
   for a step that is served, of which nothing is printed;
 - a table under <!-- names -->: the file in crates/ and the names that it defines;
-- the program in C: it compiles, and with LIBRARY (build/libcg.a) prints the block that follows it;
+- each program in C: it compiles, and with LIBRARY (build/libcg.a) prints the block that follows it;
 - docs/steps/*.svg: they are what docs/steps.py draws, and the model agrees with PROGRAM before and after each step.
 
 The last line is 'N passed, M failed'.

@@ -17,6 +17,7 @@ extern "C" {
 #define CG_IMAGE_BYTES 4112   /* the length of every image */
 #define CG_RESULT_BYTES 58    /* room for any result line, with its newline */
 #define CG_LISTING_BYTES 7189 /* room for any listing, with its newlines */
+#define CG_LOAD_BYTES 3584    /* room for any load, with its newlines */
 
 enum {
     CG_IMAGE_LENGTH = 1,   /* an image of another length */
@@ -33,8 +34,10 @@ enum {
     CG_NEVER_GIVEN = 30,   /* a label that was never given */
     CG_STILL_PENDING = 31, /* no result yet */
     CG_CLAIMED = 32,       /* the result was claimed before */
-    CG_NO_ROOM = 33,       /* an output shorter than what is to be written */
-    CG_NO_INVERSE = 40     /* an unmap of an even a; tested after 12 and before 13, 14 and 15 */
+    CG_NO_ROOM = 33,       /* an output shorter than the result line or the listing */
+    CG_NO_INVERSE = 40,    /* an unmap of an even a; tested after 12 and before 13, 14 and 15 */
+    CG_LOAD_COUNT = 46,    /* a load of more than 64 lines */
+    CG_LOAD_ROOM = 47      /* an output shorter than the lines of the load */
 };
 
 /* Steps taken, by kind; a drain counts each step that it takes. A count rests at 4,294,967,295.
@@ -68,6 +71,12 @@ int64_t cg_claim(uint8_t *image, size_t image_len, const uint8_t *frame, size_t 
 /* Writes the listing: a head, the nodes from the front on, the unclaimed results by label.
  * Gives the length written, with the newlines; the bytes of out after it stay, and so does the image. */
 int64_t cg_list(const uint8_t *image, size_t image_len, uint8_t *out, size_t out_len);
+
+/* Writes a load: so many call lines, at most 64, drawn from the seed. The same seed gives the same lines on every
+ * computer. No image is needed, and out may hold anything. A line has at most 56 bytes, with the newline that ends it.
+ * cg_call can read the lines where they stand in out, and refuses none of them with 10, 11, 12 or 40.
+ * Gives the length written, with the newlines, so 0 where count is 0; the bytes of out after it stay. */
+int64_t cg_load(uint32_t seed, uint32_t count, uint8_t *out, size_t out_len);
 
 #ifdef __cplusplus
 }

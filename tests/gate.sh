@@ -27,6 +27,7 @@ count python3 tests/guide.py --check
 count python3 tests/ruled_out.py
 count python3 tests/papers.py
 count sh tests/run.sh target/bin/cgrun
+count sh tests/tool.sh target/bin/cgrun
 count bash tests/pipe.sh target/bin/cgrun tests/second/target/release/second
 count sh tests/host.sh
 count python3 docs/check_rules.py target/bin/cgrun build/libcg.a

@@ -1,6 +1,6 @@
 #!/bin/sh
 # Tests what a studio links: the libraries, the header, the example hosts (examples/host.c and the one in
-# README.md), the installation; and builds the driver. The last line is 'N passed, M failed'.
+# README.md), the installation; and builds cgtool and the driver. The last line is 'N passed, M failed'.
 
 cd "$(dirname "$0")/.." || exit 1
 work=$(mktemp -d) || exit 1
@@ -26,7 +26,7 @@ try() {
 
 exports() {
     nm -D --defined-only build/libcg.so | awk '{ print $3 }' | sort >"$work/exports"
-    printf 'cg_%s\n' call claim list open step | cmp - "$work/exports"
+    printf 'cg_%s\n' call claim list load open step | cmp - "$work/exports"
 }
 
 # example COMMAND..: runs the example host, which must print what it always prints.
@@ -38,7 +38,8 @@ installed() {
     make install PREFIX="$work/prefix" &&
         flags=$(PKG_CONFIG_PATH="$work/prefix/lib/pkgconfig" pkg-config --cflags --libs cg) &&
         gcc examples/host.c $flags -o "$work/installed" &&
-        LD_LIBRARY_PATH="$work/prefix/lib" example "$work/installed"
+        LD_LIBRARY_PATH="$work/prefix/lib" example "$work/installed" &&
+        "$work/prefix/bin/cgtool" load 0 0
 }
 
 # block INFO: the first fenced block of README.md that opens with this word.
@@ -54,7 +55,8 @@ readme() {
 }
 
 try "make lib" make lib
-try "libcg.so exports the five functions and nothing else" exports
+try "make tool" make tool
+try "libcg.so exports the six functions and nothing else" exports
 
 warnings="-Wall -Wextra -Wpedantic -Werror -Iinclude"
 try "host.c with gcc" gcc -std=c99 $warnings examples/host.c build/libcg.a -o "$work/c" &&

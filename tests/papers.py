@@ -38,7 +38,7 @@ def crates():
 def dependencies():
     """Where crates.txt differs from the crates that the sources use; a comment names those that are only handed on."""
     lines = re.findall(r"^(\w+):([^#\n]*)(?:#(.*))?$", (TOP / "crates.txt").read_text(), re.M)
-    kit = {"check", "io", "libc"}
+    kit = {"check", "io", "libc", "os"}
     for crate, listed, comment in lines:
         used = set()
         for path in files(TOP / "crates" / crate):

@@ -1,6 +1,7 @@
 //! Times every entry of the product beside the second implementation and a plain copy of an image, and
 //! measures its stack. docs/PERFORMANCE.md says what the tables mean.
 
+mod load;
 mod scene;
 mod schedule;
 mod stack;
@@ -9,6 +10,7 @@ mod timing;
 use std::hint::black_box;
 
 use hosts::{Host, IMAGE_BYTES, LISTING_BYTES, PRODUCT, SECOND};
+use load::{Load, LINES, SEEDS};
 use scene::{Image, Row, Scene};
 
 /// Every time is taken so many times, with all the others between, since the machine is slow for a while now
@@ -24,29 +26,34 @@ fn main() {
         scene::whole(),
         scene::images(),
     ];
+    let loads = load::loads();
     let mut copy = f64::INFINITY;
     let mut times: Vec<Vec<Times>> = scenes
         .iter()
         .map(|scene| vec![Times::NONE; scene.rows.len()])
         .collect();
+    let mut load_times = vec![Times::NONE; loads.len()];
     for _ in 0..PASSES {
         copy = copy.min(copy_ns());
         for (scene, times) in scenes.iter().zip(&mut times) {
             for (row, times) in scene.rows.iter().zip(times) {
-                times.product = times.product.min(entry_ns(&PRODUCT, row));
-                times.second = times.second.min(entry_ns(&SECOND, row));
+                times.take(|host| entry_ns(host, row));
             }
+        }
+        for (load, times) in loads.iter().zip(&mut load_times) {
+            times.take(|host| load.ns(host));
         }
     }
     println!("A plain copy of {IMAGE_BYTES} bytes takes {copy:.0} ns.\n");
     for (scene, times) in scenes.iter().zip(&times) {
         table(scene, times, copy);
     }
+    load_table(&loads, &load_times, copy);
     schedule::table();
-    stack_table(&scenes);
+    stack_table(&scenes, &loads);
 }
 
-/// Nanoseconds of one call with the copy that restores the image before it.
+/// Nanoseconds of one call with the copy that restores the image before it, if it is lent one.
 #[derive(Clone, Copy)]
 struct Times {
     product: f64,
@@ -58,6 +65,12 @@ impl Times {
         product: f64::INFINITY,
         second: f64::INFINITY,
     };
+
+    /// Takes a time of both, and keeps the least.
+    fn take(&mut self, ns: impl Fn(&Host) -> f64) {
+        self.product = self.product.min(ns(&PRODUCT));
+        self.second = self.second.min(ns(&SECOND));
+    }
 }
 
 fn copy_ns() -> f64 {
@@ -67,20 +80,45 @@ fn copy_ns() -> f64 {
 }
 
 fn table(scene: &Scene, times: &[Times], copy: f64) {
-    println!("{}\n", scene.name);
-    println!("| entry | ns | times a copy | second, ns | second / product |");
-    println!("|---|---:|---:|---:|---:|");
+    table_head(scene.name);
     for (row, times) in scene.rows.iter().zip(times) {
         let (product, second) = (times.product - copy, times.second - copy);
-        let (copies, factor) = (product / copy, second / product);
-        let name = row.name;
-        println!("| {name} | {product:.0} | {copies:.1} | {second:.0} | {factor:.1} |");
+        table_row(row.name, product, second, copy);
         if let Some(steps) = row.steps() {
-            let (product, second) = (product / steps, second / steps);
-            println!("| .. one step of {steps:.0} | {product:.0} | | {second:.0} | |");
+            table_part("step", steps, product, second);
         }
     }
     println!();
+}
+
+fn load_table(loads: &[Load], times: &[Times], copy: f64) {
+    table_head(&format!(
+        "Loads of {LINES} lines, the mean over {SEEDS} seeds"
+    ));
+    for (load, times) in loads.iter().zip(times) {
+        table_row(load.name, times.product, times.second, copy);
+        if let Some(lines) = load.lines() {
+            table_part("line", lines, times.product, times.second);
+        }
+    }
+    println!();
+}
+
+fn table_head(name: &str) {
+    println!("{name}\n");
+    println!("| entry | ns | times a copy | second, ns | second / product |");
+    println!("|---|---:|---:|---:|---:|");
+}
+
+fn table_row(name: &str, product: f64, second: f64, copy: f64) {
+    let (copies, factor) = (product / copy, second / product);
+    println!("| {name} | {product:.0} | {copies:.1} | {second:.0} | {factor:.1} |");
+}
+
+/// A row's time, divided by how many steps or lines it is of.
+fn table_part(what: &str, count: f64, product: f64, second: f64) {
+    let (product, second) = (product / count, second / count);
+    println!("| .. one {what} of {count:.0} | {product:.0} | | {second:.0} | |");
 }
 
 fn entry_ns(host: &Host, row: &Row) -> f64 {
@@ -91,8 +129,8 @@ fn entry_ns(host: &Host, row: &Row) -> f64 {
     })
 }
 
-/// The most that any row of an entry takes.
-fn stack_table(scenes: &[Scene]) {
+/// The most that any row of an entry takes, and any load.
+fn stack_table(scenes: &[Scene], loads: &[Load]) {
     println!("\n| entry | most stack, bytes |\n|---|---:|");
     for entry in hosts::Entry::ALL {
         let rows = scenes.iter().flat_map(|scene| &scene.rows);
@@ -100,6 +138,8 @@ fn stack_table(scenes: &[Scene]) {
         let most = rows.map(stack_bytes).max().unwrap_or(0);
         println!("| {entry:?} | {most} |");
     }
+    let most = loads.iter().map(Load::stack_bytes).max().unwrap_or(0);
+    println!("| Load | {most} |");
 }
 
 fn stack_bytes(row: &Row) -> usize {

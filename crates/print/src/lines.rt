@@ -24,7 +24,7 @@ fn put_wide_field(out: &mut [u8], at: usize, name: &[u8], v: u64) -> usize
 }
 
 // Writes a name and a number.
-fn put_field(out: &mut [u8], at: usize, name: &[u8], v: u32) -> usize
+pub fn put_field(out: &mut [u8], at: usize, name: &[u8], v: u32) -> usize
     requires { ⌜ at + length (numbered (now name) v) ≤ length (now out) ⌝ }
     ensures { λ r. ⌜ TextPut (now (out .entry)) at (numbered (now (name .entry)) v) (now (out .exit)) r ⌝ }
 {
@@ -32,7 +32,7 @@ fn put_field(out: &mut [u8], at: usize, name: &[u8], v: u32) -> usize
 }
 
 // Writes two numbers and a list of keys, each after its name, and a newline.
-fn put_line(
+pub fn put_line(
     out: &mut [u8],
     at: usize,
     a: &[u8],

@@ -48,7 +48,7 @@ commas-inj (t ∷ ts) (u ∷ us) e =
 
 -- ---- a list holds no byte below the comma: no newline, no space
 
-clean-append : (stop : ℕ) (a b : List ℕ) → Clean stop a → Clean stop b → Clean stop (a ++ b)
+pub clean-append : (stop : ℕ) (a b : List ℕ) → Clean stop a → Clean stop b → Clean stop (a ++ b)
 clean-append stop [] b p q = q
 clean-append stop (x ∷ a) b p q = (p .0, clean-append stop a b (p .1) q)
 

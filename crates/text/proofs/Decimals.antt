@@ -209,6 +209,9 @@ len-le (suc k) n h = go (ltb n 10) refl (len-le k (n / 10))
 pub len-two : (n : ℕ) → n < 100 → length (decimal n) ≤ 2
 len-two n h = len-le 1 n h
 
+pub len-five : (n : ℕ) → n < 65536 → length (decimal n) ≤ 5
+len-five n h = len-le 4 n (omega arith)
+
 pub len-ten : (n : ℕ) → n < modulus → length (decimal n) ≤ 10
 len-ten n h = len-le 9 n (omega arith)
 

@@ -145,7 +145,8 @@ fn listings(bytes: &[u8], length: usize) -> Result<(), String> {
     Ok(())
 }
 
-/// To be asked last: every entry was met with each of its answers and no other, and every count rose.
+/// To be asked last: every entry and every load was met with each of its answers and no other, and every
+/// count rose.
 pub fn all_met() -> Result<(), String> {
     let due: [(Entry, &[i64]); 5] = [
         (Entry::Open, &[-1, 0]),
@@ -158,12 +159,13 @@ pub fn all_met() -> Result<(), String> {
         .iter()
         .flat_map(|(entry, answers)| answers.iter().map(|answer| (*entry, *answer)));
     MET.with_borrow(|met| {
-        if met.answers.iter().copied().eq(due) && met.kinds.len() == 8 {
+        let loads = met.loads.iter().copied().eq([-47, -46, 0, 1]);
+        if met.answers.iter().copied().eq(due) && loads && met.kinds.len() == 8 {
             Ok(())
         } else {
             Err(format!(
-                "{:?}, and these counts rose: {:?}",
-                met.answers, met.kinds
+                "{:?}, loads {:?}, and these counts rose: {:?}",
+                met.answers, met.loads, met.kinds
             ))
         }
     })

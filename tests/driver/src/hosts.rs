@@ -4,9 +4,10 @@
 use second::host;
 pub use second::{Tally, IMAGE_BYTES};
 
-/// As in cg.h: room for any result line, and for any listing.
+/// As in cg.h: room for any result line, for any listing and for any load.
 pub const RESULT_BYTES: usize = 58;
 pub const LISTING_BYTES: usize = 7189;
+pub const LOAD_BYTES: usize = 3584;
 
 #[derive(Clone, Copy, Debug, PartialEq, Eq, PartialOrd, Ord)]
 pub enum Entry {
@@ -47,6 +48,7 @@ pub struct Host {
     step: fn(&mut [u8], &[u8], usize, &mut Tally) -> i64,
     claim: fn(&mut [u8], &[u8], usize, &mut [u8]) -> i64,
     list: fn(&[u8], &mut [u8]) -> i64,
+    load: fn(u32, u32, &mut [u8]) -> i64,
 }
 
 pub const PRODUCT: Host = Host {
@@ -55,6 +57,7 @@ pub const PRODUCT: Host = Host {
     step: product::step,
     claim: product::claim,
     list: product::list,
+    load: product::load,
 };
 
 pub const SECOND: Host = Host {
@@ -63,6 +66,7 @@ pub const SECOND: Host = Host {
     step: host::step,
     claim: host::claim,
     list: host::list,
+    load: host::load,
 };
 
 impl Host {
@@ -82,6 +86,11 @@ impl Host {
             Entry::Claim => (self.claim)(image, frame, at, out),
             Entry::List => (self.list)(image, out),
         }
+    }
+
+    /// Makes a load. It has no image, and so is not an Entry.
+    pub fn load(&self, seed: u32, count: u32, out: &mut [u8]) -> i64 {
+        (self.load)(seed, count, out)
     }
 }
 
@@ -116,6 +125,7 @@ mod product {
             out_len: usize,
         ) -> i64;
         fn cg_list(image: *const u8, image_len: usize, out: *mut u8, out_len: usize) -> i64;
+        fn cg_load(seed: u32, count: u32, out: *mut u8, out_len: usize) -> i64;
     }
 
     pub fn open(image: &mut [u8]) -> i64 {
@@ -150,5 +160,9 @@ mod product {
 
     pub fn list(image: &[u8], out: &mut [u8]) -> i64 {
         unsafe { cg_list(image.as_ptr(), image.len(), out.as_mut_ptr(), out.len()) }
+    }
+
+    pub fn load(seed: u32, count: u32, out: &mut [u8]) -> i64 {
+        unsafe { cg_load(seed, count, out.as_mut_ptr(), out.len()) }
     }
 }

@@ -2,6 +2,7 @@
 
 use std::cell::RefCell;
 use std::collections::BTreeSet;
+use std::ops::Range;
 
 use hosts::{Entry, Host, Tally, PRODUCT, SECOND};
 use second::line_at;
@@ -17,6 +18,8 @@ pub struct Met {
     pub answers: BTreeSet<(Entry, i64)>,
     /// The counts that rose.
     pub kinds: BTreeSet<usize>,
+    /// The answers to loads; a length above 0 stands as 1.
+    pub loads: BTreeSet<i64>,
 }
 
 thread_local! {
@@ -61,26 +64,18 @@ impl Lent {
 
     /// Has both serve, compares everything that they answer and leave, and gives the answer.
     pub fn serve(&mut self, entry: Entry, frame: &[u8], at: usize) -> Result<i64, String> {
-        let before = self.clone();
-        let mut expected = self.clone();
-        let answer = self.served_by(&PRODUCT, entry, frame, at);
-        let due = expected.served_by(&SECOND, entry, frame, at);
-        let told = if answer != due {
-            format!("answers {answer}, expected {due}")
-        } else if let Some(part) = self.differs(&expected) {
-            format!("answers {answer}, and leaves another {part}")
-        } else if answer < 0 && *self != before {
-            format!("is refused with {answer}, and changes something")
-        } else {
-            MET.with_borrow_mut(|met| {
-                let rose = |kind: &usize| self.tally[*kind] != before.tally[*kind];
-                met.kinds.extend((0..8).filter(rose));
-                met.answers.insert((entry, answer.min(1)));
-            });
-            return Ok(answer);
-        };
-        let line = line_at(frame, at).escape_ascii();
-        Err(format!("{entry:?} of '{line}' {told}"))
+        let before = self.tally;
+        let told = self.compare(|lent, host| lent.served_by(host, entry, frame, at));
+        let answer = told.map_err(|told| {
+            let line = line_at(frame, at).escape_ascii();
+            format!("{entry:?} of '{line}' {told}")
+        })?;
+        MET.with_borrow_mut(|met| {
+            let rose = |kind: &usize| self.tally[*kind] != before[*kind];
+            met.kinds.extend((0..8).filter(rose));
+            met.answers.insert((entry, answer.min(1)));
+        });
+        Ok(answer)
     }
 
     /// The same, where the answer is known.
@@ -97,6 +92,24 @@ impl Lent {
         }
     }
 
+    /// Has both make a load, compares in the same way, and gives the answer.
+    pub fn load(&mut self, seed: u32, count: u32) -> Result<i64, String> {
+        let told = self.compare(|lent, host| {
+            let out = lent.out();
+            host.load(seed, count, &mut lent.bytes[out])
+        });
+        let answer = told.map_err(|told| {
+            let room = self.out_len;
+            format!("Load of seed {seed}, count {count} and room {room} {told}")
+        })?;
+        MET.with_borrow_mut(|met| met.loads.insert(answer.min(1)));
+        Ok(answer)
+    }
+
+    pub fn output(&self) -> &[u8] {
+        &self.bytes[self.out()]
+    }
+
     pub fn expect_tally(&self, due: Tally) -> Result<(), String> {
         match self.tally {
             tally if tally == due => Ok(()),
@@ -104,12 +117,35 @@ impl Lent {
         }
     }
 
+    /// Has both do the work, and gives the answer, or else in what they differ.
+    fn compare(&mut self, work: impl Fn(&mut Lent, &Host) -> i64) -> Result<i64, String> {
+        let before = self.clone();
+        let mut expected = self.clone();
+        let answer = work(self, &PRODUCT);
+        let due = work(&mut expected, &SECOND);
+        if answer != due {
+            Err(format!("answers {answer}, expected {due}"))
+        } else if let Some(part) = self.differs(&expected) {
+            Err(format!("answers {answer}, and leaves another {part}"))
+        } else if answer < 0 && *self != before {
+            Err(format!("is refused with {answer}, and changes something"))
+        } else {
+            Ok(answer)
+        }
+    }
+
+    /// Where the output stands in the block.
+    fn out(&self) -> Range<usize> {
+        let start = 2 * MARGIN + self.image_len;
+        start..start + self.out_len
+    }
+
     fn differs(&self, other: &Lent) -> Option<String> {
         let mut pairs = self.bytes.iter().zip(&other.bytes);
-        let (image, out) = (MARGIN, 2 * MARGIN + self.image_len);
+        let (image, out) = (MARGIN, self.out());
         match pairs.position(|(a, b)| a != b) {
-            Some(place) if place >= out && place < out + self.out_len => {
-                Some(format!("output at byte {}", place - out))
+            Some(place) if out.contains(&place) => {
+                Some(format!("output at byte {}", place - out.start))
             }
             Some(place) if place >= image && place < image + self.image_len => {
                 Some(format!("image at byte {}", place - image))

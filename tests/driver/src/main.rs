@@ -9,6 +9,7 @@
 
 mod fixed;
 mod lent;
+mod loads;
 mod seeded;
 
 use std::process::ExitCode;
@@ -17,11 +18,12 @@ use std::time::{Duration, Instant, SystemTime, UNIX_EPOCH};
 type Seeded = fn(u64) -> Result<(), String>;
 
 /// The seeded checks, and how many seeds the gate gives each.
-const SEEDED: [(&str, Seeded, u64); 4] = [
+const SEEDED: [(&str, Seeded, u64); 5] = [
     ("script", seeded::script, 2000),
     ("any session", seeded::any_session, 8000),
     ("damaged image", seeded::damaged_image, 20_000),
     ("any bytes", seeded::any_bytes, 8000),
+    ("load", loads::seeded, 10_000),
 ];
 
 /// No more failures than this are told.
@@ -64,6 +66,10 @@ impl Count {
         self.check("long lines", fixed::long_lines());
         self.check("bound for all", fixed::bound_for_all());
         self.check("room", fixed::room());
+        self.check("load, first line", loads::first_line());
+        self.check("load, room", loads::room());
+        self.check("load, counts", loads::counts());
+        self.check("load, nowhere", loads::nowhere());
         self.seeds(0, |count| count);
         self.check("all answers and steps met", fixed::all_met());
     }

@@ -1,12 +1,13 @@
 //! The host's functions, on lent bytes: what `cg_open` and the others answer, and
 //! what they leave.
 //!
-//! Each takes the session out of the image, serves it, and writes its image back.
-//! Every refusal comes before that writing.
+//! Each but `load` takes the session out of the image, serves it, and writes its image
+//! back. Every refusal comes before that writing; a load has no session.
 
 use crate::image::{image, session_of, IMAGE_BYTES};
 use crate::line::line_at;
-use crate::refusal::Refusal;
+use crate::load::lines;
+use crate::refusal::{answer, Refusal};
 use crate::session::Session;
 use crate::Tally;
 
@@ -40,6 +41,18 @@ pub fn list(bytes: &[u8], out: &mut [u8]) -> i64 {
         Ok(session) => session.list(out),
         Err(refusal) => refusal.answer(),
     }
+}
+
+/// Writes the lines of a load, by its seed: 46, then 47.
+pub fn load(seed: u32, count: u32, out: &mut [u8]) -> i64 {
+    answer(lines(seed, count).and_then(|lines| write_load(&lines, out)))
+}
+
+/// Writes all of the lines or none; what stands after them stays.
+fn write_load(lines: &[u8], out: &mut [u8]) -> Result<i64, Refusal> {
+    let room = out.get_mut(..lines.len()).ok_or(Refusal::LoadRoom)?;
+    room.copy_from_slice(lines);
+    Ok(lines.len() as i64)
 }
 
 fn session_in(bytes: &[u8]) -> Result<Session, Refusal> {

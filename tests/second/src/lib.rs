@@ -8,6 +8,7 @@
 pub mod host;
 pub mod image;
 pub mod line;
+pub mod load;
 pub mod meaning;
 pub mod print;
 pub mod program;

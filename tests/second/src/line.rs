@@ -96,6 +96,13 @@ pub fn read_claim(line: &[u8]) -> Result<u32, Refusal> {
     claim_form(line).ok_or(Refusal::Form)
 }
 
+/// Reads a number that stands alone, written as in a line.
+pub fn read_number(text: &[u8]) -> Option<u32> {
+    let mut reader = Reader::new(text)?;
+    let number = reader.number()?;
+    reader.end(number)
+}
+
 /// A number as a key.
 fn key(number: u32) -> Result<u8, Refusal> {
     match u8::try_from(number) {

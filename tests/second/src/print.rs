@@ -1,7 +1,17 @@
-//! What is written: result lines and the listing.
+//! What is written: call lines, result lines and the listing.
 
+use crate::line::{Call, To};
 use crate::refusal::Refusal;
-use crate::session::{Node, Outcome, Session};
+use crate::session::{Act, Node, Outcome, Session};
+
+/// A call's line, with its newline.
+pub fn call_line(call: &Call) -> String {
+    match call {
+        Call::Add { value } => format!("call=add value={value}\n"),
+        Call::Visit { act, to } => format!("call={} to={}\n", act_text(act), to_text(to)),
+        Call::Unmap { a, b, to } => format!("call=unmap a={a} b={b} to={}\n", to_text(to)),
+    }
+}
 
 /// A result's line, with its newline.
 pub fn result_line(label: u16, outcome: &Outcome) -> String {
@@ -39,6 +49,26 @@ fn head_line(session: &Session) -> String {
 fn node_line(node: &Node) -> String {
     let Node { key, value, links } = node;
     format!("key={key} value={value} links={}\n", keys(links))
+}
+
+/// An act's word and fields, up to its targets. What it holds is its `start`.
+fn act_text(act: &Act) -> String {
+    match act {
+        Act::Map { a, b } => format!("map a={a} b={b}"),
+        Act::Link { key, .. } => format!("link key={key}"),
+        Act::Unlink { key, .. } => format!("unlink key={key}"),
+        Act::Sum { held } => format!("sum start={held}"),
+        Act::Top { held } => format!("top start={held}"),
+        Act::Pick { held } => format!("pick start={held}"),
+        Act::Near { key, held } => format!("near key={key} start={held}"),
+    }
+}
+
+fn to_text(to: &To) -> String {
+    match to {
+        To::Keys(targets) => keys(targets),
+        To::All => String::from("all"),
+    }
 }
 
 fn keys(keys: &[u8]) -> String {

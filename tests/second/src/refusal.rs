@@ -35,6 +35,10 @@ pub enum Refusal {
     NoRoom = 33,
     /// An unmap of an even a, which no map undoes.
     NoInverse = 40,
+    /// A load of more than 64 lines.
+    LoadCount = 46,
+    /// The output is shorter than the load's lines.
+    LoadRoom = 47,
 }
 
 impl Refusal {

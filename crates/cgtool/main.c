@@ -1,0 +1,7 @@
+/* A `main` of Rattle gives no exit status. So the program's is C's, and returns what the proved function gives (src/lib.rt);
+ * that one reads the arguments itself. */
+#include <stdint.h>
+
+int32_t cgtool(void);
+
+int main(void) { return cgtool(); }

@@ -1,0 +1,3 @@
+pub mod Saying
+pub mod Loads
+pub mod Ends

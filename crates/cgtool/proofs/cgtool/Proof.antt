@@ -1,0 +1,91 @@
+-- The program is safe and ends, with one of its statuses.
+-- Assumes nothing.
+use mathlib.Core.Path.{sym, subst}
+use mir.Syntax.{w32}
+use mir.Facts.{toZ-pos}
+use Rattle.cgtool.specs.Commands.{Status}
+use Rattle.cgtool.proofs.Ends.{ends-status}
+use borrow.Author.Needs.{needs}
+use Rattle.cgtool.proofs.cgtool.Statement.{statement}
+use Rattle.cgtool.proofs.cgtool.Tie as tie
+
+slice-aggregate-arg : tie.Need-slice-aggregate-arg
+slice-aggregate-arg c = search needs
+
+arg-requires : tie.Need-arg-requires
+arg-requires c κs = search needs
+
+slice-aggregate-arg-2 : tie.Need-slice-aggregate-arg-2
+slice-aggregate-arg-2 c = search needs
+
+arg-requires-2 : tie.Need-arg-requires-2
+arg-requires-2 c κs = search needs
+
+slice-aggregate-arg-3 : tie.Need-slice-aggregate-arg-3
+slice-aggregate-arg-3 c = search needs
+
+arg-requires-3 : tie.Need-arg-requires-3
+arg-requires-3 c κs = search needs
+
+arg-count-requires : tie.Need-arg-count-requires
+arg-count-requires c κs = search needs
+
+array-share-prefix-verb : tie.Need-array-share-prefix-verb
+array-share-prefix-verb c = search needs
+
+slice-aggregate-answer : tie.Need-slice-aggregate-answer
+slice-aggregate-answer c = search needs
+
+array-share-prefix-first : tie.Need-array-share-prefix-first
+array-share-prefix-first c = search needs
+
+slice-aggregate-answer-2 : tie.Need-slice-aggregate-answer-2
+slice-aggregate-answer-2 c = search needs
+
+array-share-prefix-second : tie.Need-array-share-prefix-second
+array-share-prefix-second c = search needs
+
+slice-aggregate-answer-3 : tie.Need-slice-aggregate-answer-3
+slice-aggregate-answer-3 c = search needs
+
+slice-aggregate-answer-4 : tie.Need-slice-aggregate-answer-4
+slice-aggregate-answer-4 c = search needs
+
+answer-requires : tie.Need-answer-requires
+answer-requires c κs = search needs
+
+slice-aggregate-write : tie.Need-slice-aggregate-write
+slice-aggregate-write c = search needs
+
+write-requires : tie.Need-write-requires
+write-requires c κs = search needs
+
+cast-result : tie.Need-cast-result
+cast-result c = search needs
+
+returns : tie.Need-returns
+returns c = subst Status (sym (toZ-pos w32 (search needs))) (ends-status (c .before .before .before .before .answer .ensures .ends))
+
+pub cgtool-spec : {M : Type 1} → statement M
+cgtool-spec =
+    tie.close
+    (tie.spec
+    slice-aggregate-arg
+    arg-requires
+    slice-aggregate-arg-2
+    arg-requires-2
+    slice-aggregate-arg-3
+    arg-requires-3
+    arg-count-requires
+    array-share-prefix-verb
+    slice-aggregate-answer
+    array-share-prefix-first
+    slice-aggregate-answer-2
+    array-share-prefix-second
+    slice-aggregate-answer-3
+    slice-aggregate-answer-4
+    answer-requires
+    slice-aggregate-write
+    write-requires
+    cast-result
+    returns)

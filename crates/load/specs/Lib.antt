@@ -1,0 +1,5 @@
+pub mod Load
+pub mod Entry
+pub mod AcceptedLines
+pub mod Cases
+pub mod Inner
