@@ -8,6 +8,7 @@
   BEFORE and followed by the lines AFTER; the code in its other cells is what is printed, `refused=N` for its own line, and `0`
   for a step that is served, of which nothing is printed;
 - a table under <!-- names -->: the file in crates/ and the names that it defines;
+- the table of draws: each state follows from the one before it, the first from 0;
 - each program in C: it compiles, and with LIBRARY (build/libcg.a) prints the block that follows it;
 - docs/steps/*.svg: they are what docs/steps.py draws, and the model agrees with PROGRAM before and after each step.
 
@@ -85,6 +86,15 @@ def names():
             tell(re.search(rf"^ *(\w+ )?pub (\w+ )?{name}\b", text, re.M), f"{path} defines {name}")
 
 
+def draws():
+    state = 0
+    table = re.search(r"^\| state \| draw \|.*\n\|.*\n((?:\|.*\n)+)", PAGE, re.M)[1]
+    for row in table.splitlines():
+        state = (1664525 * state + 1013904223) % 2**32
+        printed = [int(cell.replace(",", "")) for cell in row.split("|")[1:3]]
+        tell(printed == [state, state // 65536], f"the draw {row}")
+
+
 def probes(session):
     yield from ["step=admit", "step=drain"]
     for key in range(1, len(session.stations) + 2):
@@ -113,6 +123,7 @@ def pictures():
 blocks()
 rows()
 names()
+draws()
 pictures()
 print(f"{counts[True]} passed, {counts[False]} failed")
 sys.exit(1 if counts[False] else 0)

@@ -72,8 +72,10 @@ int64_t cg_claim(uint8_t *image, size_t image_len, const uint8_t *frame, size_t 
  * Gives the length written, with the newlines; the bytes of out after it stay, and so does the image. */
 int64_t cg_list(const uint8_t *image, size_t image_len, uint8_t *out, size_t out_len);
 
-/* Writes a load: so many call lines, at most 64, drawn from the seed. The same seed gives the same lines on every
- * computer. No image is needed, and out may hold anything. A line has at most 56 bytes, with the newline that ends it.
+/* Writes a load: so many call lines, drawn from the seed. The same seed and count give the same lines on
+ * every computer. Refuses a count above 64 with 46, then an out that is shorter than the lines with 47.
+ * A line has at most 56 bytes, with the newline that ends it: 56 * count bytes are enough, and CG_LOAD_BYTES
+ * for any count. No image is lent, and what out holds before does not matter.
  * cg_call can read the lines where they stand in out, and refuses none of them with 10, 11, 12 or 40.
  * Gives the length written, with the newlines, so 0 where count is 0; the bytes of out after it stay. */
 int64_t cg_load(uint32_t seed, uint32_t count, uint8_t *out, size_t out_len);

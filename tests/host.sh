@@ -29,6 +29,9 @@ exports() {
     printf 'cg_%s\n' call claim list load open step | cmp - "$work/exports"
 }
 
+# In the objects that libcg.a is made of, all other functions are local.
+globals() { nm -g --defined-only build/libcg.a | awk 'NF == 3 { print $3 }' | sort | cmp - "$work/exports"; }
+
 # example COMMAND..: runs the example host, which must print what it always prints.
 example() {
     "$@" >"$work/printed" && diff examples/host.out "$work/printed"
@@ -57,6 +60,7 @@ readme() {
 try "make lib" make lib
 try "make tool" make tool
 try "libcg.so exports the six functions and nothing else" exports
+try "libcg.a has the same global functions" globals
 
 warnings="-Wall -Wextra -Wpedantic -Werror -Iinclude"
 try "host.c with gcc" gcc -std=c99 $warnings examples/host.c build/libcg.a -o "$work/c" &&

@@ -86,7 +86,7 @@ done
 
 digits16=1111111111111111
 long=$(printf '%05000d' 1)
-for word in 4294967296 07 00 +1 ' 1' '1 ' '' -1 1.0 0x1 one "$digits16" "${digits16}1" "$long"; do
+for word in 4294967296 07 00 +1 ' 1' '1 ' '' -1 1.0 0x1 one "$(printf '1\377')" "$(printf '1\n1')" "$digits16" "${digits16}1" "$long"; do
     ends 2 load "$word" 1
     ends 2 load 1 "$word"
     ends 2 load 1 1 "$word"
@@ -116,5 +116,16 @@ equal "cgrun ends with" $? 0
 equal "loads' lines of another form" "$(grep -c 'refused=\(10\|11\|12\|40\)$' "$work/printed")" 0
 equal "lines accepted, or refused for want of room" \
     "$(awk '/ refused=1[345]$/ { n++ } /^nodes=/ { sub(/.* pending=/, ""); n += $0 } END { print n }' "$work/printed")" 640000
+
+# README.md's example.
+"$tool" load 0 64 >"$work/load"
+{ cat "$work/load"; echo step=drain; } >"$work/drained"
+echo 'nodes=0 results=0 pending=64' >"$work/head"
+if "$program" <"$work/load" | cmp -s "$work/head" -; then pass; else fail "README.md's load"; fi
+equal "nodes of README.md's load" "$("$program" <"$work/drained" | grep -c '^key=')" 10
+equal "results of README.md's load" "$("$program" <"$work/drained" | grep -c '^label=')" 64
+
+"$tool" load 0 3 >/dev/full
+equal "where nothing can be written, cgtool ends with" $? 1
 
 end

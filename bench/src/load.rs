@@ -18,9 +18,10 @@ pub struct Load {
     room: usize,
 }
 
-pub fn loads() -> [Load; 3] {
+pub fn loads() -> [Load; 4] {
     [
         load("load", LINES, LOAD_BYTES, 0),
+        load("load, measured first", LINES, LOAD_BYTES - 1, 0),
         load("load, 46", LINES + 1, LOAD_BYTES, 46),
         load("load, 47", LINES, 0, 47),
     ]

@@ -1,4 +1,4 @@
-/* A `main` of Rattle gives no exit status. So the program's is C's, and returns what the proved function gives (src/lib.rt);
+/* A `main` of Rattle gives no exit status. So the program's is C's, and returns what the function cgtool gives (src/lib.rt);
  * that one reads the arguments itself. */
 #include <stdint.h>
 

@@ -10,7 +10,7 @@ use Rattle.graph.specs.Refusals.{Answer, refused, done}
 use Rattle.graph.specs.Words.{modulus}
 use Rattle.text.specs.Text.{ascii, decimal}
 use Rattle.lines.proofs.KeyLists.{words-below, below-words}
-use Rattle.cgtool.specs.Commands.{Ended, said, Arguments, Command, load, IsCommand, answerTo, Ends, served, otherArguments, Status}
+use Rattle.cgtool.specs.Commands.{Ended, said, Arguments, Command, load, IsCommand, commandAnswer, Ends, served, otherArguments, Status}
 use Rattle.cgtool.specs.Inner.Outputs.{Says, Answers}
 use Rattle.cgtool.specs.declared.commands.Said.{Said}
 
@@ -19,7 +19,7 @@ use Rattle.cgtool.specs.declared.commands.Said.{Said}
 pub wrong-answer : (a : Arguments) (out : List ℕ) {r : Said} → r ≡ record { length = 0; status = 2 } → ((c : Command) → IsCommand a c → ⊥) → Answers a out r
 wrong-answer a out e never = subst (Answers a out) (sym e) (record { within = omega arith; ends = otherArguments never refl })
 
-pub command-answer : (a : Arguments) (c : Command) (out : List ℕ) {r : Said} → IsCommand a c → Says out r (said (answerTo c)) → Answers a out r
+pub command-answer : (a : Arguments) (c : Command) (out : List ℕ) {r : Said} → IsCommand a c → Says out r (said (commandAnswer c)) → Answers a out r
 command-answer a c out i s = record { within = s .within; ends = served c i (s .ended) }
 
 -- ---- the arguments of a load
@@ -48,5 +48,5 @@ answer-status e (refused n) q = inr (inl (ap (λ (f : Ended). pos (f .status)) q
 answer-status e (done text) q = inl (ap (λ (f : Ended). pos (f .status)) q)
 
 pub ends-status : {a : Arguments} {e : Ended} → Ends a e → Status (pos (e .status))
-ends-status {a} {e} (served c i q) = answer-status e (answerTo c) q
+ends-status {a} {e} (served c i q) = answer-status e (commandAnswer c) q
 ends-status (otherArguments never q) = inr (inr (ap (λ (f : Ended). pos (f .status)) q))

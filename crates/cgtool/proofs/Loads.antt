@@ -9,15 +9,14 @@ use borrow.Author.Tests.{ltb-false, le-ltb}
 use lib.Dec.{ltb}
 use lib.ListN.{length, take}
 use Rattle.graph.specs.Refusals.{Answer, refused, done, unless}
-use Rattle.text.proofs.Pasting.{length-pasted}
+use Rattle.text.proofs.Pasting.{length-pasted, take-pasted}
 use Rattle.panel.specs.declared.returned.Returned.{Returned}
 use Rattle.panel.specs.declared.returned.Returned.the-variants.{Done, Refused}
 use Rattle.load.specs.Load.{loadText}
 use Rattle.load.specs.Entry.{loadTests, loadAnswered}
 use Rattle.load.specs.Inner.Values.{returnedOf, LoadReturned}
 use Rattle.load.proofs.Lengths.{load-short}
-use Rattle.cgtool.specs.Commands.{load, answerTo}
-use Rattle.cgtool.proofs.Saying.{take-pasted}
+use Rattle.cgtool.specs.Commands.{load, commandAnswer}
 
 -- a length within the output
 abbrev pub Within : List ℕ → Returned → Type 0
@@ -31,7 +30,7 @@ answerIn out (Refused n) = refused n
 
 pub record LoadAnswer (seed count : ℕ) (out : List ℕ) (r : Returned) : Type 0 where
   pub within : Within out r
-  pub same : answerIn out r ≡ answerTo (load seed count)
+  pub same : answerIn out r ≡ commandAnswer (load seed count)
 
 module _ (seed count : ℕ) (out : List ℕ) (room : 3584 ≤ length out) where
   abbrev answer : Answer (List ℕ)

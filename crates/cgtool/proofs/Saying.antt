@@ -1,27 +1,19 @@
 -- A refusal as it is said.
 -- Assumes nothing.
 use Prim.Native.Nat.{ℕ, _+_, _≤_, _<_}
-use mathlib.Core.Path.{_≡_, ap, _∙_}
+use mathlib.Core.Path.{ap, _∙_}
 use mathlib.Core.List.{List, _++_}
 use native.Mathlib.Omega.{arith}
-use lib.ListN.{length, take, drop, length-append}
-use lib.Seq.{take-at}
+use lib.ListN.{length, take, length-append}
 use Rattle.graph.specs.Refusals.{refused}
 use Rattle.graph.specs.Words.{modulus}
-use Rattle.text.specs.Text.{ascii, pasted}
+use Rattle.text.specs.Text.{ascii}
 use Rattle.text.specs.Inner.Put.{TextPut}
 use Rattle.text.proofs.Decimals.{len-ten}
-use Rattle.text.proofs.Pasting.{written-size}
+use Rattle.text.proofs.Pasting.{take-pasted, written-size}
 use Rattle.print.specs.Printed.{numbered, newline}
 use Rattle.cgtool.specs.Commands.{said}
 use Rattle.cgtool.specs.Inner.Outputs.{Says}
-
--- what was written at the start of an output
-pub take-pasted : (s text : List ℕ) (n : ℕ) → n ≡ 0 + length text → take n (pasted s 0 text) ≡ text
-unfolding pasted
-take-pasted s text n e = take-at text (drop (0 + length text) s) n (omega arith)
-
--- ---- a refusal, written
 
 abbrev pub refusalLine : ℕ → List ℕ
 refusalLine n = numbered (ascii "refused=") n ++ newline

@@ -1,4 +1,5 @@
--- What the program `cgtool` prints and ends with, for all arguments (S-14).
+-- What the program `cgtool` is to print and to end with, for all arguments (S-14): proved of `answer` (src/commands.rt). That the program
+-- hands it the arguments, prints what it gives and ends with its status is tested (docs/PROMISES.md, 'What is assumed').
 -- Assumes nothing.
 use Prim.Native.Nat.{ℕ}
 use mathlib.Core.Logic.{_⊎_}
@@ -13,7 +14,7 @@ use Rattle.text.specs.Text.{ascii, decimal}
 use Rattle.print.specs.Printed.{numbered, newline}
 use Rattle.load.specs.Load.{loadText}
 
--- what is printed on standard output, and the status
+-- what is printed on standard output, and the status, if standard output takes all of it; else the status is 1
 pub record Ended : Type 0 where
   pub printed : List ℕ
   pub status : ℕ
@@ -53,14 +54,14 @@ pub record IsCommand (a : Arguments) (c : Command) : Type 0 where
   pub same : a ≡ argumentsOf c
 
 -- "It refuses with 46 a count above 64" (S-14); never with 47, since the program has room for the lines
-abbrev pub answerTo : Command → Answer (List ℕ)
-answerTo (load seed count) = unless (on (ltb 64 count) 46 ∷ []) (loadText seed count)
+abbrev pub commandAnswer : Command → Answer (List ℕ)
+commandAnswer (load seed count) = unless (on (ltb 64 count) 46 ∷ []) (loadText seed count)
 
 -- given these arguments, the program ends so
 pub data Ends (a : Arguments) (r : Ended) : Type 0 where
-  served : (c : Command) → IsCommand a c → r ≡ said (answerTo c) → Ends a r
+  served : (c : Command) → IsCommand a c → r ≡ said (commandAnswer c) → Ends a r
   otherArguments : ((c : Command) → IsCommand a c → ⊥) → r ≡ wrong → Ends a r
 
--- every status that the program ends with
+-- the program ends with 0, 1 or 2
 abbrev pub Status : ℤ → Type 0
 Status r = (r ≡ pos 0) ⊎ ((r ≡ pos 1) ⊎ (r ≡ pos 2))

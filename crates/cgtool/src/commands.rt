@@ -11,7 +11,7 @@ ghost use Prim.Native.Nat.{_≤_};
 ghost use lib.ListN.{length};
 ghost use Rattle.graph.specs.Refusals.{refused};
 ghost use Rattle.text.specs.Text.{ascii};
-ghost use Rattle.cgtool.specs.Commands.{said, load, answerTo};
+ghost use Rattle.cgtool.specs.Commands.{said, load, commandAnswer};
 ghost use Rattle.cgtool.specs.Inner.Outputs.{Says, Answers};
 
 // The first `length` bytes of the output are printed.
@@ -21,7 +21,7 @@ pub struct Said {
 }
 
 // Wrong arguments.
-fn misused() -> Said
+fn wrong_arguments() -> Said
     ensures { λ r. ⌜ r ≡ record { length = 0; status = 2 } ⌝ }
 {
     Said {
@@ -44,7 +44,7 @@ fn refusal_said(out: &mut [u8], refusal: u32) -> Said
 
 fn load_said(seed: u32, count: u32, out: &mut [u8]) -> Said
     requires { ⌜ 3584 ≤ length (now out) ⌝ }
-    ensures { λ r. ⌜ Says (now (out .exit)) r (said (answerTo (load seed count))) ⌝ }
+    ensures { λ r. ⌜ Says (now (out .exit)) r (said (commandAnswer (load seed count))) ⌝ }
 {
     match load(seed, count, out) {
         Returned::Refused(refusal) => refusal_said(out, refusal),
@@ -61,13 +61,13 @@ fn load_asked(given: usize, first: &[u8], second: &[u8], out: &mut [u8]) -> Said
     ensures { λ r. ⌜ Answers (record { given = given; verb = ascii "load"; first = now (first .entry); second = now (second .entry) }) (now (out .exit)) r ⌝ }
 {
     if given != 4 {
-        return misused();
+        return wrong_arguments();
     }
     let Number::Is(seed) = read_number(first) else {
-        return misused();
+        return wrong_arguments();
     };
     let Number::Is(count) = read_number(second) else {
-        return misused();
+        return wrong_arguments();
     };
     load_said(seed, count, out)
 }
@@ -80,5 +80,5 @@ pub fn answer(given: usize, verb: &[u8], first: &[u8], second: &[u8], out: &mut 
     if same(verb, b"load") {
         return load_asked(given, first, second, out);
     }
-    misused()
+    wrong_arguments()
 }

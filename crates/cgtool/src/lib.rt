@@ -1,4 +1,4 @@
-// The program cgtool but for C's `main`, which main.c has: a `main` of Rattle gives no exit status.
+// The program cgtool; main.c has C's `main`.
 pub mod commands;
 
 use commands::Said;
@@ -7,18 +7,20 @@ ghost use Prim.Native.Nat.{_≤_};
 ghost use lib.ListN.{length};
 ghost use Rattle.cgtool.specs.Commands.{Status};
 
-// Prints what was said or, where the arguments are wrong, the usage.
-fn write(out: &[u8], said: Said)
+// Prints what was said and, where the arguments are wrong, the usage. Could what was said be written?
+fn write(out: &[u8], said: Said) -> bool
     requires { ⌜ said .length ≤ length (now out) ⌝ }
 {
     let n = said.length;
-    io::write_all(1, &out[..n]);
+    let written = io::write_all(1, &out[..n]);
     if said.status == 2 {
         io::write_all(2, b"usage: cgtool load SEED COUNT\n");
     }
+    written
 }
 
-// Reads the arguments, prints, and gives the exit status. An argument that is longer than its buffer comes as an empty one.
+// Reads the arguments, prints, and gives the exit status, 1 where the output could not be written. An argument that is longer
+// than its buffer comes as an empty one.
 #[no_mangle]
 pub extern "C" fn cgtool() -> i32
     ensures { λ r. ⌜ Status r ⌝ }
@@ -32,6 +34,8 @@ pub extern "C" fn cgtool() -> i32
     let s = os::arg(3, &mut second);
     let given = os::arg_count();
     let said = answer(given, &verb[..v], &first[..f], &second[..s], &mut out);
-    write(&out, said);
+    if !write(&out, said) {
+        return 1;
+    }
     said.status as i32
 }

@@ -55,7 +55,7 @@ module _ (s : List ℕ) (at : ℕ) where
   module _ (n : ℕ) (p : LiteralAt s at (ascii " to=") (At n)) where
     -- the targets are the whole value: they hold no space
     value-is : (to : To) → drop at s ≡ targets to → upTo 32 (drop n s) ≡ toText to
-    value-is to e = part-is 32 (drop n s) (toText to) [] (cancel (ascii " to=") (drop n s) (toText to) (sym (p .1) ∙ e) ∙ sym (append-nil (toText to))) (to-clean to) tt
+    value-is to e = part-is 32 (drop n s) (toText to) [] (cancel (ascii " to=") (drop n s) (toText to) (sym (p .1) ∙ e) ∙ sym (append-nil (toText to))) (to-clean 32 (omega arith) to) tt
 
     pub targets-parted : n + length (upTo 32 (drop n s)) < length s → (to : To) → Below (keysListed to) → drop at s ≡ targets to → ⊥
     targets-parted h to b eq = omega (arith, p .0, length-drop n s, ap length (value-is to eq), ap length (cancel (ascii " to=") (drop n s) (toText to) (sym (p .1) ∙ eq)))

@@ -8,7 +8,7 @@ use lib.ListN.{length, getD}
 use Rattle.graph.specs.Targets.{To, named, whole}
 use Rattle.text.specs.Text.{ascii, decimal, further, commas}
 use Rattle.text.proofs.Decimals.{Figures, decimal-is}
-use Rattle.text.proofs.Splits.{Clean, cleanTest, clean-by}
+use Rattle.text.proofs.Splits.{Clean}
 use Rattle.text.proofs.CommaLists.{commas-inj, commas-clean}
 use Rattle.lines.specs.Forms.{toText}
 
@@ -32,7 +32,7 @@ to-inj (named ts) whole e = absurd (not-all ts e)
 to-inj whole (named us) e = absurd (not-all us (sym e))
 to-inj whole whole e = refl
 
-pub to-clean : (to : To) → Clean 32 (toText to)
-unfolding ascii cleanTest
-to-clean (named ts) = commas-clean 32 (omega arith) ts
-to-clean whole = clean-by 32 (ascii "all") refl
+pub to-clean : (stop : ℕ) → stop < 44 → (to : To) → Clean stop (toText to)
+unfolding ascii
+to-clean stop h (named ts) = commas-clean stop h ts
+to-clean stop h whole = (λ e. omega arith, (λ e. omega arith, (λ e. omega arith, tt)))

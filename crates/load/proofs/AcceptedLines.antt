@@ -1,6 +1,6 @@
 -- Every line made has an accepted form and ends in a newline.
 -- Assumes nothing.
-use Prim.Native.Nat.{ℕ, zero, suc, _+_}
+use Prim.Native.Nat.{ℕ, zero, suc, _+_, _≤_}
 use Prim.Native.String.{String}
 use mathlib.Core.Path.{_≡_, refl, ap, _∙_}
 use mathlib.Core.Bool.{true, false}
@@ -12,18 +12,19 @@ use lib.Seq.{drop-append-seam}
 use borrow.Author.Tests.{lt-ltb, le-leb}
 use Rattle.graph.specs.Words.{modulus, areWords}
 use Rattle.graph.specs.KeyLists.{isKey, areKeys, rising}
-use Rattle.graph.specs.Targets.{To, named, whole}
+use Rattle.graph.specs.Targets.{To}
 use Rattle.graph.specs.Calls.{Call, add, map, link, unlink, sum, top, pick, near, unmap, formTests, numbersOf, operandsOf, listedOf, lacksInverse}
 use Rattle.graph.specs.Refusals.{done, unless}
 use Rattle.graph.specs.Valid.{Each}
 use Rattle.graph.proofs.Answers.{and-left, and-right, and-both}
 use Rattle.graph.proofs.KeyLaws.{key-high}
 use Rattle.graph.proofs.Validity.{FormFits}
-use Rattle.text.specs.Text.{ascii, decimal, commas, upTo}
+use Rattle.text.specs.Text.{ascii, decimal, upTo}
 use Rattle.text.proofs.Splits.{Clean, cleanTest, clean-by, decimal-clean, part-is}
-use Rattle.text.proofs.CommaLists.{clean-append, commas-clean}
-use Rattle.lines.specs.Forms.{field, targets, callText, lineAt}
+use Rattle.text.proofs.CommaLists.{clean-append}
+use Rattle.lines.specs.Forms.{field, toText, targets, callText, lineAt}
 use Rattle.lines.proofs.Lengths.{call-short}
+use Rattle.lines.proofs.ToTexts.{to-clean}
 use Rattle.print.specs.Printed.{newline}
 use Rattle.load.specs.declared.kind.Kind.{Kind}
 use Rattle.load.specs.declared.kind.Kind.the-variants.{Add, Map, Link, Unlink, Sum, Top, Pick, Near}
@@ -31,7 +32,7 @@ use Rattle.load.specs.Load.{after, drawn, keyDrawn, targetsDrawn, callOf
 use Rattle.load.specs.AcceptedLines.{AcceptedLine, LoadAccepted}
 use Rattle.load.proofs.Drawing.{drawn-small}
 use Rattle.load.proofs.Sorting.{sorted-keys, sorted-rising}
-use Rattle.load.proofs.Lengths.{targets-few, load-short}
+use Rattle.load.proofs.Lengths.{targets-few, line-short, load-short}
 
 -- ---- the forms pass their tests
 
@@ -81,22 +82,21 @@ field-clean : (literal : String) (v : ℕ) (rest : List ℕ) → cleanTest 10 (a
 field-clean literal v rest e h =
     clean-append 10 (ascii literal) (decimal v ++ rest) (clean-by 10 (ascii literal) e) (clean-append 10 (decimal v) rest (decimal-clean 10 (omega arith) v) h)
 
-to-clean : (to : To) → Clean 10 (targets to)
+targets-clean : (to : To) → Clean 10 (targets to)
 unfolding ascii cleanTest
-to-clean (named ts) = clean-append 10 (ascii " to=") (commas ts) (clean-by 10 (ascii " to=") refl) (commas-clean 10 (omega arith) ts)
-to-clean whole = clean-by 10 (ascii " to=" ++ ascii "all") refl
+targets-clean to = clean-append 10 (ascii " to=") (toText to) (clean-by 10 (ascii " to=") refl) (to-clean 10 (omega arith) to)
 
 call-clean : (c : Call) → Clean 10 (callText c)
 unfolding ascii cleanTest
 call-clean (add v) = field-clean "call=add value=" v [] refl tt
-call-clean (map a b to) = field-clean "call=map a=" a _ refl (field-clean " b=" b _ refl (to-clean to))
-call-clean (link k to) = field-clean "call=link key=" k _ refl (to-clean to)
-call-clean (unlink k to) = field-clean "call=unlink key=" k _ refl (to-clean to)
-call-clean (sum x to) = field-clean "call=sum start=" x _ refl (to-clean to)
-call-clean (top x to) = field-clean "call=top start=" x _ refl (to-clean to)
-call-clean (pick x to) = field-clean "call=pick start=" x _ refl (to-clean to)
-call-clean (near k x to) = field-clean "call=near key=" k _ refl (field-clean " start=" x _ refl (to-clean to))
-call-clean (unmap a b to) = field-clean "call=unmap a=" a _ refl (field-clean " b=" b _ refl (to-clean to))
+call-clean (map a b to) = field-clean "call=map a=" a _ refl (field-clean " b=" b _ refl (targets-clean to))
+call-clean (link k to) = field-clean "call=link key=" k _ refl (targets-clean to)
+call-clean (unlink k to) = field-clean "call=unlink key=" k _ refl (targets-clean to)
+call-clean (sum x to) = field-clean "call=sum start=" x _ refl (targets-clean to)
+call-clean (top x to) = field-clean "call=top start=" x _ refl (targets-clean to)
+call-clean (pick x to) = field-clean "call=pick start=" x _ refl (targets-clean to)
+call-clean (near k x to) = field-clean "call=near key=" k _ refl (field-clean " start=" x _ refl (targets-clean to))
+call-clean (unmap a b to) = field-clean "call=unmap a=" a _ refl (field-clean " b=" b _ refl (targets-clean to))
 
 -- so the line in a buffer is the text
 line-read : (c : Call) (before rest : List ℕ) → lineAt (before ++ (lineText c ++ rest)) (length before) ≡ callText c
@@ -104,18 +104,19 @@ line-read c before rest =
     ap (upTo 10) (drop-append-seam before (lineText c ++ rest))
     ∙ part-is 10 (lineText c ++ rest) (callText c) (newline ++ rest) (append-assoc (callText c) newline rest) (call-clean c) refl
 
-accepted : (c : Call) → FormFits c → AcceptedLine c
-accepted c f =
+accepted : (c : Call) → FormFits c → length (lineText c) ≤ 56 → AcceptedLine c
+accepted c f l =
     record {
       read = λ before rest.
           let e = line-read c before rest in
           record { short = omega (arith, ap length e, call-short c f); fits = f .words; same = e };
       passes = passes c f;
+      short = l;
     }
 
 each-line : (seed count : ℕ) → Each AcceptedLine (load seed count)
 each-line s zero = tt
-each-line s (suc n) = (accepted ((callDrawn s) .call) (formed (kindOf (drawn 1 s)) s), each-line ((callDrawn s) .state) n)
+each-line s (suc n) = (accepted ((callDrawn s) .call) (formed (kindOf (drawn 1 s)) s) (line-short s), each-line ((callDrawn s) .state) n)
 
 pub every-line : (seed count : ℕ) → LoadAccepted seed count
-every-line seed count = record { lines = each-line seed count; short = load-short seed count }
+every-line seed count = record { lines = each-line seed count; room = load-short seed count }

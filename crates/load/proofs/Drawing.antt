@@ -1,12 +1,12 @@
 -- Bounds of states and draws, and keys as they are drawn.
 -- Assumes nothing.
-use Prim.Native.Nat.{ℕ, zero, suc, _+_, _%_, _<_}
+use Prim.Native.Nat.{ℕ, zero, suc, _+_, _<_}
 use mathlib.Core.Path.{_≡_, refl, ap}
 use mathlib.Core.List.{List, [], _∷_, _++_}
 use native.Mathlib.Omega.{arith}
 use lib.ListN.{length}
 use Rattle.graph.specs.Words.{modulus}
-use Rattle.load.specs.Load.{next, draw, after, drawn, keysDrawn}
+use Rattle.load.specs.Load.{next, draw, after, drawn, keyDrawn, keysDrawn}
 
 next-small : (s : ℕ) → next s < modulus
 unfolding next
@@ -29,9 +29,9 @@ after-next zero s = refl
 after-next (suc n) s = after-next n (next s)
 
 -- one key more, from the back
-pub keys-next : (n s : ℕ) → keysDrawn (suc n) s ≡ keysDrawn n s ++ (suc (drawn (suc n) s % 64) ∷ [])
+pub keys-next : (n s : ℕ) → keysDrawn (suc n) s ≡ keysDrawn n s ++ (keyDrawn (suc n) s ∷ [])
 keys-next zero s = refl
-keys-next (suc n) s = ap (λ (ks : List ℕ). suc (drawn 1 s % 64) ∷ ks) (keys-next n (next s))
+keys-next (suc n) s = ap (λ (ks : List ℕ). keyDrawn 1 s ∷ ks) (keys-next n (next s))
 
 pub keys-length : (n s : ℕ) → length (keysDrawn n s) ≡ n
 keys-length zero s = refl

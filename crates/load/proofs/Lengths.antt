@@ -42,7 +42,7 @@ pub line-short : (s : ℕ) → length (lineText ((callDrawn s) .call)) ≤ 56
 line-short s = line-short-of (kindOf (drawn 1 s)) s
 
 -- the first line, and the others
-pub load-next : (s n : ℕ) → loadText s (suc n) ≡ lineText ((callDrawn s) .call) ++ loadText ((callDrawn s) .state) n
+load-next : (s n : ℕ) → loadText s (suc n) ≡ lineText ((callDrawn s) .call) ++ loadText ((callDrawn s) .state) n
 unfolding loadText
 load-next s n = refl
 

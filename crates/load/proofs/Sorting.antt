@@ -63,7 +63,7 @@ unfolding keptFrom
 kept-none zero k = refl
 kept-none (suc n) k = kept-none n (suc k)
 
-pub kept-few : (n k : ℕ) (ks : List ℕ) → length (keptFrom n k ks) ≤ length ks
+kept-few : (n k : ℕ) (ks : List ℕ) → length (keptFrom n k ks) ≤ length ks
 kept-few n k [] = omega (arith, ap length (kept-none n k))
 kept-few n k (t ∷ ks) = omega (arith, kept-more n k t ks, kept-few n k ks)
 

@@ -15,8 +15,10 @@ use Rattle.load.specs.Load.{load, lineText, loadText}
 pub record AcceptedLine (c : Call) : Type 0 where
   pub read : (before rest : List ℕ) → IsCall (lineAt (before ++ (lineText c ++ rest)) (length before)) c
   pub passes : unless (formTests c) c ≡ done c
+  -- with its newline
+  pub short : length (lineText c) ≤ 56
 
 pub record LoadAccepted (seed count : ℕ) : Type 0 where
   pub lines : Each AcceptedLine (load seed count)
-  -- a line has at most 56 bytes, its newline included
-  pub short : length (loadText seed count) ≤ 56 * count
+  -- so 3,584 bytes have room for 64 lines
+  pub room : length (loadText seed count) ≤ 56 * count

@@ -27,7 +27,7 @@ pub record Cases : Type 0 where
   pub bare : load 1 3 ≡ add 24200 ∷ pick 46195 (named []) ∷ add 50774 ∷ []
   -- drawn were 24, 24, 1 and 7
   pub repeated : load 37 1 ≡ link 54 (named (1 ∷ 7 ∷ 24 ∷ [])) ∷ []
-  -- no line is longer than this one (`short`, specs/AcceptedLines.antt)
+  -- no line is longer than this one (`short` of `AcceptedLine`)
   pub longest : load 1762 1 ≡ near 62 18055 (named (13 ∷ 24 ∷ 25 ∷ 31 ∷ 37 ∷ 38 ∷ 42 ∷ 59 ∷ [])) ∷ []
   pub longestText : length (loadText 1762 1) ≡ 56
   -- the line and its newline are written, and two bytes more stay

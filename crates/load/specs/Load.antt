@@ -36,8 +36,12 @@ drawn n s = draw (after n s)
 -- ---- fields: "a number is a draw"
 
 -- "a key 1 + a draw modulo 64"
+abbrev pub keyOf : ℕ → ℕ
+keyOf d = suc (d % 64)
+
+-- the key that the n-th draw gives
 abbrev pub keyDrawn : ℕ → ℕ → ℕ
-keyDrawn n s = suc (drawn n s % 64)
+keyDrawn n s = keyOf (drawn n s)
 
 -- so many keys, as they are drawn
 abbrev pub keysDrawn : ℕ → ℕ → List ℕ
@@ -64,21 +68,21 @@ targetsDrawn s = sorted (keysDrawn (listLength s) (next s))
 -- ---- lines
 
 -- a call, and the state that its draws leave
-pub record Drawn : Type 0 where
+pub record MadeCall : Type 0 where
   pub call : Call
   pub state : ℕ
 
 -- a call whose targets are drawn from this state on
-abbrev pub withTargets : (To → Call) → ℕ → Drawn
+abbrev pub withTargets : (To → Call) → ℕ → MadeCall
 withTargets call s = record { call = call (named (targetsDrawn s)); state = after (listLength s) (next s) }
 
--- "A draw modulo 8 picks the call in document 01's order from add." The list has a place for each remainder, so the last argument is never
--- given
+-- "A draw modulo 8 picks the call in document 01's order from add." The list has a place for each remainder, so `getD` never gives its
+-- last argument
 abbrev pub kindOf : ℕ → Kind
 kindOf n = getD (Add ∷ Map ∷ Link ∷ Unlink ∷ Sum ∷ Top ∷ Pick ∷ Near ∷ []) (n % 8) Add
 
 -- "Fields follow in line order": from the state before a line on, the first draw picks the call, so the fields begin with the second
-abbrev pub callOf : Kind → ℕ → Drawn
+abbrev pub callOf : Kind → ℕ → MadeCall
 callOf Add s = record { call = add (drawn 2 s); state = after 2 s }
 callOf Map s = withTargets (map (drawn 2 s) (drawn 3 s)) (after 3 s)
 callOf Link s = withTargets (link (keyDrawn 2 s)) (after 2 s)
@@ -89,7 +93,7 @@ callOf Pick s = withTargets (pick (drawn 2 s)) (after 2 s)
 callOf Near s = withTargets (near (keyDrawn 2 s) (drawn 3 s)) (after 3 s)
 
 -- the call that is drawn from a state on
-abbrev pub callDrawn : ℕ → Drawn
+abbrev pub callDrawn : ℕ → MadeCall
 callDrawn s = callOf (kindOf (drawn 1 s)) s
 
 -- "the count of lines is the caller's"

@@ -1,8 +1,7 @@
 // States and draws.
 use graph::affine::mul_add;
 ghost use mathlib.Core.Path.{_≡_};
-ghost use Prim.Native.Nat.{suc, _%_};
-ghost use Rattle.load.specs.Load.{next, draw};
+ghost use Rattle.load.specs.Load.{next, draw, keyOf};
 
 // The state after `state`.
 pub fn next(state: u32) -> u32
@@ -11,7 +10,7 @@ pub fn next(state: u32) -> u32
     mul_add(1664525, state, 1013904223)
 }
 
-// A number is a state's upper half.
+// The state's upper half.
 pub fn draw(state: u32) -> u32
     ensures { λ r. ⌜ r ≡ draw state ⌝ }
 {
@@ -19,7 +18,7 @@ pub fn draw(state: u32) -> u32
 }
 
 pub fn key(state: u32) -> u8
-    ensures { λ r. ⌜ r ≡ suc (draw state % 64) ⌝ }
+    ensures { λ r. ⌜ r ≡ keyOf (draw state) ⌝ }
 {
     (draw(state) % 64) as u8 + 1
 }

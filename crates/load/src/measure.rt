@@ -1,4 +1,4 @@
-// The length of a load: a caller that is short of room asks for it first and writes nothing.
+// The length of a load, known before a byte is written: 47 leaves the output as it was.
 use crate::write::put_drawn;
 ghost use mathlib.Core.Path.{_≡_};
 ghost use Prim.Native.Nat.{_≤_};
@@ -27,7 +27,7 @@ fn load_len(seed: u32, count: u32) -> usize
     sum
 }
 
-// Is there room for the lines? 3,584 bytes hold 64 lines, so nothing is measured.
+// Is there room for the lines? 3,584 bytes hold any load, so with that much room nothing is measured.
 pub fn fits(seed: u32, count: u32, room: usize) -> bool
     requires { ⌜ count ≤ 64 ⌝ }
     ensures { λ r. ⌜ r ≡ leb (length (loadText seed count)) room ⌝ }

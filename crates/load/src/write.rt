@@ -37,7 +37,7 @@ fn put_add(out: &mut [u8], at: usize, value: u32) -> usize
 }
 
 // Writes a call's line from `at` on, and returns the place after it.
-pub fn put_call(out: &mut [u8], at: usize, kind: Kind, x: u32, y: u32, to: Keys) -> usize
+fn put_call(out: &mut [u8], at: usize, kind: Kind, x: u32, y: u32, to: Keys) -> usize
     requires { ⌜ at + length (lineText (callMade kind x y (named (listed to)))) ≤ length (now out) ⌝ }
     ensures { λ r. ⌜ TextPut (now (out .entry)) at (lineText (callMade kind x y (named (listed to)))) (now (out .exit)) r ⌝ }
 {

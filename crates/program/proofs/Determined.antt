@@ -16,6 +16,7 @@ use Rattle.graph.specs.Acceptance.{Claimed, claim as claimOf}
 use Rattle.graph.specs.Valid.{Valid}
 use Rattle.graph.proofs.Validity.{Fine, claim-fine}
 use Rattle.text.specs.Text.{ascii, pasted, startsWith}
+use Rattle.text.proofs.Pasting.{take-pasted}
 use Rattle.lines.specs.Forms.{IsClaim}
 use Rattle.print.specs.Printed.{resultText}
 use Rattle.listing.specs.Listed.{listingOf}
@@ -23,11 +24,10 @@ use Rattle.host.specs.Entries.{Called, ClaimMade, claimRefused, claimServed, Cl
 use Rattle.host.proofs.Determined.{both, claim-forms, call-once, tally-free}
 use Rattle.program.specs.Lines.{lengthIn, answerText, Line, asStep, asClaim, asCall}
 use Rattle.program.specs.Transcript.{LineRun, none, next, ListingPrinted, Transcript}
-use Rattle.program.proofs.Serving.{take-pasted}
 use Rattle.program.proofs.Rooms.{result-short, listing-short}
 
 take-text : (out text : List ℕ) → take (length text) (pasted out 0 text) ≡ text
-take-text out text = let e : length text ≡ 0 + length text = omega arith in ap (λ (k : ℕ). take k (pasted out 0 text)) e ∙ take-pasted out text
+take-text out text = take-pasted out text (length text) (omega arith)
 
 -- ---- what a line leaves and prints
 

@@ -7,12 +7,11 @@ use Prim.Native.Nat.{ℕ, zero, suc, _+_, _≤_, _<_, _^_}
 use native.Mathlib.Omega.{arith}
 use lib.Dec.{leb}
 use lib.IntN.{ℤ, pos, negsuc}
-use lib.ListN.{length, take, drop}
-use lib.Seq.{take-at}
+use lib.ListN.{length, take}
 use borrow.Author.Tests.{leb-true}
 use Rattle.text.specs.Text.{ascii, pasted, startsWith}
 use Rattle.text.specs.Inner.Put.{TextPut}
-use Rattle.text.proofs.Pasting.{written-size}
+use Rattle.text.proofs.Pasting.{take-pasted, written-size}
 use Rattle.print.specs.Printed.{refusalText, resultText}
 use Rattle.print.proofs.Refusals.{refusal-fits}
 use Rattle.graph.specs.Words.{modulus}
@@ -36,11 +35,6 @@ text-refused : (n : ℕ) (z : ℤ) (text : List ℕ) (r : ℕ) → r ≡ refusal
 text-refused n (pos k) text r e ne = absurd (ne e)
 text-refused n (negsuc k) text r e ne = ap (refusalText n) e
 
--- what was written at the start of a buffer
-pub take-pasted : (s text : List ℕ) → take (0 + length text) (pasted s 0 text) ≡ text
-unfolding pasted
-take-pasted s text = let e : length text ≡ 0 + length text = omega arith in take-at text (drop (0 + length text) s) (0 + length text) e
-
 pub printed-served : (n : ℕ) (z : ℤ) (out : List ℕ) (m r : ℕ) → m ≤ length out → r ≡ refusalIn z → r ≡ 0 → AnswerPrinted n z (take m out) out m
 printed-served n z out m r h e q = record { within = h; bytes = text-served n z (take m out) (sym q ∙ e) }
 
@@ -53,7 +47,7 @@ module _ (n r : ℕ) (line : n < 2 ^ 64) (refusal : r < modulus) (s : List ℕ) 
       let size : length o ≡ length s = written-size w refusal-room in
       record {
         within = omega (arith, w .place, refusal-room, size);
-        bytes = (λ i. take (w .place i) (w .bytes i)) ∙ take-pasted s (refusalText n r) ∙ text-refused n z text r e ne;
+        bytes = ap (take p) (w .bytes) ∙ take-pasted s (refusalText n r) p (w .place) ∙ text-refused n z text r e ne;
       }
 
 -- ---- a line served

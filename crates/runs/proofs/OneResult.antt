@@ -8,12 +8,12 @@ use mathlib.Core.List.{List, [], _∷_, _++_}
 use mathlib.Core.Option.{some}
 use lib.IntN.{ℤ, pos, negsuc}
 use lib.ListN.{length, take, replicate, length-replicate}
-use lib.Seq.{take-append-seam}
 use Rattle.graph.specs.Calls.{Call}
 use Rattle.graph.specs.Nodes.{Result}
 use Rattle.graph.specs.OneAtATime.{oneAtATime}
 use Rattle.graph.specs.Counts.{resultOfLabel}
 use Rattle.text.specs.Text.{pasted}
+use Rattle.text.proofs.Pasting.{take-pasted}
 use Rattle.lines.specs.Forms.{claimText}
 use Rattle.lines.proofs.Claims.{claim-unique}
 use Rattle.print.specs.Printed.{resultText}
@@ -28,8 +28,7 @@ use Rattle.runs.proofs.SameEnd.{texts-same}
 
 -- what was written is read back
 written : (out text : List ℕ) → take (length text) (pasted out 0 text) ≡ text
-unfolding pasted
-written out text = take-append-seam text _
+written out text = take-pasted out text (length text) (omega arith)
 
 abbrev size : ℤ → ℕ
 size (pos n) = n

@@ -66,6 +66,11 @@ pasted-more s at n a b h e =
     rw (r, e) (ap (λ (k : ℕ). drop (k + length b) ((take at s ++ a) ++ x)) (sym both) ∙ drop-append-add (take at s ++ a) x (length b) ∙ drop-drop (length b) (at + length a) s ∙ ap (λ (k : ℕ). drop k s) (add-assoc at (length a) (length b))) in
     rw (p, q, length-append) (append-assoc (take at s) a (b ++ drop (at + (length a + length b)) s) ∙ ap (λ (y : List ℕ). take at s ++ y) (sym (append-assoc a b (drop (at + (length a + length b)) s))))
 
+-- what was written at the start of a buffer
+pub take-pasted : (s text : List ℕ) (n : ℕ) → n ≡ 0 + length text → take n (pasted s 0 text) ≡ text
+unfolding pasted
+take-pasted s text n e = take-at text (drop (0 + length text) s) n (omega arith)
+
 -- ---- texts one after another
 
 pub written-none : (s : List ℕ) (at : ℕ) → TextPut s at [] s at

@@ -29,6 +29,7 @@ pub fn room() -> Result<(), String> {
         for count in [0, 1, 63, MOST] {
             let length = length(seed, count);
             send(&expect(length as i64, seed, count, length)?, count)?;
+            expect(length as i64, seed, count, LOAD_BYTES - 1)?;
             expect(length as i64, seed, count, LOAD_BYTES)?;
             if length > 0 {
                 expect(-47, seed, count, length - 1)?;
@@ -98,7 +99,7 @@ fn any_count(random: &mut Random) -> u32 {
 fn any_room(random: &mut Random, length: usize) -> usize {
     let any = random.below(LOAD_BYTES as u64) as usize;
     let short = length.saturating_sub(1);
-    random.choose(&[length, short, length + 1, 0, LOAD_BYTES, any])
+    random.choose(&[length, short, length + 1, 0, LOAD_BYTES - 1, LOAD_BYTES, any])
 }
 
 fn length(seed: u32, count: u32) -> usize {

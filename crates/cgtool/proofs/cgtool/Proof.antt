@@ -1,6 +1,7 @@
 -- The program is safe and ends, with one of its statuses.
 -- Assumes nothing.
-use mathlib.Core.Path.{sym, subst}
+use mathlib.Core.Logic.{inl, inr}
+use mathlib.Core.Path.{refl, sym, subst}
 use mir.Syntax.{w32}
 use mir.Facts.{toZ-pos}
 use Rattle.cgtool.specs.Commands.{Status}
@@ -60,11 +61,14 @@ slice-aggregate-write c = search needs
 write-requires : tie.Need-write-requires
 write-requires c κs = search needs
 
+returns : tie.Need-returns
+returns c = inr (inl refl)
+
 cast-result : tie.Need-cast-result
 cast-result c = search needs
 
-returns : tie.Need-returns
-returns c = subst Status (sym (toZ-pos w32 (search needs))) (ends-status (c .before .before .before .before .answer .ensures .ends))
+returns-2 : tie.Need-returns-2
+returns-2 c = subst Status (sym (toZ-pos w32 (search needs))) (ends-status (c .before .before .before .before .before .answer .ensures .ends))
 
 pub cgtool-spec : {M : Type 1} → statement M
 cgtool-spec =
@@ -87,5 +91,6 @@ cgtool-spec =
     answer-requires
     slice-aggregate-write
     write-requires
+    returns
     cast-result
-    returns)
+    returns-2)

@@ -16,7 +16,7 @@ use Rattle.load.specs.declared.calls.DrawnCall.{DrawnCall}
 use Rattle.load.specs.declared.write.Written.{Written}
 use Rattle.load.specs.declared.kind.Kind.{Kind}
 use Rattle.load.specs.declared.kind.Kind.the-variants.{Add, Map, Link, Unlink, Sum, Top, Pick, Near}
-use Rattle.load.specs.Load.{next, after, keysDrawn, listLength, targetsDrawn, Drawn, withTargets, callDrawn, lineText, loadText}
+use Rattle.load.specs.Load.{next, after, keysDrawn, listLength, targetsDrawn, MadeCall, withTargets, callDrawn, lineText, loadText}
 use Rattle.load.specs.Entry.{loadTests, loaded}
 
 -- so many keys as they are drawn from a state on, and the state after them
@@ -40,7 +40,7 @@ callMade Top x y to = top x to
 callMade Pick x y to = pick x to
 callMade Near x y to = near x y to
 
-abbrev pub drawnByValue : DrawnCall → Drawn
+abbrev pub drawnByValue : DrawnCall → MadeCall
 drawnByValue d = record { call = callMade (d .kind) (d .x) (d .y) (named (listed (d .to))); state = d .state }
 
 -- this call, with targets drawn from a state on
@@ -58,7 +58,7 @@ abbrev pub returnedOf : Answer (List ℕ) → Returned
 returnedOf (refused n) = Refused n
 returnedOf (done lines) = Done (length lines)
 
--- the answer, and the output after it. By its number alone a refusal with 0 would be a length of 0
-pub record LoadReturned (seed count : ℕ) (out : List ℕ) (r : Returned) (after : List ℕ) : Type 0 where
-  pub answer : r ≡ returnedOf (unless (loadTests seed count (length out)) (loadText seed count))
-  pub output : after ≡ (loaded seed count out) .output
+-- the answer, and the output after it. Not by number: `returnedNumber` does not tell `Refused 0` from `Done 0`
+pub record LoadReturned (seed count : ℕ) (was : List ℕ) (r : Returned) (out : List ℕ) : Type 0 where
+  pub answer : r ≡ returnedOf (unless (loadTests seed count (length was)) (loadText seed count))
+  pub output : out ≡ (loaded seed count was) .output

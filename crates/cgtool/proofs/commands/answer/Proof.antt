@@ -36,15 +36,15 @@ returns c =
     (sym (t .before .same .ensures .0 (t .if1 .taken)))
     (c .before .before .load-asked .ensures)
 
-misused-requires : tie.Need-misused-requires
-misused-requires c κs = search needs
+wrong-arguments-requires : tie.Need-wrong-arguments-requires
+wrong-arguments-requires c κs = search needs
 
 returns-2 : tie.Need-returns-2
 unfolding ascii
 returns-2 c =
     let t = c .before in
     let st = t .before .before .before .before .before .before .before in
-    wrong-answer (asked st (st .args .verb .now)) _ (c .misused .ensures)
+    wrong-answer (asked st (st .args .verb .now)) _ (c .wrong-arguments .ensures)
     (other-verb _ (λ e. false≢true (sym (t .if1 .left) ∙ t .before .same .ensures .1 e)))
 
 pub answer-spec : {M : Type 1} → statement M
@@ -56,5 +56,5 @@ answer-spec =
     load-asked-requires
     same-length
     returns
-    misused-requires
+    wrong-arguments-requires
     returns-2)

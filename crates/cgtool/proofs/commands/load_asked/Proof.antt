@@ -11,11 +11,11 @@ use Rattle.cgtool.proofs.commands.load_asked.Tie as tie
 abbrev asked : tie.Start → Arguments
 asked c = record { given = c .args .given; verb = ascii "load"; first = c .args .first .now; second = c .args .second .now }
 
-misused-requires : tie.Need-misused-requires
-misused-requires c κs = search needs
+wrong-arguments-requires : tie.Need-wrong-arguments-requires
+wrong-arguments-requires c κs = search needs
 
 returns : tie.Need-returns
-returns c = let a = asked (c .before .before .before .before .before) in wrong-answer a _ (c .misused .ensures) (other-number a (c .before .if1 .taken))
+returns c = let a = asked (c .before .before .before .before .before) in wrong-answer a _ (c .wrong-arguments .ensures) (other-number a (c .before .if1 .taken))
 
 read-number-requires : tie.Need-read-number-requires
 read-number-requires c κs = search needs
@@ -26,13 +26,13 @@ enum-known-seed c = search needs
 enum-told : tie.Need-enum-told
 enum-told c = search needs
 
-misused-requires-2 : tie.Need-misused-requires-2
-misused-requires-2 c κs = search needs
+wrong-arguments-requires-2 : tie.Need-wrong-arguments-requires-2
+wrong-arguments-requires-2 c κs = search needs
 
 returns-2 : tie.Need-returns-2
 returns-2 c =
     let a = asked (c .before .before .before .before .before .before .before .before) in
-    wrong-answer a _ (c .misused2 .ensures) (no-seed a (rw (c .before .enum-told .given .1) at (c .before .before .before .read-number .ensures)))
+    wrong-answer a _ (c .wrong-arguments2 .ensures) (no-seed a (rw (c .before .enum-told .given .1) at (c .before .before .before .read-number .ensures)))
 
 read-number-requires-2 : tie.Need-read-number-requires-2
 read-number-requires-2 c κs = search needs
@@ -43,13 +43,13 @@ enum-known-count c = search needs
 enum-told-2 : tie.Need-enum-told-2
 enum-told-2 c = search needs
 
-misused-requires-3 : tie.Need-misused-requires-3
-misused-requires-3 c κs = search needs
+wrong-arguments-requires-3 : tie.Need-wrong-arguments-requires-3
+wrong-arguments-requires-3 c κs = search needs
 
 returns-3 : tie.Need-returns-3
 returns-3 c =
     let a = asked (c .before .before .before .before .before .before .before .before .before .before .before .before) in
-    wrong-answer a _ (c .misused3 .ensures) (no-count a (rw (c .before .enum-told2 .given .1) at (c .before .before .before .read-number2 .ensures)))
+    wrong-answer a _ (c .wrong-arguments3 .ensures) (no-count a (rw (c .before .enum-told2 .given .1) at (c .before .before .before .read-number2 .ensures)))
 
 load-said-requires : tie.Need-load-said-requires
 load-said-requires c κs = search needs
@@ -70,17 +70,17 @@ pub load-asked-spec : {M : Type 1} → statement M
 load-asked-spec =
     tie.close
     (tie.spec
-    misused-requires
+    wrong-arguments-requires
     returns
     read-number-requires
     enum-known-seed
     enum-told
-    misused-requires-2
+    wrong-arguments-requires-2
     returns-2
     read-number-requires-2
     enum-known-count
     enum-told-2
-    misused-requires-3
+    wrong-arguments-requires-3
     returns-3
     load-said-requires
     same-length

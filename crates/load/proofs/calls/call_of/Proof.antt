@@ -1,13 +1,13 @@
 -- Each kind's fields, in the order of its line.
 -- Assumes nothing.
 use mathlib.Core.Path.{_≡_, refl, sym, ap, _∙_}
-use Prim.Native.Nat.{ℕ, suc, _%_}
+use Prim.Native.Nat.{ℕ}
 use Rattle.graph.specs.Packed.{listed}
 use Rattle.graph.specs.Targets.{named}
 use Rattle.load.specs.declared.calls.DrawnCall.{DrawnCall}
 use Rattle.load.specs.declared.kind.Kind.{Kind}
 use Rattle.load.specs.declared.kind.Kind.the-variants.{Add, Map, Link, Unlink, Sum, Top, Pick, Near}
-use Rattle.load.specs.Load.{next, draw, after, withTargets, callOf}
+use Rattle.load.specs.Load.{next, draw, keyOf, after, withTargets, callOf}
 use Rattle.load.specs.Inner.Values.{callMade, CallWith, drawnByValue}
 use borrow.Author.Needs.{needs}
 use Rattle.load.proofs.calls.call_of.Statement.{statement}
@@ -16,9 +16,6 @@ use Rattle.load.proofs.calls.call_of.Tie as tie
 -- a call with targets: its kind, its numbers and its state by what they are
 arm : (r : DrawnCall) {kind k : Kind} {x y s x′ y′ s′ : ℕ} → kind ≡ k → CallWith kind x y s r → x ≡ x′ → y ≡ y′ → s ≡ s′ → drawnByValue r ≡ withTargets (callMade k x′ y′) s′
 arm r e h p q t = h ∙ λ i. withTargets (callMade (e i) (p i) (q i)) (t i)
-
-abbrev drawnKey : ℕ → ℕ
-drawnKey s = suc (draw s % 64)
 
 module _ (c : tie.After-next3) where
   second : c .before .next2 .result ≡ after 2 (c .before .before .before .args .state)
@@ -141,13 +138,13 @@ returns-3 : tie.Need-returns-3
 returns-3 c =
     let n = c .before .before .before .before .before in
     let told : n .before .before .before .args .kind ≡ Link = c .before .before .before .enum-told3 .given .1 in
-    arm (c .with-targets2 .result) told (c .with-targets2 .ensures) (c .before .wide .ensures ∙ c .before .before .key .ensures ∙ ap drawnKey (second n)) refl (second n) ∙ ap (λ (k : Kind). callOf k (n .before .before .before .args .state)) (sym told)
+    arm (c .with-targets2 .result) told (c .with-targets2 .ensures) (c .before .wide .ensures ∙ c .before .before .key .ensures ∙ ap (λ (s : ℕ). keyOf (draw s)) (second n)) refl (second n) ∙ ap (λ (k : Kind). callOf k (n .before .before .before .args .state)) (sym told)
 
 returns-4 : tie.Need-returns-4
 returns-4 c =
     let n = c .before .before .before .before .before in
     let told : n .before .before .before .args .kind ≡ Unlink = c .before .before .before .enum-told4 .given .1 in
-    arm (c .with-targets3 .result) told (c .with-targets3 .ensures) (c .before .wide2 .ensures ∙ c .before .before .key2 .ensures ∙ ap drawnKey (second n)) refl (second n) ∙ ap (λ (k : Kind). callOf k (n .before .before .before .args .state)) (sym told)
+    arm (c .with-targets3 .result) told (c .with-targets3 .ensures) (c .before .wide2 .ensures ∙ c .before .before .key2 .ensures ∙ ap (λ (s : ℕ). keyOf (draw s)) (second n)) refl (second n) ∙ ap (λ (k : Kind). callOf k (n .before .before .before .args .state)) (sym told)
 
 returns-5 : tie.Need-returns-5
 returns-5 c =
@@ -171,7 +168,7 @@ returns-8 : tie.Need-returns-8
 returns-8 c =
     let n = c .before .before .before .before .before .before in
     let told : n .before .before .before .args .kind ≡ Near = c .before .before .before .before .enum-told8 .given .1 in
-    arm (c .with-targets7 .result) told (c .with-targets7 .ensures) (c .before .before .wide3 .ensures ∙ c .before .before .before .key3 .ensures ∙ ap drawnKey (second n)) (c .before .draw7 .ensures ∙ ap draw (third n)) (third n) ∙ ap (λ (k : Kind). callOf k (n .before .before .before .args .state)) (sym told)
+    arm (c .with-targets7 .result) told (c .with-targets7 .ensures) (c .before .before .wide3 .ensures ∙ c .before .before .before .key3 .ensures ∙ ap (λ (s : ℕ). keyOf (draw s)) (second n)) (c .before .draw7 .ensures ∙ ap draw (third n)) (third n) ∙ ap (λ (k : Kind). callOf k (n .before .before .before .args .state)) (sym told)
 
 pub call-of-spec : {M : Type 1} → statement M
 call-of-spec =

@@ -1,14 +1,14 @@
 -- The loop's invariant: so many keys are drawn, and the state is the one after them.
 -- Assumes nothing.
 use mathlib.Core.Path.{_≡_, refl, sym, ap, _∙_}
-use Prim.Native.Nat.{ℕ, suc, _≤_, _<_, _-_, _%_}
+use Prim.Native.Nat.{ℕ, suc, _≤_, _<_, _-_}
 use native.Mathlib.Numerals.{add-one}
 use native.Mathlib.Omega.{arith}
 use lib.ListN.{length}
 use borrow.Author.Needs.{needs}
 use Rattle.graph.specs.Packed.{packed}
 use Rattle.graph.proofs.KeyLaws.{normal, linked-next}
-use Rattle.load.specs.Load.{next, draw, after, keysDrawn}
+use Rattle.load.specs.Load.{next, draw, keyOf, after, keysDrawn}
 use Rattle.load.proofs.Drawing.{after-next, keys-next, keys-length}
 use Rattle.load.proofs.targets.keys_drawn.Statement.{statement}
 use Rattle.load.proofs.targets.keys_drawn.Tie as tie
@@ -46,7 +46,7 @@ loop-again c =
     let a = l .before .before .args in
     let s : c .before .before .next .result ≡ after (suc (l .loop .i)) (a .state) =
     c .before .before .next .ensures ∙ ap next (l .loop .inv .2) ∙ sym (after-next (l .loop .i) (a .state)) in
-    let k = c .before .key .ensures ∙ ap (λ (x : ℕ). suc (draw x % 64)) s in
+    let k = c .before .key .ensures ∙ ap (λ (x : ℕ). keyOf (draw x)) s in
     let few : length (keysDrawn (l .loop .i) (a .state)) < 8 = omega (arith, keys-length (l .loop .i) (a .state), l .before .before .pre) in
     rw add-one (
       omega arith,

@@ -10,13 +10,13 @@ use Rattle.graph.specs.Packed.{listed}
 use Rattle.graph.specs.Targets.{named}
 use Rattle.text.specs.Inner.Put.{TextPut}
 use Rattle.load.specs.declared.calls.DrawnCall.{DrawnCall}
-use Rattle.load.specs.Load.{Drawn, callDrawn, lineText}
+use Rattle.load.specs.Load.{MadeCall, callDrawn, lineText}
 use Rattle.load.specs.Inner.Values.{callMade, drawnByValue}
 use Rattle.load.proofs.write.put_drawn.Statement.{statement}
 use Rattle.load.proofs.write.put_drawn.Tie as tie
 
 same-line : (d : DrawnCall) (s : ℕ) → drawnByValue d ≡ callDrawn s → lineText (callMade (d .kind) (d .x) (d .y) (named (listed (d .to)))) ≡ lineText ((callDrawn s) .call)
-same-line d s e = ap (λ (c : Drawn). lineText (c .call)) e
+same-line d s e = ap (λ (c : MadeCall). lineText (c .call)) e
 
 call-drawn-requires : tie.Need-call-drawn-requires
 call-drawn-requires c κs = search needs
@@ -37,7 +37,7 @@ returns c =
     let p = c .before .before .put-call in
     record {
       line = subst (λ (l : List ℕ). TextPut (a .out .now) (a .at) l (p .last .0) (p .result)) (same-line (d .result) (a .state) (d .ensures)) (p .ensures);
-      ends = ap (λ (x : Drawn). x .state) (d .ensures);
+      ends = ap (λ (x : MadeCall). x .state) (d .ensures);
     }
 
 pub put-drawn-spec : {M : Type 1} → statement M
