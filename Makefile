@@ -27,7 +27,7 @@ fmt:
 lib: build/libcg.a build/libcg.so build/cg.pc
 
 # The crates whose exported functions the libraries have.
-exporting := host load
+exporting := host load page
 
 # Proves a crate and all below it, unless nothing of it changed.
 target/staticlib/lib%.a: $(sources)

@@ -9,6 +9,8 @@
   for a step that is served, of which nothing is printed;
 - a table under <!-- names -->: the file in crates/ and the names that it defines;
 - the table of draws: each state follows from the one before it, the first from 0;
+- the blocks `nodes` and `page`, the table under <!-- fields --> and what section 9 says of the rest of a page: what is read, and
+  as what, by a reader in Python and, with LIBRARY, by `cg_page_nodes`;
 - each program in C: it compiles, and with LIBRARY (build/libcg.a) prints the block that follows it;
 - docs/steps/*.svg: they are what docs/steps.py draws, and the model agrees with PROGRAM before and after each step.
 
@@ -46,18 +48,20 @@ def blocks():
         if kind == "lines":
             tell(next_kind == "printed" and run(body.splitlines()) == printed, f"the lines\n{body}")
         elif kind == "c":
-            tell(c_prints(body) in (None, printed), "the program in C")
+            tell(c_prints(body) in (None, [printed]), "the program in C")
 
 
-def c_prints(source):
-    """What it prints; None where there is no library to link."""
+def c_prints(source, inputs=("",)):
+    """What it prints for each input; None where there is no library to link."""
     with tempfile.TemporaryDirectory() as folder:
         flags = ["-std=c99", "-Wall", "-Wextra", "-Wpedantic", "-Werror", f"-I{ROOT}/include"]
         pathlib.Path(folder, "page.c").write_text(source)
         end = [*library, "-o", f"{folder}/page"] if library else ["-fsyntax-only"]
         if subprocess.run(["gcc", *flags, f"{folder}/page.c", *end]).returncode:
-            return "it does not compile"
-        return subprocess.run([f"{folder}/page"], stdout=subprocess.PIPE).stdout.decode() if library else None
+            return ["it does not compile"]
+        if not library:
+            return None
+        return [subprocess.run([f"{folder}/page"], input=given.encode(), stdout=subprocess.PIPE).stdout.decode() for given in inputs]
 
 
 def tables(word):
@@ -95,6 +99,82 @@ def draws():
         tell(printed == [state, state // 65536], f"the draw {row}")
 
 
+READER = """
+#include <stdio.h>
+#include "cg.h"
+
+static uint8_t page[2 * CG_PAGE_BYTES], out[CG_NODES_BYTES];
+
+int main(void) {
+    const int64_t answer = cg_page_nodes(page, fread(page, 1, sizeof page, stdin), out, sizeof out);
+    if (answer < 0) {
+        printf("refused=%d\\n", (int)-answer);
+    } else {
+        fwrite(out, 1, (size_t)answer, stdout);
+    }
+    return 0;
+}
+"""
+
+
+def paper(nodes):
+    """The page of nodes, each its key, value and links as texts."""
+    return f"nodes{len(nodes):>32}\n" + "".join(f"{key:>2} {value:>10} {links:<23}\n" for key, value, links in nodes)
+
+
+def read_back(page):
+    """Cut by its columns, a page must be the page of what was cut out, and this within the limits."""
+    nodes = [(line[:2].strip(" "), line[3:13].strip(" "), line[14:37].strip(" ")) for line in page.split("\n")[1:-1]]
+    keys, values, links = [[node[i] for node in nodes] for i in range(3)]
+    links = [text.split(",") if text else [] for text in links]
+    right = page == paper(nodes) and len(set(keys)) == len(keys) and all(len(of_one) <= 8 for of_one in links)
+    if right and within(keys + sum(links, []), range(1, 65)) and within(values, range(2**32)):
+        return "".join(f"key={key} value={value} links={of_one}\n" for key, value, of_one in nodes)
+    return "refused=35\n"
+
+
+def within(numbers, limits):
+    return all(re.fullmatch("0|[1-9][0-9]*", number) and int(number) in limits for number in numbers)
+
+
+def field_pages():
+    """A page for each text in the table of fields, with whether the table says that it is read; links may be blank."""
+    for place, (_, cells) in enumerate(tables("fields")):
+        for read, texts in zip((True, False), cells[1:]):
+            for text in texts + [""] * (read == (place == 3)):
+                if place == 0:
+                    lines = int(text) if text.isdigit() else 1
+                    yield read, f"nodes{text:>32}\n" + paper([(key, 0, "") for key in range(1, lines + 1)])[38:]
+                else:
+                    yield read, paper([["1", "0", ""][: place - 1] + [text] + ["1", "0", ""][place:]])
+
+
+def other_pages(page):
+    """Pages for what is said of the rest, made of the one on the page."""
+    head, *lines = page.splitlines(True)
+    yield from ((True, text) for text in (page, "".join([head, *lines[::-1]]), paper([])))
+    changes = [("3\n", "2\n"), ("3\n", "4\n"), ("\n 1", "\n 2"), (" 3\n", "3 \n"), ("\n 2 ", "\n2  "), (" 51 ", "51  "), (" 3,3 ", "  3,3")]
+    changes += [("51 ", "51\t"), (" \n", "\0\n"), ("12 ", "12\0"), ("\n", "\r"), ("\n", "\r\n")]
+    changes += [("nodes", "NODES"), ("nodes", "nokes"), ("nodes ", " nodes")]
+    for old, new in changes:
+        assert old in page
+        yield False, page.replace(old, new, 1)
+    yield from ((False, text) for text in (page[:-1], page + "\n", page + " " * 37 + "\n", ""))
+
+
+def pages():
+    nodes, tens, ones, page = re.search(r"^```nodes\n(.*?)^```$.*?^```page\n(.*?\n)(.*?\n)(.*?)^```$", PAGE, re.M | re.S).groups()
+    counted = [f"{i:2}" for i in range(1, 38)]
+    tell([tens, ones] == ["".join(number[i] for number in counted) + "\n" for i in range(2)], "the columns counted")
+    tell(page == paper(re.findall(r"^key=(.*) value=(.*) links=(.*)$", nodes, re.M)) and read_back(page) == nodes, "the page of the nodes")
+    cases = [*field_pages(), *other_pages(page)]
+    expected = [read_back(text) for _, text in cases]
+    printed = c_prints(READER, [text for _, text in cases]) or expected
+    tell(len(printed) == len(cases), "the reader in C")
+    for (read, text), right, got in zip(cases, expected, printed):
+        tell(read == (right != "refused=35\n") and got == right, f"read {read}, in Python {right!r}, in C {got!r}:\n{text}")
+
+
 def probes(session):
     yield from ["step=admit", "step=drain"]
     for key in range(1, len(session.stations) + 2):
@@ -124,6 +204,7 @@ blocks()
 rows()
 names()
 draws()
+pages()
 pictures()
 print(f"{counts[True]} passed, {counts[False]} failed")
 sys.exit(1 if counts[False] else 0)

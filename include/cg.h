@@ -17,6 +17,8 @@ extern "C" {
 #define CG_IMAGE_BYTES 4112   /* the length of every image */
 #define CG_RESULT_BYTES 58    /* room for any result line, with its newline */
 #define CG_LISTING_BYTES 7189 /* room for any listing, with its newlines */
+#define CG_PAGE_BYTES 2470    /* room for any page, with its newlines */
+#define CG_NODES_BYTES 3456   /* room for what any page is read back as, with its newlines */
 #define CG_LOAD_BYTES 3584    /* room for any load, with its newlines */
 
 enum {
@@ -35,6 +37,8 @@ enum {
     CG_STILL_PENDING = 31, /* no result yet */
     CG_CLAIMED = 32,       /* the result was claimed before */
     CG_NO_ROOM = 33,       /* an output shorter than the result line or the listing */
+    CG_PAGE_ROOM = 34,     /* an output shorter than the page, or than the lines of its nodes */
+    CG_BAD_PAGE = 35,      /* no page: another count, a key twice, or a field outside its limits or columns */
     CG_NO_INVERSE = 40,    /* an unmap of an even a; tested after 12 and before 13, 14 and 15 */
     CG_LOAD_COUNT = 46,    /* a load of more than 64 lines */
     CG_LOAD_ROOM = 47      /* an output shorter than the lines of the load */
@@ -71,6 +75,22 @@ int64_t cg_claim(uint8_t *image, size_t image_len, const uint8_t *frame, size_t 
 /* Writes the listing: a head, the nodes from the front on, the unclaimed results by label.
  * Gives the length written, with the newlines; the bytes of out after it stay, and so does the image. */
 int64_t cg_list(const uint8_t *image, size_t image_len, uint8_t *out, size_t out_len);
+
+/* Writes the page of the graph, calls pending or not: a head line, then a line for each node from the front
+ * on. Each line has 37 columns and a newline, 38 bytes in all. The head has "nodes" at the left and how many
+ * there are at the right. A node's line has the key in columns 1 to 2 and the value in 4 to 13, both set
+ * right, and in 15 to 37 the links joined by commas, set left; all else is blank.
+ * Refuses an out that is shorter than these lines with 34, after 1 and 2.
+ * Gives the length written, with the newlines; the bytes of out after it stay, and so does the image. */
+int64_t cg_page(const uint8_t *image, size_t image_len, uint8_t *out, size_t out_len);
+
+/* Reads a page back: writes the lines that cg_list has for the same nodes, such as "key=1 value=39 links=3".
+ * A page is read, in whatever order its keys are, if no key is there twice, the count is that of the lines
+ * after the head, and every field keeps the limits of a session and stands as cg_page writes it. Refuses any
+ * other page with 35, then with 34 an out that is shorter than the lines. No image is lent.
+ * Gives the length written, with the newlines, so 0 for a page of no nodes; the bytes of out after it stay,
+ * and so does the page. */
+int64_t cg_page_nodes(const uint8_t *page, size_t page_len, uint8_t *out, size_t out_len);
 
 /* Writes a load: so many call lines, drawn from the seed. The same seed and count give the same lines on
  * every computer. Refuses a count above 64 with 46, then an out that is shorter than the lines with 47.

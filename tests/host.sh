@@ -1,6 +1,7 @@
 #!/bin/sh
 # Tests what a studio links: the libraries, the header, the example hosts (examples/host.c and the one in
-# README.md), the installation; and builds cgtool and the driver. The last line is 'N passed, M failed'.
+# README.md), a host that prints a page, the installation; and builds cgtool and the driver. The last line is
+# 'N passed, M failed'.
 
 cd "$(dirname "$0")/.." || exit 1
 work=$(mktemp -d) || exit 1
@@ -26,7 +27,7 @@ try() {
 
 exports() {
     nm -D --defined-only build/libcg.so | awk '{ print $3 }' | sort >"$work/exports"
-    printf 'cg_%s\n' call claim list load open step | cmp - "$work/exports"
+    printf 'cg_%s\n' call claim list load open page page_nodes step | cmp - "$work/exports"
 }
 
 # In the objects that libcg.a is made of, all other functions are local.
@@ -57,9 +58,40 @@ readme() {
         "$work/readme" >"$work/printed" && diff "$work/readme.out" "$work/printed"
 }
 
+# A host that prints a page and what it is read back as, and finds both refusals.
+cat >"$work/page.c" <<'END'
+#include <stdio.h>
+#include "cg.h"
+
+int main(void) {
+    static uint8_t image[CG_IMAGE_BYTES], page[CG_PAGE_BYTES], nodes[CG_NODES_BYTES];
+    static const uint8_t frame[] = "call=add value=5\ncall=link key=64 to=1\nstep=drain\n";
+    static cg_tally tally;
+    int64_t length, read;
+
+    cg_open(image, sizeof image);
+    cg_call(image, sizeof image, frame, sizeof frame - 1, 0);
+    cg_call(image, sizeof image, frame, sizeof frame - 1, 17);
+    cg_step(image, sizeof image, frame, sizeof frame - 1, 39, &tally);
+    length = cg_page(image, sizeof image, page, sizeof page);
+    read = cg_page_nodes(page, (size_t)length, nodes, sizeof nodes);
+    printf("%.*s%.*s", (int)length, (const char *)page, (int)read, (const char *)nodes);
+    return cg_page(image, sizeof image, page, (size_t)length - 1) != -CG_PAGE_ROOM ||
+           cg_page_nodes(page, (size_t)length, nodes, (size_t)read - 1) != -CG_PAGE_ROOM ||
+           cg_page_nodes(page, (size_t)length - 1, nodes, 0) != -CG_BAD_PAGE;
+}
+END
+printf 'nodes%32d\n%2d %10d %-23s\n%s\n' 1 1 5 64 'key=1 value=5 links=64' >"$work/page.out"
+
+# page COMPILER..: compiles it and runs it under valgrind.
+page() {
+    "$@" $warnings "$work/page.c" -x none build/libcg.a -o "$work/page" &&
+        valgrind --quiet --error-exitcode=1 "$work/page" >"$work/printed" && diff "$work/page.out" "$work/printed"
+}
+
 try "make lib" make lib
 try "make tool" make tool
-try "libcg.so exports the six functions and nothing else" exports
+try "libcg.so exports the eight functions and nothing else" exports
 try "libcg.a has the same global functions" globals
 
 warnings="-Wall -Wextra -Wpedantic -Werror -Iinclude"
@@ -70,6 +102,8 @@ try "host.c with g++" g++ $warnings -x c++ examples/host.c -x none build/libcg.a
 try "host.c under valgrind" example valgrind --quiet --error-exitcode=1 --leak-check=full "$work/c"
 try "host.c with what is installed" installed
 try "the host in README.md" readme
+try "a page with gcc" page gcc -std=c99
+try "a page with g++" page g++ -x c++
 
 cd tests/driver && try "the driver's build" cargo build --release --offline --quiet &&
     try "the driver under valgrind" valgrind --quiet --error-exitcode=1 target/release/driver seed 1

@@ -2,6 +2,7 @@
 //! measures its stack. docs/PERFORMANCE.md says what the tables mean.
 
 mod load;
+mod page;
 mod scene;
 mod schedule;
 mod stack;
@@ -11,6 +12,7 @@ use std::hint::black_box;
 
 use hosts::{Host, IMAGE_BYTES, LISTING_BYTES, PRODUCT, SECOND};
 use load::{Load, LINES, SEEDS};
+use page::{Page, LINKS, NODES};
 use scene::{Image, Row, Scene};
 
 /// Every time is taken so many times, with all the others between, since the machine is slow for a while now
@@ -27,12 +29,14 @@ fn main() {
         scene::images(),
     ];
     let loads = load::loads();
+    let pages = page::pages();
     let mut copy = f64::INFINITY;
     let mut times: Vec<Vec<Times>> = scenes
         .iter()
         .map(|scene| vec![Times::NONE; scene.rows.len()])
         .collect();
     let mut load_times = vec![Times::NONE; loads.len()];
+    let mut page_times = vec![Times::NONE; pages.len()];
     for _ in 0..PASSES {
         copy = copy.min(copy_ns());
         for (scene, times) in scenes.iter().zip(&mut times) {
@@ -43,14 +47,18 @@ fn main() {
         for (load, times) in loads.iter().zip(&mut load_times) {
             times.take(|host| load.ns(host));
         }
+        for (page, times) in pages.iter().zip(&mut page_times) {
+            times.take(|host| page.ns(host));
+        }
     }
     println!("A plain copy of {IMAGE_BYTES} bytes takes {copy:.0} ns.\n");
     for (scene, times) in scenes.iter().zip(&times) {
         table(scene, times, copy);
     }
     load_table(&loads, &load_times, copy);
+    page_table(&pages, &page_times, copy);
     schedule::table();
-    stack_table(&scenes, &loads);
+    stack_table(&scenes, &loads, &pages);
 }
 
 /// Nanoseconds of one call with the copy that restores the image before it, if it is lent one.
@@ -104,6 +112,19 @@ fn load_table(loads: &[Load], times: &[Times], copy: f64) {
     println!();
 }
 
+fn page_table(pages: &[Page], times: &[Times], copy: f64) {
+    table_head(&format!(
+        "A page of {NODES} nodes with {LINKS} links each, read back"
+    ));
+    for (page, times) in pages.iter().zip(times) {
+        table_row(page.name, times.product, times.second, copy);
+        if let Some(nodes) = page.nodes() {
+            table_part("node", nodes, times.product, times.second);
+        }
+    }
+    println!();
+}
+
 fn table_head(name: &str) {
     println!("{name}\n");
     println!("| entry | ns | times a copy | second, ns | second / product |");
@@ -115,7 +136,7 @@ fn table_row(name: &str, product: f64, second: f64, copy: f64) {
     println!("| {name} | {product:.0} | {copies:.1} | {second:.0} | {factor:.1} |");
 }
 
-/// A row's time, divided by how many steps or lines it is of.
+/// A row's time, divided by how many steps, lines or nodes it is of.
 fn table_part(what: &str, count: f64, product: f64, second: f64) {
     let (product, second) = (product / count, second / count);
     println!("| .. one {what} of {count:.0} | {product:.0} | | {second:.0} | |");
@@ -129,8 +150,8 @@ fn entry_ns(host: &Host, row: &Row) -> f64 {
     })
 }
 
-/// The most that any row of an entry takes, and any load.
-fn stack_table(scenes: &[Scene], loads: &[Load]) {
+/// The most that any row of an entry takes, any load, and any page that is read back.
+fn stack_table(scenes: &[Scene], loads: &[Load], pages: &[Page]) {
     println!("\n| entry | most stack, bytes |\n|---|---:|");
     for entry in hosts::Entry::ALL {
         let rows = scenes.iter().flat_map(|scene| &scene.rows);
@@ -140,6 +161,8 @@ fn stack_table(scenes: &[Scene], loads: &[Load]) {
     }
     let most = loads.iter().map(Load::stack_bytes).max().unwrap_or(0);
     println!("| Load | {most} |");
+    let most = pages.iter().map(Page::stack_bytes).max().unwrap_or(0);
+    println!("| PageNodes | {most} |");
 }
 
 fn stack_bytes(row: &Row) -> usize {

@@ -1,7 +1,7 @@
 //! The sessions that are timed, and what is asked of each. Every image comes from lines that the product
 //! served.
 
-use hosts::{Entry, Host, Tally, IMAGE_BYTES, LISTING_BYTES, PRODUCT, RESULT_BYTES};
+use hosts::{Entry, Host, Tally, IMAGE_BYTES, LISTING_BYTES, PAGE_BYTES, PRODUCT, RESULT_BYTES};
 
 const MAP_TO_ALL: &str = "call=map a=65537 b=4294967295 to=all";
 
@@ -103,8 +103,9 @@ impl Desk {
 
     fn row(&self, name: &'static str, entry: Entry, line: &str, refusal: i64) -> Row {
         let room = match (entry, refusal) {
-            (_, 33) => 0,
+            (_, 33 | 34) => 0,
             (Entry::List, _) => LISTING_BYTES,
+            (Entry::Page, _) => PAGE_BYTES,
             _ => RESULT_BYTES,
         };
         let row = Row {
@@ -244,6 +245,8 @@ fn busy(nodes: u32, links: u32, targets: u32, stations: [u32; 3], counts: [u32; 
         desk.row("claim, 33", Entry::Claim, "claim=1", 33),
         desk.row("list", Entry::List, "", 0),
         desk.row("list, 33", Entry::List, "", 33),
+        desk.row("page", Entry::Page, "", 0),
+        desk.row("page, 34", Entry::Page, "", 34),
         step("drain", "step=drain".into(), 0),
     ]
 }

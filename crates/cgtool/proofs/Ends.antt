@@ -1,45 +1,41 @@
--- Which arguments are a command, and what the program ends with.
+-- What the program ends with, by what it was asked for.
 -- Assumes nothing.
-use Prim.Native.Nat.{ℕ, _<_}
+use Prim.Native.Nat.{ℕ}
 use mathlib.Core.Logic.{inl, inr}
 use mathlib.Core.Path.{_≡_, refl, sym, ap, subst}
-use mathlib.Core.List.{List, [], _∷_}
+use mathlib.Core.List.{List}
 use native.Mathlib.Omega.{arith}
 use lib.IntN.{pos}
 use Rattle.graph.specs.Refusals.{Answer, refused, done}
-use Rattle.graph.specs.Words.{modulus}
-use Rattle.text.specs.Text.{ascii, decimal}
-use Rattle.lines.proofs.KeyLists.{words-below, below-words}
-use Rattle.cgtool.specs.Commands.{Ended, said, Arguments, Command, load, IsCommand, commandAnswer, Ends, served, otherArguments, Status}
-use Rattle.cgtool.specs.Inner.Outputs.{Says, Answers}
-use Rattle.cgtool.specs.declared.commands.Said.{Said}
+use Rattle.cgtool.specs.Commands.{Ended, said, loadAnswer, Arguments, load, page, nodes, Ends, ofCommand, otherArguments, Status}
+use Rattle.cgtool.specs.Inner.Outputs.{Says, SaysTo, Answers, Responds}
+use Rattle.cgtool.specs.declared.commands.Asked.{Asked}
+use Rattle.cgtool.specs.declared.commands.Asked.the-variants.{Load, Page, Nodes, Wrong}
+use Rattle.cgtool.specs.declared.answers.Said.{Said}
 
 -- ---- answers
 
-pub wrong-answer : (a : Arguments) (out : List ℕ) {r : Said} → r ≡ record { length = 0; status = 2 } → ((c : Command) → IsCommand a c → ⊥) → Answers a out r
-wrong-answer a out e never = subst (Answers a out) (sym e) (record { within = omega arith; ends = otherArguments never refl })
+module _ (lent out : List ℕ) {r : Said} {k : Asked} where
+  told : {j : Asked} → k ≡ j → Answers j lent out r → Answers k lent out r
+  told e = subst (λ (i : Asked). Answers i lent out r) (sym e)
 
-pub command-answer : (a : Arguments) (c : Command) (out : List ℕ) {r : Said} → IsCommand a c → Says out r (said (commandAnswer c)) → Answers a out r
-command-answer a c out i s = record { within = s .within; ends = served c i (s .ended) }
+  pub load-answer : {seed count : ℕ} → k ≡ Load seed count → Says out r (said (loadAnswer seed count)) → Answers k lent out r
+  load-answer {seed} {count} e s =
+      told e (record { within = s .within; ends = λ a i. ofCommand (load seed count) i (loadAnswer seed count) refl (s .ended) })
 
--- ---- the arguments of a load
+  pub page-answer : k ≡ Page → SaysTo page lent out r → Answers k lent out r
+  page-answer e s = told e (record { within = s .says .within; ends = λ a i. ofCommand page i (s .answer) (s .answers) (s .says .ended) })
 
-module _ (a : Arguments) where
-  pub other-number : (a .given ≡ 4 → ⊥) → (c : Command) → IsCommand a c → ⊥
-  other-number ne (load s n) i = ne (ap (λ (b : Arguments). b .given) (i .same))
+  pub nodes-answer : k ≡ Nodes → SaysTo nodes lent out r → Answers k lent out r
+  nodes-answer e s = told e (record { within = s .says .within; ends = λ a i. ofCommand nodes i (s .answer) (s .answers) (s .says .ended) })
 
-  pub other-verb : (a .verb ≡ ascii "load" → ⊥) → (c : Command) → IsCommand a c → ⊥
-  other-verb ne (load s n) i = ne (ap (λ (b : Arguments). b .verb) (i .same))
+  pub wrong-answer : k ≡ Wrong → r ≡ record { length = 0; status = 2 } → Answers k lent out r
+  wrong-answer e q = told e (subst (Answers Wrong lent out) (sym q) (record { within = omega arith; ends = λ a never. otherArguments never refl }))
 
-  pub no-seed : ((v : ℕ) → v < modulus → a .first ≡ decimal v → ⊥) → (c : Command) → IsCommand a c → ⊥
-  no-seed never (load s n) i = never s (words-below (s ∷ n ∷ []) (i .fits) .0) (ap (λ (b : Arguments). b .first) (i .same))
+-- ---- the verb's own input
 
-  pub no-count : ((v : ℕ) → v < modulus → a .second ≡ decimal v → ⊥) → (c : Command) → IsCommand a c → ⊥
-  no-count never (load s n) i = never n (words-below (s ∷ n ∷ []) (i .fits) .1 .0) (ap (λ (b : Arguments). b .second) (i .same))
-
-pub is-load : {given s n : ℕ} {first second : List ℕ} → given ≡ 4 → s < modulus → n < modulus → first ≡ decimal s → second ≡ decimal n → IsCommand (record { given = given; verb = ascii "load"; first = first; second = second }) (load s n)
-is-load {given} {s} {n} {first} {second} g hs hn es en =
-    record { fits = below-words (s ∷ n ∷ []) (hs, (hn, tt)); same = λ i. record { given = g i; verb = ascii "load"; first = es i; second = en i } }
+pub responds : {out : List ℕ} {r : Said} {k j : Asked} → k ≡ j → Responds j out r → Responds k out r
+responds {out} {r} e = subst (λ (i : Asked). Responds i out r) (sym e)
 
 -- ---- the status
 
@@ -47,6 +43,6 @@ answer-status : (e : Ended) (x : Answer (List ℕ)) → e ≡ said x → Status 
 answer-status e (refused n) q = inr (inl (ap (λ (f : Ended). pos (f .status)) q))
 answer-status e (done text) q = inl (ap (λ (f : Ended). pos (f .status)) q)
 
-pub ends-status : {a : Arguments} {e : Ended} → Ends a e → Status (pos (e .status))
-ends-status {a} {e} (served c i q) = answer-status e (commandAnswer c) q
+pub ends-status : {a : Arguments} {lent : List ℕ} {e : Ended} → Ends a lent e → Status (pos (e .status))
+ends-status {a} {lent} {e} (ofCommand c i x t q) = answer-status e x q
 ends-status (otherArguments never q) = inr (inr (ap (λ (f : Ended). pos (f .status)) q))

@@ -7,30 +7,20 @@ use mathlib.Core.List.{List}
 use native.Mathlib.Omega.{arith}
 use borrow.Author.Tests.{ltb-false, le-ltb}
 use lib.Dec.{ltb}
-use lib.ListN.{length, take}
-use Rattle.graph.specs.Refusals.{Answer, refused, done, unless}
+use lib.ListN.{length}
+use Rattle.graph.specs.Refusals.{Answer, done, unless}
 use Rattle.text.proofs.Pasting.{length-pasted, take-pasted}
 use Rattle.panel.specs.declared.returned.Returned.{Returned}
-use Rattle.panel.specs.declared.returned.Returned.the-variants.{Done, Refused}
 use Rattle.load.specs.Load.{loadText}
 use Rattle.load.specs.Entry.{loadTests, loadAnswered}
 use Rattle.load.specs.Inner.Values.{returnedOf, LoadReturned}
 use Rattle.load.proofs.Lengths.{load-short}
-use Rattle.cgtool.specs.Commands.{load, commandAnswer}
-
--- a length within the output
-abbrev pub Within : List ℕ → Returned → Type 0
-Within out (Done n) = n ≤ length out
-Within out (Refused n) = Unit {0}
-
--- the bytes that a length counts, or the refusal
-abbrev pub answerIn : List ℕ → Returned → Answer (List ℕ)
-answerIn out (Done n) = done (take n out)
-answerIn out (Refused n) = refused n
+use Rattle.cgtool.specs.Commands.{loadAnswer}
+use Rattle.cgtool.specs.Inner.Outputs.{Within, answerIn}
 
 pub record LoadAnswer (seed count : ℕ) (out : List ℕ) (r : Returned) : Type 0 where
   pub within : Within out r
-  pub same : answerIn out r ≡ commandAnswer (load seed count)
+  pub same : answerIn out r ≡ loadAnswer seed count
 
 module _ (seed count : ℕ) (out : List ℕ) (room : 3584 ≤ length out) where
   abbrev answer : Answer (List ℕ)

@@ -41,6 +41,7 @@ fn fact(bytes: &[u8]) -> Result<(), String> {
             }
         }
         lent.expect(-2, Entry::List, &[], 0)?;
+        lent.expect(-2, Entry::Page, &[], 0)?;
         lent.expect(0, Entry::Open, &[], 0)?;
     }
     Ok(())
@@ -145,34 +146,37 @@ fn listings(bytes: &[u8], length: usize) -> Result<(), String> {
     Ok(())
 }
 
-/// To be asked last: every entry and every load was met with each of its answers and no other, and every
-/// count rose.
+/// To be asked last: every entry, every load and every page that was to be read back was met with each of its
+/// answers and no other, and every count rose.
 pub fn all_met() -> Result<(), String> {
-    let due: [(Entry, &[i64]); 5] = [
+    let due: [(Entry, &[i64]); 6] = [
         (Entry::Open, &[-1, 0]),
         (Entry::Call, &[-40, -15, -14, -13, -12, -11, -10, -2, -1, 1]),
         (Entry::Step, &[-22, -21, -20, -11, -10, -2, -1, 0]),
         (Entry::Claim, &[-33, -32, -31, -30, -10, -2, -1, 1]),
         (Entry::List, &[-33, -2, -1, 1]),
+        (Entry::Page, &[-34, -2, -1, 1]),
     ];
     let due = due
         .iter()
         .flat_map(|(entry, answers)| answers.iter().map(|answer| (*entry, *answer)));
     MET.with_borrow(|met| {
         let loads = met.loads.iter().copied().eq([-47, -46, 0, 1]);
-        if met.answers.iter().copied().eq(due) && loads && met.kinds.len() == 8 {
+        let page_nodes = met.page_nodes.iter().copied().eq([-35, -34, 0, 1]);
+        let answers = met.answers.iter().copied().eq(due);
+        if answers && loads && page_nodes && met.kinds.len() == 8 {
             Ok(())
         } else {
             Err(format!(
-                "{:?}, loads {:?}, and these counts rose: {:?}",
-                met.answers, met.loads, met.kinds
+                "{:?}, loads {:?}, page_nodes {:?}, and these counts rose: {:?}",
+                met.answers, met.loads, met.page_nodes, met.kinds
             ))
         }
     })
 }
 
-/// The session with the longest result lines and the longest listing.
-fn greatest() -> Session {
+/// The session with the longest result lines, the longest listing and the longest page.
+pub fn greatest() -> Session {
     let mut session = crowd(64, 0, 0, 0);
     for station in &mut session.stations {
         station.node.value = u32::MAX;

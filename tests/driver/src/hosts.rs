@@ -4,10 +4,13 @@
 use second::host;
 pub use second::{Tally, IMAGE_BYTES};
 
-/// As in cg.h: room for any result line, for any listing and for any load.
+/// As in cg.h: room for any result line, for any listing, for any load, for any page and for the nodes of
+/// any page.
 pub const RESULT_BYTES: usize = 58;
 pub const LISTING_BYTES: usize = 7189;
 pub const LOAD_BYTES: usize = 3584;
+pub const PAGE_BYTES: usize = 2470;
+pub const NODES_BYTES: usize = 3456;
 
 #[derive(Clone, Copy, Debug, PartialEq, Eq, PartialOrd, Ord)]
 pub enum Entry {
@@ -16,15 +19,17 @@ pub enum Entry {
     Step,
     Claim,
     List,
+    Page,
 }
 
 impl Entry {
-    pub const ALL: [Entry; 5] = [
+    pub const ALL: [Entry; 6] = [
         Entry::Open,
         Entry::Call,
         Entry::Step,
         Entry::Claim,
         Entry::List,
+        Entry::Page,
     ];
     /// Those that read a line.
     pub const READERS: [Entry; 3] = [Entry::Call, Entry::Step, Entry::Claim];
@@ -48,7 +53,9 @@ pub struct Host {
     step: fn(&mut [u8], &[u8], usize, &mut Tally) -> i64,
     claim: fn(&mut [u8], &[u8], usize, &mut [u8]) -> i64,
     list: fn(&[u8], &mut [u8]) -> i64,
+    page: fn(&[u8], &mut [u8]) -> i64,
     load: fn(u32, u32, &mut [u8]) -> i64,
+    page_nodes: fn(&[u8], &mut [u8]) -> i64,
 }
 
 pub const PRODUCT: Host = Host {
@@ -57,7 +64,9 @@ pub const PRODUCT: Host = Host {
     step: product::step,
     claim: product::claim,
     list: product::list,
+    page: product::page,
     load: product::load,
+    page_nodes: product::page_nodes,
 };
 
 pub const SECOND: Host = Host {
@@ -66,7 +75,9 @@ pub const SECOND: Host = Host {
     step: host::step,
     claim: host::claim,
     list: host::list,
+    page: host::page,
     load: host::load,
+    page_nodes: host::page_nodes,
 };
 
 impl Host {
@@ -85,12 +96,18 @@ impl Host {
             Entry::Step => (self.step)(image, frame, at, tally),
             Entry::Claim => (self.claim)(image, frame, at, out),
             Entry::List => (self.list)(image, out),
+            Entry::Page => (self.page)(image, out),
         }
     }
 
     /// Makes a load. It has no image, and so is not an Entry.
     pub fn load(&self, seed: u32, count: u32, out: &mut [u8]) -> i64 {
         (self.load)(seed, count, out)
+    }
+
+    /// Reads a page back. It has no image either.
+    pub fn page_nodes(&self, page: &[u8], out: &mut [u8]) -> i64 {
+        (self.page_nodes)(page, out)
     }
 }
 
@@ -125,7 +142,9 @@ mod product {
             out_len: usize,
         ) -> i64;
         fn cg_list(image: *const u8, image_len: usize, out: *mut u8, out_len: usize) -> i64;
+        fn cg_page(image: *const u8, image_len: usize, out: *mut u8, out_len: usize) -> i64;
         fn cg_load(seed: u32, count: u32, out: *mut u8, out_len: usize) -> i64;
+        fn cg_page_nodes(page: *const u8, page_len: usize, out: *mut u8, out_len: usize) -> i64;
     }
 
     pub fn open(image: &mut [u8]) -> i64 {
@@ -162,7 +181,15 @@ mod product {
         unsafe { cg_list(image.as_ptr(), image.len(), out.as_mut_ptr(), out.len()) }
     }
 
+    pub fn page(image: &[u8], out: &mut [u8]) -> i64 {
+        unsafe { cg_page(image.as_ptr(), image.len(), out.as_mut_ptr(), out.len()) }
+    }
+
     pub fn load(seed: u32, count: u32, out: &mut [u8]) -> i64 {
         unsafe { cg_load(seed, count, out.as_mut_ptr(), out.len()) }
+    }
+
+    pub fn page_nodes(page: &[u8], out: &mut [u8]) -> i64 {
+        unsafe { cg_page_nodes(page.as_ptr(), page.len(), out.as_mut_ptr(), out.len()) }
     }
 }

@@ -20,14 +20,16 @@ pub struct Met {
     pub kinds: BTreeSet<usize>,
     /// The answers to loads; a length above 0 stands as 1.
     pub loads: BTreeSet<i64>,
+    /// The answers to pages that were to be read back; a length above 0 stands as 1.
+    pub page_nodes: BTreeSet<i64>,
 }
 
 thread_local! {
     pub static MET: RefCell<Met> = RefCell::default();
 }
 
-/// An image, an output and a tally. They stand in one block, so that comparing blocks also compares the
-/// bytes around them.
+/// An image, or a page in its place, an output and a tally. They stand in one block, so that comparing
+/// blocks also compares the bytes around them.
 #[derive(Clone, PartialEq)]
 pub struct Lent {
     bytes: Vec<u8>,
@@ -106,6 +108,21 @@ impl Lent {
         Ok(answer)
     }
 
+    /// Has both read the page that stands in the image's place, compares in the same way, and gives the
+    /// answer.
+    pub fn page_nodes(&mut self) -> Result<i64, String> {
+        let told = self.compare(|lent, host| {
+            let (page, rest) = lent.bytes[MARGIN..].split_at_mut(lent.image_len);
+            host.page_nodes(page, &mut rest[MARGIN..][..lent.out_len])
+        });
+        let answer = told.map_err(|told| {
+            let page = self.bytes[MARGIN..][..self.image_len].escape_ascii();
+            format!("PageNodes of '{page}' with room {} {told}", self.out_len)
+        })?;
+        MET.with_borrow_mut(|met| met.page_nodes.insert(answer.min(1)));
+        Ok(answer)
+    }
+
     pub fn output(&self) -> &[u8] {
         &self.bytes[self.out()]
     }
@@ -148,7 +165,7 @@ impl Lent {
                 Some(format!("output at byte {}", place - out.start))
             }
             Some(place) if place >= image && place < image + self.image_len => {
-                Some(format!("image at byte {}", place - image))
+                Some(format!("image or page at byte {}", place - image))
             }
             Some(_) => Some(String::from("byte beside what was lent")),
             None if self.tally != other.tally => {

@@ -10,6 +10,7 @@
 mod fixed;
 mod lent;
 mod loads;
+mod pages;
 mod seeded;
 
 use std::process::ExitCode;
@@ -18,12 +19,14 @@ use std::time::{Duration, Instant, SystemTime, UNIX_EPOCH};
 type Seeded = fn(u64) -> Result<(), String>;
 
 /// The seeded checks, and how many seeds the gate gives each.
-const SEEDED: [(&str, Seeded, u64); 5] = [
+const SEEDED: [(&str, Seeded, u64); 7] = [
     ("script", seeded::script, 2000),
     ("any session", seeded::any_session, 8000),
     ("damaged image", seeded::damaged_image, 20_000),
     ("any bytes", seeded::any_bytes, 8000),
     ("load", loads::seeded, 10_000),
+    ("page", pages::seeded, 20_000),
+    ("page read", pages::seeded_read, 100_000),
 ];
 
 /// No more failures than this are told.
@@ -70,6 +73,15 @@ impl Count {
         self.check("load, room", loads::room());
         self.check("load, counts", loads::counts());
         self.check("load, nowhere", loads::nowhere());
+        self.check("page, by hand", pages::by_hand());
+        self.check("page, read", pages::read());
+        for (what, result) in pages::refused() {
+            self.check(&format!("page, {what}"), result);
+        }
+        self.check("page, lengths", pages::lengths());
+        self.check("page, single bytes", pages::single_bytes());
+        self.check("page, room", pages::room());
+        self.check("page, nowhere", pages::nowhere());
         self.seeds(0, |count| count);
         self.check("all answers and steps met", fixed::all_met());
     }

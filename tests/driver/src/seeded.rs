@@ -5,6 +5,7 @@ use second::random::{session, Random, Scribe};
 use second::{image, line_at, Session, Tally, IMAGE_BYTES};
 
 use crate::lent::Lent;
+use crate::pages;
 
 const SCRIPT_LINES: usize = 300;
 
@@ -30,11 +31,13 @@ pub fn script(seed: u64) -> Result<(), String> {
         lent.serve(entry(random, line), &frame, place)?;
         if random.once_in(40) {
             list(random, &lent)?;
+            pages::returns(random, &lent)?;
         }
         at += line.len() + 1;
     }
     lent.expect(0, Entry::Step, b"step=drain", 0)?;
-    list(random, &lent)
+    list(random, &lent)?;
+    pages::returns(random, &lent)
 }
 
 /// Lines for a session that no run need lead to, each served by the session as it was.

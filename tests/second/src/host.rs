@@ -1,12 +1,13 @@
 //! The host's functions, on lent bytes: what `cg_open` and the others answer, and
 //! what they leave.
 //!
-//! Each but `load` takes the session out of the image, serves it, and writes its image
-//! back. Every refusal comes before that writing; a load has no session.
+//! Each but `load` and `page_nodes` takes the session out of the image. Those that change
+//! it serve it and write its image back; every refusal comes before that writing.
 
 use crate::image::{image, session_of, IMAGE_BYTES};
 use crate::line::line_at;
 use crate::load::lines;
+use crate::page;
 use crate::refusal::{answer, Refusal};
 use crate::session::Session;
 use crate::Tally;
@@ -45,14 +46,26 @@ pub fn list(bytes: &[u8], out: &mut [u8]) -> i64 {
 
 /// Writes the lines of a load, by its seed: 46, then 47.
 pub fn load(seed: u32, count: u32, out: &mut [u8]) -> i64 {
-    answer(lines(seed, count).and_then(|lines| write_load(&lines, out)))
+    answer(lines(seed, count).and_then(|lines| write(&lines, out, Refusal::LoadRoom)))
 }
 
-/// Writes all of the lines or none; what stands after them stays.
-fn write_load(lines: &[u8], out: &mut [u8]) -> Result<i64, Refusal> {
-    let room = out.get_mut(..lines.len()).ok_or(Refusal::LoadRoom)?;
-    room.copy_from_slice(lines);
-    Ok(lines.len() as i64)
+/// Writes the page of the session's nodes: 1, 2, then 34.
+pub fn page(bytes: &[u8], out: &mut [u8]) -> i64 {
+    let page = session_in(bytes).map(|session| page::page(&session));
+    answer(page.and_then(|page| write(page.as_bytes(), out, Refusal::PageRoom)))
+}
+
+/// Writes the `key=` lines of a page's nodes: 35, then 34.
+pub fn page_nodes(page: &[u8], out: &mut [u8]) -> i64 {
+    let lines = page::lines(page);
+    answer(lines.and_then(|lines| write(lines.as_bytes(), out, Refusal::PageRoom)))
+}
+
+/// Writes all of the text or none, which is this refusal; what stands after it stays.
+fn write(text: &[u8], out: &mut [u8], refusal: Refusal) -> Result<i64, Refusal> {
+    let room = out.get_mut(..text.len()).ok_or(refusal)?;
+    room.copy_from_slice(text);
+    Ok(text.len() as i64)
 }
 
 fn session_in(bytes: &[u8]) -> Result<Session, Refusal> {

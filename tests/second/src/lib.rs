@@ -10,6 +10,7 @@ pub mod image;
 pub mod line;
 pub mod load;
 pub mod meaning;
+pub mod page;
 pub mod print;
 pub mod program;
 pub mod random;

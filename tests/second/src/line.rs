@@ -104,7 +104,7 @@ pub fn read_number(text: &[u8]) -> Option<u32> {
 }
 
 /// A number as a key.
-fn key(number: u32) -> Result<u8, Refusal> {
+pub fn key(number: u32) -> Result<u8, Refusal> {
     match u8::try_from(number) {
         Ok(key) if (1..=KEYS).contains(&key) => Ok(key),
         _ => Err(Refusal::KeyRange),

@@ -46,7 +46,8 @@ fn head_line(session: &Session) -> String {
     format!("nodes={nodes} results={results} pending={pending}\n")
 }
 
-fn node_line(node: &Node) -> String {
+/// A node's line, with its newline.
+pub fn node_line(node: &Node) -> String {
     let Node { key, value, links } = node;
     format!("key={key} value={value} links={}\n", keys(links))
 }
@@ -71,7 +72,8 @@ fn to_text(to: &To) -> String {
     }
 }
 
-fn keys(keys: &[u8]) -> String {
+/// Keys joined by commas.
+pub fn keys(keys: &[u8]) -> String {
     let keys: Vec<String> = keys.iter().map(u8::to_string).collect();
     keys.join(",")
 }

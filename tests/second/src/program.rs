@@ -12,10 +12,22 @@ const STEP: &[u8] = b"step=";
 const CLAIM: &[u8] = b"claim=";
 
 /// Serves every line of the input, then lists the session.
+pub fn run(input: impl Read, mut output: impl Write) -> io::Result<()> {
+    let mut server = serve_all(input, &mut output)?;
+    output.write_all(&server.listing())?;
+    output.flush()
+}
+
+/// Serves every line of the input, prints nothing, and gives the session at the end.
+pub fn session_after(input: impl Read) -> io::Result<Session> {
+    serve_all(input, &mut io::sink()).map(|server| server.session)
+}
+
+/// Serves every line of the input, and prints what is printed for them.
 ///
 /// What was written is flushed before a read may wait, so that a partner at the
 /// other end of a pipe can go line by line.
-pub fn run(input: impl Read, mut output: impl Write) -> io::Result<()> {
+fn serve_all(input: impl Read, output: &mut impl Write) -> io::Result<Server> {
     let mut input = BufReader::with_capacity(1 << 16, input);
     let mut server = Server::new();
     let mut line = Vec::new();
@@ -25,13 +37,11 @@ pub fn run(input: impl Read, mut output: impl Write) -> io::Result<()> {
         }
         line.clear();
         if input.read_until(b'\n', &mut line)? == 0 {
-            break;
+            return Ok(server);
         }
         let line = line.strip_suffix(b"\n").unwrap_or(&line);
         output.write_all(&server.serve(line))?;
     }
-    output.write_all(&server.listing())?;
-    output.flush()
 }
 
 /// All that the program prints for an input.

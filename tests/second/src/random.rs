@@ -2,7 +2,10 @@
 
 use crate::session::{Act, Operation, Session, Station, Targets, Unit, Waiting};
 
+pub mod page;
 pub mod session;
+
+pub use page::page;
 
 /// The least signed number. The greatest stands before it.
 const LEAST: u32 = 2_147_483_648;

@@ -33,6 +33,10 @@ pub enum Refusal {
     Claimed = 32,
     /// The output is too short.
     NoRoom = 33,
+    /// The output is shorter than the page, or than the lines of its nodes.
+    PageRoom = 34,
+    /// Bytes that are not a page of nodes.
+    BadPage = 35,
     /// An unmap of an even a, which no map undoes.
     NoInverse = 40,
     /// A load of more than 64 lines.

@@ -264,7 +264,8 @@ fn the_tool_prints_a_refusal() {
 fn assert_usage(output: Output) {
     assert_eq!(output.status.code(), Some(2));
     assert!(output.stdout.is_empty());
-    assert_eq!(output.stderr, b"usage: tool load SEED COUNT\n");
+    let usage = "usage: tool load SEED COUNT\n       tool page\n       tool nodes\n";
+    assert_eq!(output.stderr, usage.as_bytes());
 }
 
 #[test]

@@ -1,0 +1,10 @@
+pub mod SessionPages
+pub mod ImagePages
+pub mod ByNumber
+pub mod Answering
+pub mod PagesRead
+pub mod Scanning
+pub mod Measured
+pub mod Putting
+pub mod Cases
+pub mod ReadBack

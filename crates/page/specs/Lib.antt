@@ -1,0 +1,4 @@
+pub mod Entries
+pub mod ReadBack
+pub mod Cases
+pub mod Inner
