@@ -7,7 +7,7 @@ use state::results;
 use waiting::is_queued;
 
 // The number of a refusal; or where the result stands among the results.
-#[derive(Drop)]
+#[derive(Clone, Copy)]
 pub enum Claim {
     Refused(u32),
     At(usize),

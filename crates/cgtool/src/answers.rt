@@ -13,7 +13,7 @@ use print::lines::put_field;
 use text::put::put_bytes;
 
 // The first `length` bytes of the output are printed.
-#[derive(Drop)]
+#[derive(Clone, Copy)]
 pub struct Said {
     pub length: usize,
     pub status: u8,

@@ -6,7 +6,7 @@ use check::same;
 use text::number::{Number, read_number};
 
 // A load has a seed and a count. Wrong: the arguments are of no command.
-#[derive(Drop)]
+#[derive(Clone, Copy)]
 pub enum Asked {
     Load(u32, u32),
     Page,

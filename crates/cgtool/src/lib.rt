@@ -1,4 +1,5 @@
 // The program cgtool; main.c has C's `main`.
+#![tactic(auto)]
 pub mod answers;
 pub mod commands;
 

@@ -6,7 +6,7 @@ ghost use Rattle.graph.specs.Packed.{packed, targets_in, packed_targets};
 use crate::keys::Keys;
 
 // Where `all` holds, `mark` says that it is done at this station, and no key is listed. Elsewhere there is no mark.
-#[derive(Drop)]
+#[derive(Clone, Copy)]
 pub struct Remaining {
     pub all: bool,
     pub mark: bool,

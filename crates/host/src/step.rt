@@ -16,7 +16,7 @@ use session::drain::{Counts, drain};
 use text::cut::part_to;
 
 // What a step line comes to: a refusal; one step, whose kind has this place in the tally; or a drain, with its counts.
-#[derive(Drop)]
+#[derive(Clone, Copy)]
 pub enum LineTaken {
     Refused(u32),
     One(u8),

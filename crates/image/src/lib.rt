@@ -1,4 +1,5 @@
 // The session image in place: records read and written where they stand (docs/IMAGE.md).
+#![tactic(auto)]
 pub mod read;
 pub mod shift;
 pub mod write;

@@ -9,7 +9,7 @@ use crate::keylist::{KeyList, TargetsAnswer, TargetsRead, no_targets, store};
 
 // What is known of the bytes so far. `ok`: a list may begin so. Then `list` and `key` tell of the numbers that have a comma
 // behind them; `going`: a number has begun after the last comma, and its digits make `value`.
-#[derive(Drop)]
+#[derive(Clone, Copy)]
 pub struct ListSoFar {
     pub ok: bool,
     pub going: bool,

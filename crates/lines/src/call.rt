@@ -12,7 +12,7 @@ use graph::keys::Keys;
 use graph::remaining::Remaining;
 use text::cut::{Place, past};
 
-#[derive(Drop)]
+#[derive(Clone, Copy)]
 pub enum CallKind {
     Add,
     Map,
@@ -26,7 +26,7 @@ pub enum CallKind {
 }
 
 // The refusal, or the kind and its numbers in the line's order, the second 0 where the kind has one only.
-#[derive(Drop)]
+#[derive(Clone, Copy)]
 pub enum CallAnswer {
     Refused(u32),
     Is(CallKind, u32, u32),
@@ -34,7 +34,7 @@ pub enum CallAnswer {
 
 // A call line as it was read. The targets stand beside the answer: no covered enum holds an array. Where there are none
 // they are empty.
-#[derive(Drop)]
+#[derive(Clone, Copy)]
 pub struct CallLine {
     pub answer: CallAnswer,
     pub to: Remaining,
@@ -61,7 +61,7 @@ fn refused_call(refusal: u32) -> CallLine
 }
 
 // The kind that the word after `call=` names.
-#[derive(Drop)]
+#[derive(Clone, Copy)]
 pub enum CallWord {
     Is(CallKind),
     Not,

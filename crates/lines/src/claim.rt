@@ -4,7 +4,7 @@ ghost use Rattle.lines.specs.Inner.Answers.{ClaimRead};
 use crate::fields::{Field, number_field, too_long};
 
 // A claim line as it was read: the refusal, or the label.
-#[derive(Drop)]
+#[derive(Clone, Copy)]
 pub enum ClaimLine {
     Refused(u32),
     Label(u32),

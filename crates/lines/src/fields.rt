@@ -22,7 +22,7 @@ pub fn value_at(line: &[u8], from: usize) -> &[u8]
 }
 
 // A field's number and the place after it.
-#[derive(Drop)]
+#[derive(Clone, Copy)]
 pub enum Field {
     Is(u32, usize),
     Not,

@@ -9,7 +9,7 @@ use text::number::{Number, read_number};
 
 // What is known of the numbers so far: how many (9 for more than eight), the last, whether all are keys, and whether they
 // rise strictly.
-#[derive(Drop)]
+#[derive(Clone, Copy)]
 pub struct KeyList {
     pub count: u8,
     pub latest: u32,
@@ -18,7 +18,7 @@ pub struct KeyList {
 }
 
 // Whether bytes are targets.
-#[derive(Drop)]
+#[derive(Clone, Copy)]
 pub enum TargetsAnswer {
     Are(KeyList),
     Not,
@@ -26,7 +26,7 @@ pub enum TargetsAnswer {
 
 // The answer, whether they are all, and the keys where they are at most eight. These stand beside it: no covered enum
 // holds an array. Of all no key is listed.
-#[derive(Drop)]
+#[derive(Clone, Copy)]
 pub struct TargetsRead {
     pub answer: TargetsAnswer,
     pub all: bool,

@@ -11,7 +11,7 @@ use crate::fields::{Field, number_field, too_long, value_at};
 use crate::keylist::is_key;
 use text::cut::{Place, past};
 
-#[derive(Drop)]
+#[derive(Clone, Copy)]
 pub enum StepKind {
     Admit,
     Realise,
@@ -25,7 +25,7 @@ pub enum StepKind {
 }
 
 // A work step, and the station, unit and place in the unit that it names.
-#[derive(Drop)]
+#[derive(Clone, Copy)]
 pub enum WorkStep {
     Admit,
     Realise(u8),
@@ -38,7 +38,7 @@ pub enum WorkStep {
 }
 
 // A step line as it was read: the refusal, or a work step, or drain.
-#[derive(Drop)]
+#[derive(Clone, Copy)]
 pub enum StepLine {
     Refused(u32),
     Work(WorkStep),
@@ -62,7 +62,7 @@ pub fn tally_place(w: WorkStep) -> u8
 }
 
 // The kind that the word after `step=` names.
-#[derive(Drop)]
+#[derive(Clone, Copy)]
 pub enum StepWord {
     Is(StepKind),
     Not,

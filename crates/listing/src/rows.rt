@@ -8,7 +8,7 @@ use graph::keys::Keys;
 use state::{nodes, results};
 
 // A node's key, value and links, or a result's label, value and keys left.
-#[derive(Drop)]
+#[derive(Clone, Copy)]
 pub struct Row {
     pub node: bool,
     pub name: u32,

@@ -10,7 +10,7 @@ use graph::keys::Keys;
 
 // The call's kind, its numbers in the line's order (the second 0 where the kind has one only) and its targets; and the
 // state that its draws leave.
-#[derive(Drop)]
+#[derive(Clone, Copy)]
 pub struct DrawnCall {
     pub kind: Kind,
     pub x: u32,

@@ -1,4 +1,5 @@
 // A load that anyone can repeat: call lines drawn from a seed.
+#![tactic(auto)]
 pub mod calls;
 pub mod draws;
 pub mod entry;

@@ -8,7 +8,7 @@ use crate::draws::{draw, key, next};
 use graph::keys::Keys;
 
 // Keys, and the state that their draws leave.
-#[derive(Drop)]
+#[derive(Clone, Copy)]
 pub struct DrawnKeys {
     pub keys: Keys,
     pub state: u32,

@@ -52,7 +52,7 @@ fn put_call(out: &mut [u8], at: usize, kind: Kind, x: u32, y: u32, to: Keys) -> 
 }
 
 // The place after a line, and the state that its draws leave.
-#[derive(Drop)]
+#[derive(Clone, Copy)]
 pub struct Written {
     pub at: usize,
     pub state: u32,

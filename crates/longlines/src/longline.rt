@@ -15,7 +15,7 @@ use lines::call::{CallAnswer, CallLine, call_made, parse_call, refused_call};
 
 // What the line was read as up to its last equals sign within the first 64 bytes, as if it ended there; the list after it; and
 // the line's length so far, 256 for any from 256 on.
-#[derive(Drop)]
+#[derive(Clone, Copy)]
 pub struct LongLine {
     pub start: CallLine,
     pub list: ListSoFar,

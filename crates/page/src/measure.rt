@@ -6,7 +6,7 @@ use print::lines::node_len;
 use text::number::Number;
 
 // How many bytes the listing's lines of the nodes have, if the bytes measured are a page.
-#[derive(Drop)]
+#[derive(Clone, Copy)]
 pub enum NodesLength {
     Is(usize),
     Not,

@@ -40,7 +40,7 @@ pub fn number_right(s: &[u8], at: usize, columns: usize, least: u32, most: u32) 
 }
 
 // A link list, if the bytes are one. No covered enum holds an array, so `is` says whether.
-#[derive(Drop)]
+#[derive(Clone, Copy)]
 pub struct LinksRead {
     pub is: bool,
     pub keys: Keys,

@@ -8,7 +8,7 @@ use text::cut::{Place, past};
 use text::number::Number;
 
 // A node, if the bytes are a node's line. No covered enum holds an array, so `is` says whether.
-#[derive(Drop)]
+#[derive(Clone, Copy)]
 pub struct NodeRead {
     pub is: bool,
     pub key: u32,

@@ -3,7 +3,7 @@ ghost use Rattle.std.specs.Prelude.{◌≡◌};
 ghost use Rattle.panel.specs.Returned.{returned_number};
 
 // Served, with a label, a length or 0; or refused, with the refusal's number.
-#[derive(Drop)]
+#[derive(Clone, Copy)]
 pub enum Returned {
     Done(u32),
     Refused(u32),

@@ -4,7 +4,7 @@ ghost use Rattle.panel.specs.Tally.{raised_at, raised};
 
 // The counts stand in the order of their kinds' places, 0 to 7.
 #[repr(C)]
-#[derive(Drop)]
+#[derive(Clone, Copy)]
 pub struct Tally {
     pub admit: u32,
     pub realise: u32,

@@ -7,7 +7,7 @@ use crate::serve::serve_line;
 use text::cut::part_to;
 
 // Where the next line stands, its number, and how many bytes of the output are written.
-#[derive(Drop)]
+#[derive(Clone, Copy)]
 pub struct FramePlace {
     pub at: usize,
     pub line: u64,

@@ -6,7 +6,7 @@ ghost use Rattle.records.specs.Records.{encode_head};
 pub const VERSION: u8 = 3;
 
 // How many nodes, operations and results there are, and the last label given.
-#[derive(Drop)]
+#[derive(Clone, Copy)]
 pub struct Head {
     pub nodes: u8,
     pub ops: u8,

@@ -5,7 +5,7 @@ ghost use Rattle.records.specs.Inner.Decoded.{labels_at};
 use crate::bytes::u16_at;
 
 // A list of labels: the first `count` of `label`. In a valid image the places after them are zero.
-#[derive(Drop)]
+#[derive(Clone, Copy)]
 pub struct Labels {
     pub count: u8,
     pub label: [u16; 4],

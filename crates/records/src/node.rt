@@ -6,7 +6,7 @@ ghost use Rattle.records.specs.Records.{encode_node};
 use crate::bytes::{keys_at, u16_at, u32_at};
 use graph::keys::Keys;
 
-#[derive(Drop)]
+#[derive(Clone, Copy)]
 pub struct NodeRecord {
     pub value: u32,
     pub key: u8,

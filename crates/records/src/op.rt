@@ -7,7 +7,7 @@ use crate::bytes::{keys_at, u32_at};
 use crate::labels::{Labels, labels_at};
 use graph::keys::Keys;
 
-#[derive(Drop)]
+#[derive(Clone, Copy)]
 pub struct OpRecord {
     pub station: u8,
     pub opens: u8,

@@ -1,1 +1,2 @@
 // Demand 3 of lines and images, as definitions and theorems.
+#![tactic(auto)]

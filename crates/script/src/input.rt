@@ -8,7 +8,7 @@ use crate::serve::serve_frame;
 const LAST: u64 = 4611686018427387904;
 
 // Between two reads: the bytes kept at the start of the buffer, a part of a line.
-#[derive(Drop)]
+#[derive(Clone, Copy)]
 pub struct State {
     pub kept: usize,
     pub line: u64,

@@ -12,7 +12,7 @@ const LONG: usize = 256;
 
 // What is left of a frame: its last line, from `at` on, if that has no newline yet; the number of the next line; and
 // whether the frame ended within a line that was refused already for its length.
-#[derive(Drop)]
+#[derive(Clone, Copy)]
 pub struct Rest {
     pub at: usize,
     pub line: u64,

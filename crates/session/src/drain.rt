@@ -12,7 +12,7 @@ use headsteps::{act_at, finish_at, first_for, move_unit};
 use state::ops;
 
 // The admits, realises, moves and finishes that were taken.
-#[derive(Drop)]
+#[derive(Clone, Copy)]
 pub struct Counts {
     pub admit: u32,
     pub realise: u32,
@@ -21,7 +21,7 @@ pub struct Counts {
 }
 
 // The kind of a step that drain took.
-#[derive(Drop)]
+#[derive(Clone, Copy)]
 pub enum StepTaken {
     Admit,
     Realise,

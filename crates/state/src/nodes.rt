@@ -13,7 +13,7 @@ use image::write::{append_node, put_node};
 use records::node::NodeRecord;
 
 // A node's key, value and links.
-#[derive(Drop)]
+#[derive(Clone, Copy)]
 pub struct Body {
     pub key: u8,
     pub value: u32,

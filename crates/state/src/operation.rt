@@ -13,7 +13,7 @@ use records::labels::Labels;
 use records::op::OpRecord;
 
 // A call that visits nodes: its act, what it holds, the targets that remain, and the labels that its result is for.
-#[derive(Drop)]
+#[derive(Clone, Copy)]
 pub struct Operation {
     pub act: Act,
     pub held: u32,
@@ -22,14 +22,14 @@ pub struct Operation {
 }
 
 // An add: its label, and the value of the node that it makes.
-#[derive(Drop)]
+#[derive(Clone, Copy)]
 pub struct Added {
     pub label: u16,
     pub value: u32,
 }
 
 // The part of a record that an act and what it holds fill.
-#[derive(Drop)]
+#[derive(Clone, Copy)]
 pub struct ActFields {
     pub kind: u8,
     pub key: u8,

@@ -17,7 +17,7 @@ use records::labels::Labels;
 use records::result::ResultRecord;
 
 // A result's label, its value, and the keys that it left unstruck.
-#[derive(Drop)]
+#[derive(Clone, Copy)]
 pub struct CallResult {
     pub label: u16,
     pub value: u32,

@@ -3,6 +3,7 @@
 // a node line (the kind, the second number, the targets), with `to=all` below them where it is for all; a step as a
 // result line (the line's number, the kind's place, 8 for drain) and a head (the three numbers); a claim as a result
 // line (the line's number, the label).
+#![tactic(auto)]
 use graph::keys::Keys;
 use lines::call::{CallAnswer, CallKind, parse_call};
 use lines::claim::{ClaimLine, parse_claim};

@@ -28,7 +28,7 @@ pub fn part_to(s: &[u8], at: usize, stop: u8) -> &[u8]
 }
 
 // A place in a slice, where there is one.
-#[derive(Drop)]
+#[derive(Clone, Copy)]
 pub enum Place {
     At(usize),
     Missing,

@@ -4,7 +4,7 @@ ghost use Rattle.text.specs.Text.{decimal};
 ghost use Rattle.text.specs.Inner.Put.{TextPut};
 ghost use Rattle.text.specs.Inner.PartsRead.{DecimalOf, LengthOf};
 
-#[derive(Drop)]
+#[derive(Clone, Copy)]
 pub enum Number {
     Is(u32),
     Not,

@@ -1,4 +1,5 @@
 // Units by number, found in the image.
+#![tactic(auto)]
 ghost use Rattle.std.specs.Prelude.{◌≡◌, length};
 ghost use Rattle.flat.specs.Inner.Queues.{first_index, is_at};
 ghost use Rattle.flat.specs.Inner.Nested.{at_place};
@@ -11,7 +12,7 @@ use state::nodes::is_known;
 use state::ops;
 
 // The number of a refusal; or where a unit starts and ends, in the queue.
-#[derive(Drop)]
+#[derive(Clone, Copy)]
 pub enum Spot {
     Refused(u32),
     At(usize, usize),

@@ -1,4 +1,5 @@
 // The test of refusal 2, in place: are the bytes the image of a valid session?
+#![tactic(auto)]
 pub mod fields;
 pub mod pool;
 pub mod rows;

@@ -1,4 +1,5 @@
 // The pending labels and the waiting adds of the queue, counted and looked for.
+#![tactic(auto)]
 ghost use Rattle.std.specs.Prelude.{◌≡◌, ◌||◌, ◌≤◌, ◌<◌, length, get_or};
 ghost use Rattle.graph.specs.KeyLists.{contains};
 ghost use Rattle.flat.specs.Inner.FlatSteps.{no_op};
@@ -41,7 +42,7 @@ fn add_in(image: &[u8], i: usize) -> usize
 }
 
 // How many labels and how many adds wait in the queue.
-#[derive(Drop)]
+#[derive(Clone, Copy)]
 pub struct Waiting {
     pub labels: usize,
     pub adds: usize,
