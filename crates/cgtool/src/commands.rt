@@ -2,6 +2,7 @@
 ghost use Rattle.text.specs.Text.{ascii};
 ghost use Rattle.cgtool.specs.Inner.Outputs.{AskedFor};
 
+use check::same;
 use text::number::{Number, read_number};
 
 // A load has a seed and a count. Wrong: the arguments are of no command.
@@ -33,16 +34,16 @@ fn load_asked(given: usize, first: &[u8], second: &[u8]) -> Asked
 pub fn asked_for(given: usize, verb: &[u8], first: &[u8], second: &[u8]) -> Asked
     ensures { AskedFor (record { given = given; verb = verb.now; first = first.now; second = second.now }) result }
 {
-    if verb == b"load".as_slice() {
+    if same(verb, b"load") {
         return load_asked(given, first, second);
     }
     if given != 2 {
         return Asked::Wrong;
     }
-    if verb == b"page".as_slice() {
+    if same(verb, b"page") {
         return Asked::Page;
     }
-    if verb == b"nodes".as_slice() {
+    if same(verb, b"nodes") {
         return Asked::Nodes;
     }
     Asked::Wrong
