@@ -1,6 +1,7 @@
 // The program cgrun: serves the lines of standard input, prints refusals and claims as they occur, then the listing.
 // What it prints of a line is proved in the crate `program`; the crate `script` reads lines and writes what is printed.
 #![tactic(auto)]
+
 ghost use Rattle.std.specs.Prelude.{◌≤◌, length};
 
 use host::lent::cg_open;

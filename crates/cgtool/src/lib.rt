@@ -1,5 +1,6 @@
 // The program cgtool, but for its `main`, which the crate cgtool_main has.
 #![tactic(auto)]
+
 pub mod answers;
 pub mod commands;
 

@@ -1,5 +1,6 @@
 // The program cgtool: prints and ends as the crate cgtool says.
 #![tactic(auto)]
+
 use cgtool::cgtool;
 use std::process::ExitCode;
 

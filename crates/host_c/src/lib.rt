@@ -1,5 +1,6 @@
 // What a host in C links of the crate host: its functions by number, exported under their names with the same contracts.
 #![tactic(auto)]
+
 ghost use Rattle.host.specs.Entries.{opened, Calls, Steps, Claims, Lists};
 ghost use Rattle.std.specs.Prelude.{◌≡◌};
 ghost use Rattle.lines.specs.Forms.{line_at};

@@ -1,5 +1,6 @@
 // What a host in C links of the crate load: its functions by number, exported under their names with the same contracts.
 #![tactic(auto)]
+
 ghost use Rattle.std.specs.Prelude.{◌≡◌};
 ghost use Rattle.load.specs.Entry.{loaded};
 

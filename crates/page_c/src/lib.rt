@@ -1,5 +1,6 @@
 // What a host in C links of the crate page: its functions by number, exported under their names with the same contracts.
 #![tactic(auto)]
+
 ghost use Rattle.page.specs.Entries.{written, WritesPage, ReadsPage};
 
 // Writes the page, and gives the written length.

@@ -1,6 +1,7 @@
 // A script is served: its lines are read from standard input, and what is printed of them is written to standard output.
 // What is printed of a line is proved in the crate `program`.
 #![tactic(auto)]
+
 mod input;
 mod serve;
 

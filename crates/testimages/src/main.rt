@@ -1,6 +1,7 @@
 // The facts of refusal 2, each broken alone in an image that passes, and sessions with no history that must pass. Each line that is
 // written has a case's number and what the image is answered with.
 #![tactic(auto)]
+
 ghost use Rattle.std.specs.Prelude.{◌≡◌, length};
 
 use text::number::{decimal_len, put_decimal};

@@ -4,6 +4,7 @@
 // result line (the line's number, the kind's place, 8 for drain) and a head (the three numbers); a claim as a result
 // line (the line's number, the label).
 #![tactic(auto)]
+
 ghost use Rattle.std.specs.Prelude.{◌≤◌, length};
 
 use graph::keys::Keys;
