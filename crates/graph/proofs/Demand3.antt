@@ -30,7 +30,7 @@ use Rattle.graph.proofs.Effects.{costs}
 use Rattle.graph.proofs.Limits.{each_append}
 use Rattle.graph.proofs.Outcome.{Seen, plus, seen_path, sum, through, admitting, outcome, seen, process_seen, sum_append, process_seen_law, process_plus, outcome_accepted}
 use Rattle.graph.proofs.OutcomeKept.{Same, step_same}
-use Rattle.graph.proofs.Labels.{by_label, is, total, total_append, total_is, total_results, count_out, visit_labels, live_total_law}
+use Rattle.graph.proofs.Labels.{by_label, is, total_append, total_is, total_results, count_out, visit_labels, live_total_law}
 use Rattle.graph.proofs.Weights.{waiting_to, weight_of_call, weight_of_calls, weight_of, Lighter, step_lighter}
 use Rattle.graph.proofs.Validity.{valid_fresh, Stepped, step_valid, claim_valid, ValidClaim, Accepts, accept_valid, FormFits, Fits, Sort, adds, operates, sort}
 use Rattle.graph.proofs.Drains.{no_units, pending_resting, valid_progress, work_cons, work_append, drain_drains, drain_ends}

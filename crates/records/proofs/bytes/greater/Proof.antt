@@ -1,7 +1,7 @@
 -- `bytes::greater` meets its contract.
 -- Assumes nothing.
 use mathlib.Core.Path.{◌≡◌, refl, sym}
-use mathlib.Core.Bool.{Bool, true, false, ◌&&◌, and_false}
+use mathlib.Core.Bool.{Bool, true, false, ◌&&◌, and-false}
 use lib.Dec.{eqb}
 use borrow.Author.Tests.{eq-eqb, ne_eqb, eqb-true}
 use native.Mathlib.Omega.{arith}
@@ -11,7 +11,7 @@ use Rattle.records.proofs.bytes.greater.Tie as tie
 returns : tie.Need-returns
 returns c =
     let a = c.before.args in
-    rw (ne_eqb a.b 0 (λ e. omega arith)) (sym (and_false (eqb a.a 0)))
+    rw (ne_eqb a.b 0 (λ e. omega arith)) (sym (and-false (eqb a.a 0)))
 
 returns-2 : tie.Need-returns-2
 returns-2 c = go (eqb c.before.args.a 0) refl
