@@ -45,11 +45,13 @@ def own(top):
     return {n for n in names if n != snake(n)}
 
 
-def renamed(text, names, hyphens=True):
+def renamed(text, names, hyphens=True, steps=False):
+    """With `steps`, a name with a hyphen that follows a dot stays: there it is a step of a function's proof."""
+
     def turn(m):
         n = m.group(0)
         if n in names and (hyphens or "-" not in n):
-            if ("-" in n or n in MOVED) and m.start() and text[m.start() - 1] == "." and not re.search(r"(?:specs|proofs)[\w.]*\.$", text[:m.start()]):
+            if steps and ("-" in n or n in MOVED) and m.start() and text[m.start() - 1] == "." and not re.search(r"(?:specs|proofs)[\w.]*\.$", text[:m.start()]):
                 return n
             return names[n]
         return n
@@ -81,7 +83,7 @@ def main():
             c, rest = code(line)
             rest = renamed(rest, names, hyphens=False)
             rest = re.sub(r"`[^`]*`", lambda m: renamed(m.group(0), names), rest)
-            lines.append(renamed(c, names) + rest)
+            lines.append(renamed(c, names, steps=p.name == "Proof.antt") + rest)
         p.write_text("\n".join(lines))
     for p in sorted(TOP.glob("crates/**/*.rt")):
         lines = [renamed(line, names, hyphens=bool(GHOST.match(line))) for line in p.read_text().split("\n")]

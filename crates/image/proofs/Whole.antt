@@ -216,13 +216,13 @@ module _ (v : View) (f : Fit v) where
   head_length = refl
 
   nodes_length : length N ≡ 1024
-  nodes_length = part_length node_region encode_node node_size v.nodes f.few-nodes
+  nodes_length = part_length node_region encode_node node_size v.nodes f.few_nodes
 
   ops_length : length O ≡ 2048
-  ops_length = part_length op_region encode_op op_size v.ops f.few-ops
+  ops_length = part_length op_region encode_op op_size v.ops f.few_ops
 
   results_length : length S ≡ 1024
-  results_length = part_length result_region encode_result result_size v.results f.few-results
+  results_length = part_length result_region encode_result result_size v.results f.few_results
 
   before_ops : length (H ++ N) ≡ 1040
   before_ops = omega (arith, length-append H N, head_length, nodes_length)
@@ -248,21 +248,21 @@ module _ (v : View) (f : Fit v) where
   unfolding encode_head
   nodes_shown =
       ap (listed_in node_region) from_nodes
-      ∙ part_listed node_region encode_node node_size v.nodes f.few-nodes H (O ++ S) head_length (sym (ap (λ (l : List ℕ). get_or l 1 0) from_nodes) ∙ count_at 1 (omega arith))
+      ∙ part_listed node_region encode_node node_size v.nodes f.few_nodes H (O ++ S) head_length (sym (ap (λ (l : List ℕ). get_or l 1 0) from_nodes) ∙ count_at 1 (omega arith))
       (λ i h. node_back (get_or v.nodes i (blank node_region)) (f.nodes i h))
 
   ops_shown : listed_in op_region (image_of v) ≡ v.ops
   unfolding encode_head
   ops_shown =
       ap (listed_in op_region) from_ops
-      ∙ part_listed op_region encode_op op_size v.ops f.few-ops (H ++ N) S before_ops (sym (ap (λ (l : List ℕ). get_or l 2 0) from_ops) ∙ count_at 2 (omega arith))
+      ∙ part_listed op_region encode_op op_size v.ops f.few_ops (H ++ N) S before_ops (sym (ap (λ (l : List ℕ). get_or l 2 0) from_ops) ∙ count_at 2 (omega arith))
       (λ i h. op_back (get_or v.ops i (blank op_region)) (f.ops i h))
 
   results_shown : listed_in result_region (image_of v) ≡ v.results
   unfolding encode_head
   results_shown =
       ap (listed_in result_region) from_results
-      ∙ part_listed result_region encode_result result_size v.results f.few-results (H ++ N ++ O) [] before_results (sym (ap (λ (l : List ℕ). get_or l 3 0) from_results) ∙ count_at 3 (omega arith))
+      ∙ part_listed result_region encode_result result_size v.results f.few_results (H ++ N ++ O) [] before_results (sym (ap (λ (l : List ℕ). get_or l 3 0) from_results) ∙ count_at 3 (omega arith))
       (λ i h. result_back (get_or v.results i (blank result_region)) (f.results i h))
 
   -- the image of a view shows it
@@ -280,9 +280,9 @@ module _ (v : View) (f : Fit v) where
   image_sound =
       record {
         size = ap length from_nodes ∙ omega (arith, length-append H (N ++ (O ++ S)), length-append N (O ++ S), length-append O S, head_length, nodes_length, ops_length, results_length);
-        nodes = rw nodes_shown f.few-nodes;
-        ops = rw ops_shown f.few-ops;
-        results = rw results_shown f.few-results;
+        nodes = rw nodes_shown f.few_nodes;
+        ops = rw ops_shown f.few_ops;
+        results = rw results_shown f.few_results;
       }
 
   head_zeros : (i : ℕ) → 6 ≤ i → i < 16 → get_or H i 0 ≡ 0
@@ -301,7 +301,7 @@ module _ (v : View) (f : Fit v) where
       record {
         version = count_at 0 (omega arith);
         head = λ i a b. count_at i b ∙ head_zeros i a b;
-        nodes = rw nodes_shown (rw from_nodes (part_zeros node_region encode_node node_size v.nodes f.few-nodes H (O ++ S) head_length));
-        ops = rw ops_shown (rw from_ops (part_zeros op_region encode_op op_size v.ops f.few-ops (H ++ N) S before_ops));
-        results = rw results_shown (rw from_results (part_zeros result_region encode_result result_size v.results f.few-results (H ++ N ++ O) [] before_results));
+        nodes = rw nodes_shown (rw from_nodes (part_zeros node_region encode_node node_size v.nodes f.few_nodes H (O ++ S) head_length));
+        ops = rw ops_shown (rw from_ops (part_zeros op_region encode_op op_size v.ops f.few_ops (H ++ N) S before_ops));
+        results = rw results_shown (rw from_results (part_zeros result_region encode_result result_size v.results f.few_results (H ++ N ++ O) [] before_results));
       }

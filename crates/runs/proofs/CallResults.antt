@@ -35,16 +35,16 @@ module _ (es : List Sent) (h : Runs opening es) (before later : List Call) (c : 
 
 module _ (es : List Sent) (h : Runs opening es) (before later : List Call) (k : ℕ) (to : To) where
   pub link_result : TextsOf (accepted_lines es) (before ++ (link k to ∷ later)) → (r : Result) → ResultOf es (suc (length before)) r → LinkResult before to r
-  link_result t r g = counts.link-result before later k to (few es h before later (link k to) t) r (call_meant es h (suc (length before)) _ t r g)
+  link_result t r g = counts.link_result before later k to (few es h before later (link k to) t) r (call_meant es h (suc (length before)) _ t r g)
 
   pub unlink_result : TextsOf (accepted_lines es) (before ++ (unlink k to ∷ later)) → (r : Result) → ResultOf es (suc (length before)) r → UnlinkResult before k to r
-  unlink_result t r g = counts.unlink-result before later k to (few es h before later (unlink k to) t) r (call_meant es h (suc (length before)) _ t r g)
+  unlink_result t r g = counts.unlink_result before later k to (few es h before later (unlink k to) t) r (call_meant es h (suc (length before)) _ t r g)
 
 module _ (es : List Sent) (h : Runs opening es) (before later : List Call) (start : ℕ) (to : To) where
   pub top_result : TextsOf (accepted_lines es) (before ++ (top start to ∷ later)) → (r : Result) → ResultOf es (suc (length before)) r → TopResult before start to r
-  top_result t r g = tops.top-result before later start to r (call_meant es h (suc (length before)) _ t r g)
+  top_result t r g = tops.top_result before later start to r (call_meant es h (suc (length before)) _ t r g)
 
 -- an all-call of any kind: what it does is a, and it holds v at first
 module _ (es : List Sent) (h : Runs opening es) (before later : List Call) (c : Call) (a : Act) (v : ℕ) (is : (l : ℕ) → labelled c l ≡ operation a v whole l) where
   pub whole_result : TextsOf (accepted_lines es) (before ++ (c ∷ later)) → (r : Result) → ResultOf es (suc (length before)) r → WholeResult before a v r
-  whole_result t r g = scene.whole-result a v before later c is r (call_meant es h (suc (length before)) _ t r g)
+  whole_result t r g = scene.whole_result a v before later c is r (call_meant es h (suc (length before)) _ t r g)

@@ -167,7 +167,7 @@ module _ (es : List Sent) (h : Runs opening es) where
   tallied o = to.tally zeros o ∙ counted_kinds zeros to.steps refl
 
   small : quoted_steps to.steps ≤ 8454015
-  small = omega (arith, bounded, sessions.quoted-most to.calls, d.labels, v.labels)
+  small = omega (arith, bounded, sessions.quoted_most to.calls, d.labels, v.labels)
 
   one_by_one_law : StepLines (encode (drain s).end) (after opening es) (drain s).took
   one_by_one_law =

@@ -32,7 +32,7 @@ use Rattle.calls.proofs.Accepted.{accept_works}
 pub accepts : (f : Call) (x : Labelled) (before after : List ℕ) (r : ℕ) → first_of (form_tests f) ≡ 0 → ValidImage before → Bytes after → labelled f (suc (flat_in before).last) ≡ x → Works (flat_accept_rest x (flat_in before)) before after r → (Serves (accept f (session_of before)) before after r) × (ValidImage after)
 accepts f x before after r g l b q w =
     let s : Served (accept f (session_of before)) before after r = accept_served f before after r l b (accept_works f (flat_in before) g q w) in
-    (s.serves, s.image-valid)
+    (s.serves, s.image_valid_law)
 
 -- the call, by its kind
 pub labelled_as : (k kind : CallKind) (x y : ℕ) (to : To) → k ≡ kind → (l : ℕ) → labelled (call_form k x y to) l ≡ labelled (call_form kind x y to) l

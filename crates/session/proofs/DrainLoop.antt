@@ -82,10 +82,10 @@ pub record Goes (first image after : List ℕ) (c : Counts) (r : StepTaken) : Ty
 pub loop_next : (first image after : List ℕ) (c : Counts) (r : StepTaken) → Loop first image c → DrainsOne (flat_drain_step (flat_in image)) after r → length after ≡ length image → Bytes after → Goes first image after c r
 loop_next first image after c r h d size bytes =
     let t : Step = d.taken.what in
-    let u : Turn image after t = drain_turn image after t d.taken.to h.image-valid d.did d.shows in
+    let u : Turn image after t = drain_turn image after t d.taken.to h.image_valid_law d.did d.shows in
     let loop : Loop first after (counts_after c t) =
     record {
-      image_valid_law = u.image-valid;
+      image_valid_law = u.image_valid_law;
       size = size ∙ h.size;
       bytes = bytes;
       end = sym u.end ∙ h.end;
@@ -106,9 +106,9 @@ valid_bytes image l b =
 
 pub loop_done : (first image : List ℕ) (c : Counts) → Loop first image c → length (flat_in image).queue ≡ 0 → Drains first image c
 loop_done first image c h e =
-    let s : Rests image = drain_stops image 21 h.image-valid (none_waits image e) in
+    let s : Rests image = drain_stops image 21 h.image_valid_law (none_waits image e) in
     record {
-      image = valid_bytes image h.image-valid h.bytes ∙ ap encode (sym s.end ∙ h.end);
+      image = valid_bytes image h.image_valid_law h.bytes ∙ ap encode (sym s.end ∙ h.end);
       counts = record {
         admits = sums_done 0 c.admit first image s.took h.admits;
         realises = sums_done 1 c.realise first image s.took h.realises;

@@ -16,4 +16,4 @@ use Rattle.state.proofs.Serving.{Served, step_served_law}
 pub takes : (w v : WorkStep) → w ≡ v → (before after : List ℕ) (r : ℕ) → ValidImage before → Bytes after → Works (flat_step (step_named v) (flat_in before)) before after r → (Serves (step (step_named w) (session_of before)) before after r) × (ValidImage after)
 takes w v e before after r l b h =
     let s : Served (step (step_named v) (session_of before)) before after r = step_served_law (step_named v) before after r l b h in
-    (subst (λ (u : WorkStep). Serves (step (step_named u) (session_of before)) before after r) (sym e) s.serves, s.image-valid)
+    (subst (λ (u : WorkStep). Serves (step (step_named u) (session_of before)) before after r) (sym e) s.serves, s.image_valid_law)

@@ -434,7 +434,7 @@ record_good p b (op_of o) (h, m) = made (fields_good o.act o.held h.act h.held)
               };
           fit = λ s.
               record {
-                a = g.small-a;
+                a = g.small_a;
                 b = g.small_b;
                 targets = subst FitKeys (sym (packed_left o.targets)) (packed_fit true (left_of o.targets) r.keys);
                 labels = labels_fit o.labels (omega (arith, few, most_four f.kind)) s;
