@@ -1,5 +1,6 @@
 // The session image in place: records read and written where they stand (docs/IMAGE.md).
 #![tactic(auto)]
+
 pub mod read;
 pub mod shift;
 pub mod write;

@@ -1,5 +1,6 @@
 // A load that anyone can repeat: call lines drawn from a seed.
 #![tactic(auto)]
+
 pub mod calls;
 pub mod draws;
 pub mod entry;

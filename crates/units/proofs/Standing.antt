@@ -10,7 +10,7 @@ use lib.ListN.{length, get_or, drop}
 use lib.Seq.{get_or-drop}
 use borrow.Author.Tests.{eqb-true, ne_eqb, leb-true}
 use Rattle.graph.proofs.Answers.{and_right}
-use Rattle.flat.specs.Flat.{Tagged, Flat, flat}
+use Rattle.flat.specs.Flat.{Tagged, Flat}
 use Rattle.flat.specs.Inner.Nested.{nest, at_place}
 use Rattle.graph.specs.OneAtATime.{is_op}
 use Rattle.flat.specs.Inner.Queues.{first_index, breaks, is_at, end_of}

@@ -1,5 +1,6 @@
 // Units by number, found in the image.
 #![tactic(auto)]
+
 ghost use Rattle.std.specs.Prelude.{◌≡◌, length};
 ghost use Rattle.flat.specs.Inner.Queues.{first_index, is_at};
 ghost use Rattle.flat.specs.Inner.Nested.{at_place};

@@ -56,9 +56,9 @@ module _ (n : Node) (v : ValidNode n) where
   links_good : KeysGood false n.links
   links_good = record { few = v.few; keys = v.keys; rises = λ b. absurd (true≢false (sym b)) }
 
-  pub node_ok : (i : ℕ) → n.key ≡ i + 1 → node_ok i (node_record n) ≡ true
+  pub node_ok_law : (i : ℕ) → n.key ≡ i + 1 → node_ok i (node_record n) ≡ true
   unfolding node_ok
-  node_ok i e = rw (eq-eqb n.key (i + 1) e) (packed_ok false n.links links_good)
+  node_ok_law i e = rw (eq-eqb n.key (i + 1) e) (packed_ok false n.links links_good)
 
   pub node_back : decoded_node (node_record n) ≡ n
   node_back = λ i. record { key = n.key; value = n.value; links = listed_packed n.links i }
@@ -91,9 +91,9 @@ targets_good : (ts : List ℕ) → ValidKeys ts → KeysGood true ts
 targets_good ts v = record { few = v.few; keys = v.keys; rises = λ b. v.rise }
 
 module _ (r : Result) (v : ValidResult r) where
-  pub result_ok : (prev : ℕ) → prev < r.label → result_ok prev (result_record r) ≡ true
+  pub result_ok_law : (prev : ℕ) → prev < r.label → result_ok prev (result_record r) ≡ true
   unfolding result_ok
-  result_ok prev h = rw (lt-ltb prev r.label h) (packed_ok true r.left (targets_good r.left v.left))
+  result_ok_law prev h = rw (lt-ltb prev r.label h) (packed_ok true r.left (targets_good r.left v.left))
 
   pub result_back : decoded_result (result_record r) ≡ r
   result_back = λ i. record { label = r.label; value = r.value; left = listed_packed r.left i }

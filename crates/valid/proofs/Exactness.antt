@@ -35,7 +35,7 @@ use Rattle.valid.specs.Inner.Decoded.{decoded_node, decoded_result, tagged_of, f
 use Rattle.valid.specs.Values.{node_record, result_record, tagged_record, view_of, encode}
 use Rattle.valid.specs.Inner.Exact.{Exact}
 use Rattle.valid.specs.Inner.Tests.{walk, node_ok, op_ok, result_ok, nodes_ok, ops_ok, results_ok, adds_among, op_labels, result_labels, live_labels, given_once}
-use Rattle.valid.proofs.Decoding.{node_key, node_valid, node_there, node_ok, node_back, node_fit, result_over, result_valid, result_there, result_ok, result_back, result_fit, op_facts, op_passes, call_valid, op_there, op_labels_same, RecordGood, record_good, Small}
+use Rattle.valid.proofs.Decoding.{node_key, node_valid, node_there, node_ok_law, node_back, node_fit, result_over, result_valid, result_there, result_ok_law, result_back, result_fit, op_facts, op_passes, call_valid, op_there, op_labels_same, RecordGood, record_good, Small}
 use Rattle.valid.proofs.Counting.{Fresh, fresh_of, fresh_ok}
 use Rattle.valid.proofs.Facts.{ValidTagged, queue_named, FlatValid, flat_valid, valid_flat}
 
@@ -94,7 +94,7 @@ nodes_pass : (i : ℕ) (ns : List Node) → KeysUp (suc i) ns → Each ValidNode
 unfolding walk
 nodes_pass i [] k v = refl
 nodes_pass i (n ∷ ns) k v =
-    rw (node_ok n v.0 i (k.0 ∙ sym (add-one i))) (nodes_pass (i + 1) ns (subst (λ (m : ℕ). KeysUp (suc m) ns) (sym (add-one i)) k.1) v.1)
+    rw (node_ok_law n v.0 i (k.0 ∙ sym (add-one i))) (nodes_pass (i + 1) ns (subst (λ (m : ℕ). KeysUp (suc m) ns) (sym (add-one i)) k.1) v.1)
 
 -- RESULTS
 results_rise : (prev : ℕ) (rs : List ResultRecord) → Each FitResult rs → walk result_ok (λ p r. r.label) prev rs ≡ true → above prev (labels_of_results (map decoded_result rs)) ≡ true
@@ -105,7 +105,7 @@ results_rise prev (r ∷ rs) a e = rw (lt-ltb prev r.label (result_over prev r a
 results_pass : (prev : ℕ) (rs : List Result) → above prev (labels_of_results rs) ≡ true → Each ValidResult rs → walk result_ok (λ p r. r.label) prev (map result_record rs) ≡ true
 unfolding walk
 results_pass prev [] a v = refl
-results_pass prev (r ∷ rs) a v = rw (result_ok r v.0 prev (ltb-true prev r.label (and_left _ _ a))) (results_pass r.label rs (and_right (ltb prev r.label) _ a) v.1)
+results_pass prev (r ∷ rs) a v = rw (result_ok_law r v.0 prev (ltb-true prev r.label (and_left _ _ a))) (results_pass r.label rs (and_right (ltb prev r.label) _ a) v.1)
 
 above_of : (last : ℕ) (ls : List ℕ) → Each (Given last) ls → rising ls ≡ true → above 0 ls ≡ true
 above_of last [] g e = refl

@@ -1,5 +1,6 @@
 // The test of refusal 2, in place: are the bytes the image of a valid session?
 #![tactic(auto)]
+
 pub mod fields;
 pub mod pool;
 pub mod rows;

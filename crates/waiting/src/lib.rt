@@ -1,5 +1,6 @@
 // The pending labels and the waiting adds of the queue, counted and looked for.
 #![tactic(auto)]
+
 ghost use Rattle.std.specs.Prelude.{◌≡◌, ◌||◌, ◌≤◌, ◌<◌, length, get_or};
 ghost use Rattle.graph.specs.KeyLists.{contains};
 ghost use Rattle.flat.specs.Inner.FlatSteps.{no_op};

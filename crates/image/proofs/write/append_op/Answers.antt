@@ -1,0 +1,19 @@
+-- `write::append_op` meets its contract.
+-- Assumes nothing.
+use mathlib.Core.Path.{refl, ap, ◌∙◌}
+use lib.ListN.{length}
+use Rattle.records.proofs.Codecs.{op_size}
+use Rattle.image.specs.Inner.Regions.{op_region}
+use Rattle.image.proofs.Writers.{append_change, ops_fit, ops_written}
+use Rattle.image.proofs.write.append_op.Goals as goal
+
+pub returns : goal.returns
+returns c =
+    let e = c.put_bytes.ensures.bytes in
+    let b = c.op_bytes-bs in
+    let m = c.op_count-m in
+    let a = c.args in
+    let sound = c.requires.0 in
+    rw (e, m.ensures)
+    (ops_written a.image.now sound _ _
+    (append_change op_region a.image.now (ops_fit a.image.now sound) b.result a.o (ap length b.ensures.bytes ∙ op_size a.o) b.ensures.back c.requires.1 _ refl))

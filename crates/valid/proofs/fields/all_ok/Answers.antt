@@ -1,0 +1,16 @@
+-- `fields::all_ok` meets its contract.
+-- Assumes nothing.
+use borrow.Author.Tests.{eq-eqb, ne_eqb}
+use Rattle.valid.proofs.fields.all_ok.Goals as goal
+
+pub returns-then-all-eq0 : goal.returns-then-all-eq0
+returns-then-all-eq0 c = rw (eq-eqb _ _ c.if-all-eq0.true)
+
+pub returns-then-all-ne1 : goal.returns-then-all-ne1
+returns-then-all-ne1 c = rw (ne_eqb _ _ c.if-all-eq0.false, ne_eqb _ _ c.if-all-ne1.true)
+
+pub returns-then-kind-eq0 : goal.returns-then-kind-eq0
+returns-then-kind-eq0 c = rw (ne_eqb _ _ c.if-all-eq0.false, eq-eqb _ _ c.if-all-ne1.false, eq-eqb _ _ c.if-kind-eq0.true)
+
+pub returns : goal.returns
+returns c = rw (ne_eqb _ _ c.if-all-eq0.false, eq-eqb _ _ c.if-all-ne1.false, ne_eqb _ _ c.if-kind-eq0.false)
