@@ -1,43 +1,49 @@
 # Geyserpan: the two commands are `make run` and `make test`.
 .PHONY: run test fmt lib tool install bench soak build/cg.pc
-# rt proves one thing at a time in target/.
+# rt proves one thing at a time.
 .NOTPARALLEL:
+
+crates := $(shell sed -n 's/^\([a-z0-9_]*\)[: ].*/\1/p' crates.txt)
 
 PREFIX ?= /usr/local
 SECONDS ?= 600
 
-sources := crates.txt $(shell find crates -path '*/must-fail' -prune -o -type f -print)
+sources := crates.txt $(shell find crates \( -name must-fail -o -name out \) -prune -o -type f -print)
 
 # Proves and builds cgrun, unless nothing of it changed, and runs the example that README.md explains.
-run: target/bin/cgrun
+run: build/cgrun
 	@echo "examples/scene.txt, through cgrun:"
-	@target/bin/cgrun <examples/scene.txt
+	@build/cgrun <examples/scene.txt
 
-target/bin/cgrun: $(sources)
-	@rt check cgrun
-	@touch $@
+# A program, where `rt ci` has not left it already; rt runs what it builds.
+crates/cgrun/out/cgrun: $(sources)
+	@cd crates/cgrun && rt run </dev/null >/dev/null
+
+crates/cgtool_main/out/cgtool_main: $(sources)
+	@cd crates/cgtool_main && rt run -- load 0 0
+
+build/cgrun: crates/cgrun/out/cgrun
+	@mkdir -p build
+	@cp $< $@
 
 test:
 	@tests/gate.sh
 
 fmt:
-	@rt fmt
+	@for crate in $(crates); do (cd crates/$$crate && rt fmt) || exit 1; done
 
 # For a host in C or C++: include/cg.h and one of these.
 lib: build/libcg.a build/libcg.so build/cg.pc
 
 # The crates whose exported functions the libraries have.
-exporting := host load page
+exporting := host_c load_c page_c
 
-# Proves a crate and all below it, unless nothing of it changed.
-target/staticlib/lib%.a: $(sources)
-	@rt staticlib $*
-
-# Each crate's archive holds one object, CRATE.o.
-build/libcg.a: $(exporting:%=target/staticlib/lib%.a)
+# Proves each and all below it, unless nothing of it changed. Each crate's archive holds one object, CRATE.o.
+build/libcg.a: $(sources)
 	@rm -rf build/objects $@
 	@for crate in $(exporting); do \
-	    mkdir -p build/objects/$$crate && (cd build/objects/$$crate && ar x ../../../target/staticlib/lib$$crate.a) || exit 1; \
+	    (cd crates/$$crate && rt lib) && mkdir -p build/objects/$$crate && \
+	    (cd build/objects/$$crate && ar x ../../../crates/$$crate/out/lib$$crate.a) || exit 1; \
 	done
 	@ar rcs $@ $(exporting:%=build/objects/%/*.o)
 
@@ -50,12 +56,12 @@ build/cg.pc: include/cg.pc.in
 	@mkdir -p build
 	@sed 's|@PREFIX@|$(PREFIX)|' $< >$@
 
-# The program cgtool; the toolchain keeps the C code by which it reads its arguments beside the guide that `rt doc` names.
+# The program cgtool.
 tool: build/cgtool
 
-build/cgtool: crates/cgtool/main.c target/staticlib/libcgtool.a
+build/cgtool: crates/cgtool_main/out/cgtool_main
 	@mkdir -p build
-	@$(CC) -o $@ $^ $(dir $(shell rt doc))../lib/libos_c.a
+	@cp $< $@
 
 install: lib tool
 	install -d $(DESTDIR)$(PREFIX)/bin $(DESTDIR)$(PREFIX)/include $(DESTDIR)$(PREFIX)/lib/pkgconfig

@@ -22,15 +22,32 @@ count() {
     fi
 }
 
-count rt ci
+# rt passes over a must-fail edit that no longer fits the text: its line 'rt: ok' then ends in ', N bad'.
+proofs() {
+    local log status
+    log=$(mktemp)
+    rt ci 2>&1 | tee "$log"
+    status=${PIPESTATUS[0]}
+    if grep -Eq '^rt: ok.*, [0-9]+ bad' "$log"; then
+        echo "FAILED: a must-fail edit is bad"
+        echo "0 passed, 1 failed"
+        status=1
+    fi
+    rm -f "$log"
+    return "$status"
+}
+
+count proofs
+make build/cgrun
 count python3 tests/guide.py --check
 count python3 tests/ruled_out.py
 count python3 tests/papers.py
-count sh tests/run.sh target/bin/cgrun
-count sh tests/tool.sh target/bin/cgrun
-count bash tests/pipe.sh target/bin/cgrun tests/second/target/release/second
+count sh tests/run.sh build/cgrun
+count sh tests/tool.sh build/cgrun
+count bash tests/pipe.sh build/cgrun tests/second/target/release/second
+count python3 tests/lines.py build/cgrun tests/second/target/release/second
 count sh tests/host.sh
-count python3 docs/check_rules.py target/bin/cgrun build/libcg.a
+count python3 docs/check_rules.py build/cgrun build/libcg.a
 count cargo run --manifest-path tests/driver/Cargo.toml --release --offline --quiet
 echo "$passed passed, $failed failed"
 [ "$failed" -eq 0 ]

@@ -19,8 +19,8 @@ ROOTS = ["runs/specs/Demand.antt", "host/specs/Entries.antt", "program/specs/Tra
 STATEMENTS = ["graph/specs/Allowed.antt", "graph/specs/CallResults.antt", "graph/specs/Cases.antt", "graph/specs/EventRuns.antt", "graph/specs/RefusalOrder.antt", "graph/specs/TakenBack.antt", "graph/specs/Tasks.antt", "graph/specs/WholeScene.antt", "host/specs/Sequences.antt", "load/specs/AcceptedLines.antt", "load/specs/Cases.antt", "page/specs/Cases.antt", "page/specs/ReadBack.antt"]
 PAGE, HEADING = "docs/PROMISES.md", "## Reading guide"
 WIDTH = 160
-USE = re.compile(r"^\s*(?:pub )?use Rattle·(\w+)(?:·specs)?\.specs\.((?:\w|\.(?=\w))+)", re.M)
-OWN = re.compile(r"^\s*(?:pub )?use Rattle·.*$", re.M)
+USE = re.compile(r"^\s*(?:pub )?use Rattle\.(?!std\.|core\.)(\w+)\.specs\.((?:\w|\.(?=\w))+)", re.M)
+OWN = re.compile(r"^\s*(?:pub )?use Rattle\.(?!std\.|core\.).*$", re.M)
 
 
 def text(path):
@@ -42,7 +42,7 @@ def types_used(path, name):
     """The types that a declaration holds, with the source files that declare them."""
     crate, source = path.split("/")[0], text(path)
     for other in re.findall(r"\b[A-Z]\w*\b", "\n".join(line.split("//")[0] for line in declared(path, name)[1:])):
-        brought = re.search(rf"^use (\w+)::(\w+)::{other};", source, re.M)
+        brought = re.search(rf"^use (\w+)::(\w+)::(?:\{{[^}}]*\b)?{other}\b", source, re.M)
         if brought:
             yield f"{crate if brought[1] == 'crate' else brought[1]}/src/{brought[2]}.rt", other
         elif re.search(rf"^pub (?:struct|enum) {other} {{", source, re.M):

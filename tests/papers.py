@@ -12,7 +12,7 @@ from pathlib import Path
 TOP = Path(__file__).resolve().parent.parent
 OUTSIDE = re.compile(r"\.\./shared|/work/|\bDESIGN\b|[Dd]ocument 0(?!1\b)|[Rr]equest S-|design's")
 PATH = re.compile(r"[\w.-]+(?:/[\w.-]+)+\.(?:antt|rt|md|py|sh|c|h|txt|rs|svg|toml)\b")
-SKIPPED = {".git", "target", "build", "__pycache__"}
+SKIPPED = {".git", "target", "build", "out", "__pycache__"}
 SOURCES = {".antt", ".rt", ".edit", ".md", ".py", ".sh", ".rs", ".c", ".h", ".txt", ".toml", ".in", ".gen", ""}
 
 
@@ -30,22 +30,23 @@ def pages():
 
 def crates():
     """The crates that stand in one of README.md's table and crates.txt only."""
-    listed = re.findall(r"^(\w+):", (TOP / "crates.txt").read_text(), re.M)
+    listed = re.findall(r"^(\w+)(?: staticlib)?:", (TOP / "crates.txt").read_text(), re.M)
     table = (TOP / "README.md").read_text().split("## Crates\n", 1)[1].split("\n## ", 1)[0]
     return sorted(set(listed) ^ set(re.findall(r"^\| (\w+) \|", table, re.M)) - {"crate"})
 
 
 def dependencies():
     """Where crates.txt differs from the crates that the sources use; a comment names those that are only handed on."""
-    lines = re.findall(r"^(\w+):([^#\n]*)(?:#(.*))?$", (TOP / "crates.txt").read_text(), re.M)
-    kit = {"check", "io", "libc", "os"}
+    lines = re.findall(r"^(\w+)(?: staticlib)?:([^#\n]*)(?:#(.*))?$", (TOP / "crates.txt").read_text(), re.M)
+    kit = {"check"}
     for crate, listed, comment in lines:
         used = set()
         for path in files(TOP / "crates" / crate):
             if path.suffix in {".rt", ".antt"}:
                 text = path.read_text()
-                used |= set(re.findall(r"\buse Rattle·(\w+)", text))
-                used |= set(re.findall(r"^use (\w+)(?:::|;)", text, re.M)) if path.suffix == ".rt" else set()
+                used |= set(re.findall(r"\buse Rattle\.(\w+)", text))
+                if path.suffix == ".rt":
+                    used |= set(re.findall(r"^use (\w+)(?:::|;)", text, re.M)) | set(re.findall(r"(?<![:\w])(\w+)::\w+::\w+\(", text))
                 used |= {name for name in kit if path.suffix == ".rt" and f"{name}::" in text}
         used &= {name for name, _, _ in lines} | kit
         handed = set(re.findall(r"\w+", comment))

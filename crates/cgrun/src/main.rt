@@ -1,30 +1,32 @@
 // The program cgrun: serves the lines of standard input, prints refusals and claims as they occur, then the listing.
 // What it prints of a line is proved in the crate `program`; the crate `script` reads lines and writes what is printed.
 #![tactic(auto)]
+
 ghost use Rattle.std.specs.Prelude.{◌≤◌, length};
 
 use host::lent::cg_open;
 use program::serve::serve_end;
 use script::serve_script;
 
-fn write(out: &[u8], n: usize) {
+// A write that fails is passed over.
+fn write(rt: &impl Print, out: &[u8], n: usize) {
     if n <= out.len() {
-        io::write_all(1, &out[..n]);
+        let _ = rt.write_all(&out[..n]);
     }
 }
 
-fn print_listing(image: &[u8], out: &mut [u8])
+fn print_listing(rt: &impl Print, image: &[u8], out: &mut [u8])
     requires { 16512 ≤ length out.old }
 {
     let n = serve_end(image, out);
-    write(out, n);
+    write(rt, out, n);
 }
 
-fn main() {
+fn main(rt: HostRuntime) {
     let mut image = [0u8; 4112];
-    let mut buffer = io::large_buffer();
-    let mut out = io::large_buffer();
+    let mut buffer = [0u8; 65536];
+    let mut out = [0u8; 65536];
     cg_open(&mut image);
-    serve_script(&mut image, &mut buffer, &mut out, true);
-    print_listing(&image, &mut out);
+    serve_script(&rt, &mut image, &mut buffer, &mut out, true);
+    print_listing(&rt, &image, &mut out);
 }

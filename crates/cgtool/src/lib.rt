@@ -1,5 +1,6 @@
-// The program cgtool; main.c has C's `main`.
+// The program cgtool, but for its `main`, which the crate cgtool_main has.
 #![tactic(auto)]
+
 pub mod answers;
 pub mod commands;
 
@@ -11,75 +12,118 @@ use answers::{Said, answer};
 use commands::{Asked, asked_for};
 use host::lent::cg_open;
 use script::serve_script;
+use std::env::{Env, FillError};
+use std::io::Read;
 
 // Serves standard input as cgrun does, but prints the page of what it leaves.
-fn page_answered(out: &mut [u8]) -> Said
+fn page_answered(rt: &(impl Input + Print), out: &mut [u8]) -> Said
     requires { 3584 ≤ length out.old }
     ensures { Responds Asked.Page out.new result }
 {
     let mut image = [0u8; 4112];
-    let mut buffer = io::large_buffer();
-    let mut printed = io::large_buffer();
+    let mut buffer = [0u8; 65536];
+    let mut printed = [0u8; 65536];
     cg_open(&mut image);
-    serve_script(&mut image, &mut buffer, &mut printed, false);
+    serve_script(rt, &mut image, &mut buffer, &mut printed, false);
     answer(Asked::Page, &image, out)
 }
 
+// What one read puts at the start of a buffer. A read that fails ends the input.
+fn read_some(input: &mut impl Read, buffer: &mut [u8]) -> usize
+    ensures { result ≤ length buffer.new }
+{
+    input.read(buffer).unwrap_or(0)
+}
+
+// Reads until the buffer is full or the input ends.
+fn read_full(input: &mut impl Read, buffer: &mut [u8]) -> usize
+    ensures { result ≤ length buffer.new }
+{
+    let mut filled = 0;
+    while filled < buffer.len() {
+        let got = read_some(input, &mut buffer[filled..]);
+        if got == 0 {
+            return filled;
+        }
+        filled += got;
+    }
+    filled
+}
+
 // Reads standard input as a page. A page has at most 2,470 bytes, so a longer input is none, whatever follows.
-fn nodes_answered(out: &mut [u8]) -> Said
+fn nodes_answered(rt: &impl Input, out: &mut [u8]) -> Said
     requires { 3584 ≤ length out.old }
     ensures { Responds Asked.Nodes out.new result }
 {
     let mut text = [0u8; 2471];
-    let n = io::read_full(0, &mut text);
+    let n = read_full(&mut rt.reader(), &mut text);
     answer(Asked::Nodes, &text[..n], out)
 }
 
 // Reads what the command reads, and no more.
-fn answered(asked: Asked, out: &mut [u8]) -> Said
+fn answered(rt: &(impl Input + Print), asked: Asked, out: &mut [u8]) -> Said
     requires { 3584 ≤ length out.old }
     ensures { Responds asked out.new result }
 {
     match asked {
         Asked::Load(seed, count) => answer(Asked::Load(seed, count), b"", out),
-        Asked::Page => page_answered(out),
-        Asked::Nodes => nodes_answered(out),
+        Asked::Page => page_answered(rt, out),
+        Asked::Nodes => nodes_answered(rt, out),
         Asked::Wrong => answer(Asked::Wrong, b"", out),
     }
 }
 
 // Prints what was said and, where the arguments are wrong, the usage. Could what was said be written?
-fn write(out: &[u8], said: Said) -> bool
+fn write(rt: &(impl Print + Eprint), out: &[u8], said: Said) -> bool
     requires { said.length ≤ length out.now }
 {
     let n = said.length;
-    let written = io::write_all(1, &out[..n]);
+    let written = rt.write_all(&out[..n]).is_ok();
     if said.status == 2 {
-        io::write_all(
-            2,
-            b"usage: cgtool load SEED COUNT\n       cgtool page <SCRIPT\n       cgtool nodes <PAGE\n",
+        let _ = rt.eprint(
+            "usage: cgtool load SEED COUNT\n       cgtool page <SCRIPT\n       cgtool nodes <PAGE\n",
         );
     }
     written
 }
 
+// Puts an argument at the start of a buffer. One that is missing or longer than the buffer is put there as an empty one.
+fn argument(rt: &impl Env, place: usize, buffer: &mut [u8]) -> usize
+    ensures { result ≤ length buffer.new }
+{
+    rt.arg(place, buffer).unwrap_or(0)
+}
+
+fn is_missing(rt: &impl Env, place: usize) -> bool {
+    matches!(rt.arg(place, &mut []), Err(FillError::NotPresent))
+}
+
+// How many arguments there are, the program's name among them.
+fn argument_count(rt: &impl Env) -> usize {
+    for place in 0..usize::MAX {
+        if is_missing(rt, place) {
+            return place;
+        }
+    }
+    usize::MAX
+}
+
 // Reads the arguments, prints, and gives the exit status, 1 where the output could not be written. An argument that is longer
 // than its buffer comes as an empty one.
-#[unsafe(no_mangle)]
-pub extern "C" fn cgtool() -> i32
+pub fn cgtool(rt: &(impl Env + Input + Print + Eprint)) -> i32
     ensures { Status result }
 {
     let mut verb = [0u8; 16];
     let mut first = [0u8; 16];
     let mut second = [0u8; 16];
     let mut out = [0u8; 3584];
-    let v = os::arg(1, &mut verb);
-    let f = os::arg(2, &mut first);
-    let s = os::arg(3, &mut second);
-    let given = os::arg_count();
+    let v = argument(rt, 1, &mut verb);
+    let f = argument(rt, 2, &mut first);
+    let s = argument(rt, 3, &mut second);
+    let given = argument_count(rt);
     let asked = asked_for(given, &verb[..v], &first[..f], &second[..s]);
-    let said = answered(asked, &mut out);
-    if !write(&out, said) {
+    let said = answered(rt, asked, &mut out);
+    if !write(rt, &out, said) {
         return 1;
     }
     said.status as i32

@@ -1,5 +1,6 @@
 // Steps on a station's head unit: realise, move, finish.
 #![tactic(auto)]
+
 ghost use Rattle.std.specs.Prelude.{◌≡◌, true, ◌-◌, ◌≤◌, ◌<◌, length, get_or};
 ghost use Rattle.graph.specs.Nodes.{act_by};
 ghost use Rattle.graph.specs.OneAtATime.{op_of, is_op};

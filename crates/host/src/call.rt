@@ -53,8 +53,7 @@ pub fn call_at(image: &mut [u8], frame: &[u8], at: usize) -> Returned
 }
 
 // The same, by number.
-#[unsafe(no_mangle)]
-pub extern "C" fn cg_call(image: &mut [u8], frame: &[u8], at: usize) -> i64
+pub fn cg_call(image: &mut [u8], frame: &[u8], at: usize) -> i64
     ensures { Calls image.old (line_at frame.now at) (record { answer = result; image = image.new }) }
 {
     returned_number(call_at(image, frame, at))

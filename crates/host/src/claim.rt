@@ -69,8 +69,7 @@ pub fn claim_at(image: &mut [u8], frame: &[u8], at: usize, out: &mut [u8]) -> Re
 }
 
 // The same, by number.
-#[unsafe(no_mangle)]
-pub extern "C" fn cg_claim(image: &mut [u8], frame: &[u8], at: usize, out: &mut [u8]) -> i64
+pub fn cg_claim(image: &mut [u8], frame: &[u8], at: usize, out: &mut [u8]) -> i64
     ensures { Claims image.old (line_at frame.now at) out.old (record { answer = result; image = image.new; output = out.new }) }
 {
     returned_number(claim_at(image, frame, at, out))

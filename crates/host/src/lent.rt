@@ -20,8 +20,7 @@ pub fn image_refusal(image: &[u8]) -> u32
 }
 
 // Writes the image of the fresh session, whatever the bytes were.
-#[unsafe(no_mangle)]
-pub extern "C" fn cg_open(image: &mut [u8]) -> i64
+pub fn cg_open(image: &mut [u8]) -> i64
     ensures { record { answer = result; image = image.new } ≡ opened image.old }
 {
     if !open(image) {

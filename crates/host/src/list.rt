@@ -24,8 +24,7 @@ pub fn list(image: &[u8], out: &mut [u8]) -> Returned
 }
 
 // The same, by number.
-#[unsafe(no_mangle)]
-pub extern "C" fn cg_list(image: &[u8], out: &mut [u8]) -> i64
+pub fn cg_list(image: &[u8], out: &mut [u8]) -> i64
     ensures { Lists image.now out.old (record { answer = result; output = out.new }) }
 {
     returned_number(list(image, out))

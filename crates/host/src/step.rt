@@ -81,8 +81,7 @@ fn drained(t: Tally, c: Counts) -> Tally
 }
 
 // Takes the step that the line at a place of the frame asks for, gives 0, and counts what was taken.
-#[unsafe(no_mangle)]
-pub extern "C" fn cg_step(image: &mut [u8], frame: &[u8], at: usize, tally: &mut Tally) -> i64
+pub fn cg_step(image: &mut [u8], frame: &[u8], at: usize, tally: &mut Tally) -> i64
     ensures { Steps image.old (line_at frame.now at) tally.old (record { answer = result; image = image.new; tally = tally.new }) }
 {
     let s = step_at(image, frame, at);

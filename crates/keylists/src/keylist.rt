@@ -1,9 +1,5 @@
 // What is known of a list of numbers, one number at a time.
-ghost use mathlib.Core.Path.{◌≡◌};
-ghost use mathlib.Core.List.{List, [], ◌∷◌, ◌++◌};
-ghost use mathlib.Core.Bool.{◌&&◌};
-ghost use Prim.Native.Nat.{ℕ, ◌≤◌, ◌<◌};
-ghost use lib.ListN.{set};
+ghost use Rattle.std.specs.Prelude.{◌≡◌, List, [], ◌∷◌, ◌++◌, ◌&&◌, ℕ, ◌≤◌, ◌<◌, set};
 ghost use Rattle.graph.specs.KeyLists.{is_key};
 ghost use Rattle.keylists.specs.Inner.ListsRead.{KeysOf};
 ghost use Rattle.keylists.specs.declared.keylist.TargetsAnswer.TheVariants.{Not};

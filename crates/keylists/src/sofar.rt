@@ -1,8 +1,5 @@
 // A list of numbers parted by commas, read byte by byte. Its bytes may come in pieces, and none of them is kept.
-ghost use mathlib.Core.Bool.{true, false};
-ghost use mathlib.Core.List.{List, [], ◌∷◌, ◌++◌};
-ghost use mathlib.Core.Path.{◌≡◌};
-ghost use Prim.Native.Nat.{ℕ, ◌≤◌};
+ghost use Rattle.std.specs.Prelude.{◌≡◌, true, false, List, [], ◌∷◌, ◌++◌, ℕ, ◌≤◌};
 ghost use Rattle.keylists.specs.Inner.ListsRead.{KeysRead, ReadSoFar};
 
 use crate::keylist::{KeyList, TargetsAnswer, TargetsRead, no_targets, store};

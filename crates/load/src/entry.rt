@@ -22,8 +22,7 @@ pub fn load(seed: u32, count: u32, out: &mut [u8]) -> Returned
 }
 
 // The same, by number.
-#[unsafe(no_mangle)]
-pub extern "C" fn cg_load(seed: u32, count: u32, out: &mut [u8]) -> i64
+pub fn cg_load(seed: u32, count: u32, out: &mut [u8]) -> i64
     ensures { record { answer = result; output = out.new } ≡ loaded seed count out.old }
 {
     returned_number(load(seed, count, out))

@@ -1,5 +1,6 @@
 // The work steps on numbered units, in the image: join, split, swap, fuse. Each answers 0, or a refusal's number.
 #![tactic(auto)]
+
 pub mod pairs;
 
 ghost use Rattle.graph.specs.Steps.{join, split, swap, fuse};

@@ -38,8 +38,7 @@ pub fn page_nodes(page: &[u8], out: &mut [u8]) -> Returned
 }
 
 // The same, by number.
-#[unsafe(no_mangle)]
-pub extern "C" fn cg_page_nodes(page: &[u8], out: &mut [u8]) -> i64
+pub fn cg_page_nodes(page: &[u8], out: &mut [u8]) -> i64
     ensures { ReadsPage written page.now out.old (record { answer = result; output = out.new }) }
 {
     returned_number(page_nodes(page, out))

@@ -58,8 +58,7 @@ pub fn page(image: &[u8], out: &mut [u8]) -> Returned
 }
 
 // The same, by number.
-#[unsafe(no_mangle)]
-pub extern "C" fn cg_page(image: &[u8], out: &mut [u8]) -> i64
+pub fn cg_page(image: &[u8], out: &mut [u8]) -> i64
     ensures { WritesPage written image.now out.old (record { answer = result; output = out.new }) }
 {
     returned_number(page(image, out))

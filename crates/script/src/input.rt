@@ -3,6 +3,7 @@ ghost use Rattle.std.specs.Prelude.{◌≡◌, ◌+◌, ◌≤◌, length};
 ghost use Rattle.script.specs.Inner.Running.{LinesRun};
 
 use crate::serve::serve_frame;
+use std::io::Read;
 
 // No input has so many lines: at one each nanosecond they take 146 years. So no line number wraps.
 const LAST: u64 = 4611686018427387904;
@@ -16,14 +17,13 @@ pub struct State {
     pub open: bool,
 }
 
-// Reads once behind the bytes that are kept; 0 at the end of the input.
-fn read_more(buffer: &mut [u8], kept: usize) -> usize
+// Reads once behind the bytes that are kept; 0 at the end of the input, which a read that fails is too.
+fn read_more(input: &mut impl Read, buffer: &mut [u8], kept: usize) -> usize
     requires { kept ≤ length buffer.old }
     ensures { kept + result ≤ length buffer.old }
 {
     let rest = &mut buffer[kept..];
-    let got = libc::read(0, rest);
-    io::count(got, rest)
+    input.read(rest).unwrap_or(0)
 }
 
 // Moves the bytes between two places to the start.
@@ -52,7 +52,15 @@ fn closed(s: State) -> State
 }
 
 // Reads once, and serves what came.
-fn turn(image: &mut [u8], buffer: &mut [u8], s: State, out: &mut [u8], printing: bool) -> State
+fn turn(
+    rt: &impl Print,
+    input: &mut impl Read,
+    image: &mut [u8],
+    buffer: &mut [u8],
+    s: State,
+    out: &mut [u8],
+    printing: bool,
+) -> State
     requires { (s.kept ≤ length buffer.old) × (length buffer.old ≤ 65536) × (128 ≤ length out.old) }
     ensures { (result.kept ≤ length buffer.new) × LinesRun image.old s.line image.new result.line }
 {
@@ -60,12 +68,12 @@ fn turn(image: &mut [u8], buffer: &mut [u8], s: State, out: &mut [u8], printing:
     if s.line > LAST {
         return closed(s);
     }
-    let got = read_more(buffer, kept);
+    let got = read_more(input, buffer, kept);
     if got == 0 {
         return closed(s);
     }
     let filled = kept + got;
-    let rest = serve_frame(image, &buffer[..filled], s.line, s.long, out, printing);
+    let rest = serve_frame(rt, image, &buffer[..filled], s.line, s.long, out, printing);
     keep(buffer, rest.at, filled);
     State {
         kept: filled - rest.at,
@@ -76,10 +84,17 @@ fn turn(image: &mut [u8], buffer: &mut [u8], s: State, out: &mut [u8], printing:
 }
 
 // Reads and serves to the end of the input. A loop has to end, and no run uses up the turns.
-pub fn serve_input(image: &mut [u8], buffer: &mut [u8], out: &mut [u8], printing: bool) -> State
+pub fn serve_input(
+    rt: &(impl Input + Print),
+    image: &mut [u8],
+    buffer: &mut [u8],
+    out: &mut [u8],
+    printing: bool,
+) -> State
     requires { (length buffer.old ≤ 65536) × (128 ≤ length out.old) }
     ensures { (result.kept ≤ length buffer.new) × LinesRun image.old 1 image.new result.line }
 {
+    let mut input = rt.reader();
     let mut s = State {
         kept: 0,
         line: 1,
@@ -92,7 +107,7 @@ pub fn serve_input(image: &mut [u8], buffer: &mut [u8], out: &mut [u8], printing
         if !open {
             return s;
         }
-        s = turn(image, buffer, s, out, printing);
+        s = turn(rt, &mut input, image, buffer, s, out, printing);
         turns -= 1;
     }
     s

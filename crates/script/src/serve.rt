@@ -19,17 +19,19 @@ pub struct Rest {
     pub long: bool,
 }
 
-fn write(out: &[u8], n: usize, printing: bool) {
+// A write that fails is passed over.
+fn write(rt: &impl Print, out: &[u8], n: usize, printing: bool) {
     if !printing {
         return;
     }
     if n <= out.len() {
-        io::write_all(1, &out[..n]);
+        let _ = rt.write_all(&out[..n]);
     }
 }
 
 // Serves all whole lines, and writes out what is printed.
 fn serve_whole(
+    rt: &impl Print,
     image: &mut [u8],
     frame: &[u8],
     at: usize,
@@ -44,7 +46,7 @@ fn serve_whole(
     let mut number = line;
     loop {
         let p = serve_lines(image, frame, from, number, out);
-        write(out, p.used, printing);
+        write(rt, out, p.used, printing);
         if p.at == from {
             return Rest {
                 at: from,
@@ -58,7 +60,14 @@ fn serve_whole(
 }
 
 // Serves what the frame has of a line that is too long already, or keeps it.
-fn serve_long(image: &mut [u8], frame: &[u8], rest: Rest, out: &mut [u8], printing: bool) -> Rest
+fn serve_long(
+    rt: &impl Print,
+    image: &mut [u8],
+    frame: &[u8],
+    rest: Rest,
+    out: &mut [u8],
+    printing: bool,
+) -> Rest
     requires { (rest.at ≤ length frame.now) × (rest.line + 1 < 2 ^ 64) × (128 ≤ length out.old) }
     ensures { (result.at ≤ length frame.now) × LinesRun image.old rest.line image.new result.line }
 {
@@ -67,7 +76,7 @@ fn serve_long(image: &mut [u8], frame: &[u8], rest: Rest, out: &mut [u8], printi
         return rest;
     }
     let n = serve_line(image, frame, at, rest.line, out);
-    write(out, n, printing);
+    write(rt, out, n, printing);
     Rest {
         at: frame.len(),
         line: rest.line + 1,
@@ -76,6 +85,7 @@ fn serve_long(image: &mut [u8], frame: &[u8], rest: Rest, out: &mut [u8], printi
 }
 
 fn serve_from(
+    rt: &impl Print,
     image: &mut [u8],
     frame: &[u8],
     at: usize,
@@ -86,12 +96,13 @@ fn serve_from(
     requires { (at ≤ length frame.now) × RoomToServe frame.now line out.old }
     ensures { (result.at ≤ length frame.now) × LinesRun image.old line image.new result.line }
 {
-    let rest = serve_whole(image, frame, at, line, out, printing);
-    serve_long(image, frame, rest, out, printing)
+    let rest = serve_whole(rt, image, frame, at, line, out, printing);
+    serve_long(rt, image, frame, rest, out, printing)
 }
 
 // Serves the lines of a frame. The rest of a line that was refused for its length is passed over.
 pub fn serve_frame(
+    rt: &impl Print,
     image: &mut [u8],
     frame: &[u8],
     line: u64,
@@ -103,7 +114,7 @@ pub fn serve_frame(
     ensures { (result.at ≤ length frame.now) × LinesRun image.old line image.new result.line }
 {
     if !long {
-        return serve_from(image, frame, 0, line, out, printing);
+        return serve_from(rt, image, frame, 0, line, out, printing);
     }
     let n = part_to(frame, 0, b'\n').len();
     if n >= frame.len() {
@@ -113,16 +124,23 @@ pub fn serve_frame(
             long,
         };
     }
-    serve_from(image, frame, n + 1, line, out, printing)
+    serve_from(rt, image, frame, n + 1, line, out, printing)
 }
 
 // Serves a last line that has no newline.
-pub fn serve_last(image: &mut [u8], frame: &[u8], line: u64, out: &mut [u8], printing: bool)
+pub fn serve_last(
+    rt: &impl Print,
+    image: &mut [u8],
+    frame: &[u8],
+    line: u64,
+    out: &mut [u8],
+    printing: bool,
+)
     requires { 128 ≤ length out.old }
     ensures { LinesOn image.old line image.new }
 {
     if 0 < frame.len() {
         let n = serve_line(image, frame, 0, line, out);
-        write(out, n, printing);
+        write(rt, out, n, printing);
     }
 }

@@ -15,7 +15,6 @@ use Rattle.graph.specs.Counts.{tally_place, of_kind, quoted_steps}
 use Rattle.graph.proofs.Weights.{weight_of}
 use Rattle.graph.proofs.Drains.{drain_drains, weight_bound}
 use Rattle.flat.specs.Inner.FlatEvents.{flat_drain_step}
-use Rattle.flat.specs.Flat.{flat}
 use Rattle.flat.specs.Inner.Nested.{nest}
 use Rattle.records.proofs.Codecs.{Bytes}
 use Rattle.valid.specs.Values.{encode}

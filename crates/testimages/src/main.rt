@@ -1,6 +1,7 @@
 // The facts of refusal 2, each broken alone in an image that passes, and sessions with no history that must pass. Each line that is
 // written has a case's number and what the image is answered with.
 #![tactic(auto)]
+
 ghost use Rattle.std.specs.Prelude.{◌≡◌, length};
 
 use text::number::{decimal_len, put_decimal};
@@ -299,63 +300,63 @@ fn lone_add(image: &mut [u8]) {
     put(image, 1062, 1);
 }
 
-fn send(out: &[u8], n: usize) {
+fn send(rt: &impl Print, out: &[u8], n: usize) {
     if n <= out.len() {
-        io::write_all(1, &out[..n]);
+        let _ = rt.write_all(&out[..n]);
     }
 }
 
-fn tell(n: u32, image: &[u8]) {
+fn tell(rt: &impl Print, n: u32, image: &[u8]) {
     let digits = decimal_len(n);
     let mut out = [0u8; 10];
     put_decimal(&mut out, 0, n);
-    send(&out, digits);
+    send(rt, &out, digits);
     if image_valid(image) {
-        io::write_all(1, b" passes\n");
+        let _ = rt.write_all(b" passes\n");
     } else {
-        io::write_all(1, b" 2\n");
+        let _ = rt.write_all(b" 2\n");
     }
 }
 
-fn case(n: u32, row: [u16; 6]) {
+fn case(rt: &impl Print, n: u32, row: [u16; 6]) {
     let mut image = blank();
     session(&mut image);
     put(&mut image, place(row[0]), byte(row[1]));
     put(&mut image, place(row[2]), byte(row[3]));
     put(&mut image, place(row[4]), byte(row[5]));
-    tell(n, &image);
+    tell(rt, n, &image);
 }
 
-fn cases() {
+fn cases(rt: &impl Print) {
     let mut i: usize = 0;
     while i < 76 {
         let row = CASES[i];
-        case(i as u32 + 1, row);
+        case(rt, i as u32 + 1, row);
         i += 1;
     }
 }
 
 // Maps that wait, with four labels each.
-fn crowd(n: u32, four: u8) {
+fn crowd(rt: &impl Print, n: u32, four: u8) {
     let mut image = blank();
     open(&mut image);
     put(&mut image, 2, four);
     put(&mut image, 4, 255);
     maps(&mut image, four as usize);
-    tell(n, &image);
+    tell(rt, n, &image);
 }
 
 // Nodes alone, no label given yet.
-fn crowd_of_nodes(n: u32, nodes: u8) {
+fn crowd_of_nodes(rt: &impl Print, n: u32, nodes: u8) {
     let mut image = blank();
     open(&mut image);
     put(&mut image, 1, nodes);
     keys(&mut image, nodes as usize);
-    tell(n, &image);
+    tell(rt, n, &image);
 }
 
 // Nodes, and an add that waits.
-fn nodes_and_add(n: u32, nodes: u8) {
+fn nodes_and_add(rt: &impl Print, n: u32, nodes: u8) {
     let mut image = blank();
     open(&mut image);
     put(&mut image, 1, nodes);
@@ -363,18 +364,18 @@ fn nodes_and_add(n: u32, nodes: u8) {
     put(&mut image, 4, 1);
     keys(&mut image, nodes as usize);
     lone_add(&mut image);
-    tell(n, &image);
+    tell(rt, n, &image);
 }
 
-fn main() {
-    cases();
+fn main(rt: HostRuntime) {
+    cases(&rt);
     // 68 and 64 live labels
-    crowd(77, 17);
-    crowd(78, 16);
+    crowd(&rt, 77, 17);
+    crowd(&rt, 78, 16);
     // the opened image
-    crowd(79, 0);
+    crowd(&rt, 79, 0);
     // 65 and 64 nodes and waiting adds
-    nodes_and_add(80, 64);
-    nodes_and_add(81, 63);
-    crowd_of_nodes(82, 64);
+    nodes_and_add(&rt, 80, 64);
+    nodes_and_add(&rt, 81, 63);
+    crowd_of_nodes(&rt, 82, 64);
 }

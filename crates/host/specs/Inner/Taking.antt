@@ -30,4 +30,6 @@ abbrev pub Takes : (image line : List ℕ) → LineTaken → (after : List ℕ) 
 Takes image line (LineRefused n) after = (t : Tally) → Steps image line t (record { answer = returned_number (Refused n); image = after; tally = t })
 Takes image line (One place) after = (t : Tally) → Steps image line t (record { answer = returned_number (Done 0); image = after; tally = raised t place 1 })
 Takes image line (Drain c) after =
-    (ts : List Step) × DrainCounted c ts × ((t : Tally) → Steps image line t (record { answer = returned_number (Done 0); image = after; tally = counted t ts }))
+    (ts : List Step)
+    × DrainCounted c ts
+    × ((t : Tally) → Steps image line t (record { answer = returned_number (Done 0); image = after; tally = counted t ts }))

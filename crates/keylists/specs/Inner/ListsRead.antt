@@ -1,10 +1,6 @@
 -- What the readers of lists answer.
 -- Assumes nothing.
-use Prim.Native.Nat.{ℕ, ◌<◌, ◌≤◌, min}
-use mathlib.Core.Bool.{Bool, true, false}
-use mathlib.Core.List.{List, [], ◌∷◌, ◌++◌}
-use mathlib.Core.Path.{◌≡◌}
-use lib.ListN.{length}
+use Rattle.std.specs.Prelude.{ℕ, ◌<◌, ◌≤◌, min, Bool, true, false, List, [], ◌∷◌, ◌++◌, ◌≡◌, length}
 use Rattle.graph.specs.KeyLists.{are_keys, above}
 use Rattle.graph.specs.Words.{modulus}
 use Rattle.graph.specs.Valid.{Each}

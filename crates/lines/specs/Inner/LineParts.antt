@@ -171,7 +171,9 @@ Starts kind = (kind ≡ Sum) ⊎ ((kind ≡ Top) ⊎ (kind ≡ Pick))
 -- the answer to a call whose key is one, by its targets: 11, then 12, else the call
 abbrev pub call_made : CallKind → ℕ → ℕ → To → CallLine
 call_made kind x y to =
-    cond (are_keys (keys_listed to)) (cond (leb (length (keys_listed to)) 8 && rising (keys_listed to)) (call_line kind x y to) (refused_call 12)) (refused_call 11)
+    cond (are_keys (keys_listed to))
+    (cond (leb (length (keys_listed to)) 8 && rising (keys_listed to)) (call_line kind x y to) (refused_call 12))
+    (refused_call 11)
 
 -- the answer to the unmap of a map that was not refused: 40 for an even a, else the call
 abbrev pub unmap_made : ℕ → ℕ → Remaining → CallLine

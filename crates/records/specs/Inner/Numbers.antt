@@ -16,7 +16,8 @@ le64 s at =
     get_or s at 0
     + (get_or s (at + 1) 0
     + (get_or s (at + 2) 0
-    + (get_or s (at + 3) 0 + (get_or s (at + 4) 0 + (get_or s (at + 5) 0 + (get_or s (at + 6) 0 + get_or s (at + 7) 0 * 256) * 256) * 256) * 256) * 256) * 256) * 256
+    + (get_or s (at + 3) 0 + (get_or s (at + 4) 0 + (get_or s (at + 5) 0
+    + (get_or s (at + 6) 0 + get_or s (at + 7) 0 * 256) * 256) * 256) * 256) * 256) * 256) * 256
 
 -- a list of keys, 9 bytes: its count, and eight places
 abbrev pub keys_at : List ℕ → ℕ → Keys
