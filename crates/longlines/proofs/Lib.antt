@@ -3,3 +3,4 @@ pub mod Fronts
 pub mod Texts
 pub mod Answers
 pub mod Kept
+pub mod InLines

@@ -1,17 +1,15 @@
 // A line of 64 bytes or more, whose bytes come in pieces.
-ghost use mathlib.Core.List.{List, ◌++◌};
-ghost use mathlib.Core.Path.{◌≡◌};
-ghost use Prim.Native.Nat.{ℕ};
-ghost use lib.ListN.{length};
+ghost use Rattle.std.specs.Prelude.{List, ◌++◌, ◌≡◌, ℕ, length};
 ghost use Rattle.graph.specs.Targets.{named};
 ghost use Rattle.keylists.specs.Inner.ListsRead.{KeysOf, ToRead};
 ghost use Rattle.lines.specs.Inner.Answers.{CallRead};
 ghost use Rattle.lines.specs.declared.call.CallAnswer.TheVariants.{Refused};
 ghost use Rattle.longlines.specs.Inner.LongLines.{CutAt, LongOf, retargeted};
 
+use crate::made::{call_made, refused_call};
 use keylists::keylist::{KeyList, TargetsAnswer};
 use keylists::sofar::ListSoFar;
-use lines::call::{CallAnswer, CallLine, call_made, parse_call, refused_call};
+use lines::call::{CallAnswer, CallLine, parse_call};
 
 // What the line was read as up to its last equals sign within the first 64 bytes, as if it ended there; the list after it; and
 // the line's length so far, 256 for any from 256 on.

@@ -1,7 +1,7 @@
 -- Demand 3 of lines and images: one theorem, from the session's own.
 -- Assumes nothing.
 use mathlib.Core.Path.{◌≡◌, refl, sym, ap, subst, ◌∙◌}
-use Prim.Native.Nat.{ℕ, zero, suc, ◌≤◌}
+use Prim.Native.Nat.{ℕ, suc, ◌≤◌}
 use native.Mathlib.Omega.{arith}
 use mathlib.Core.Bool.{Bool, true, false, ◌||◌, true≢false}
 use mathlib.Core.List.{List, [], ◌∷◌, ◌++◌, append_assoc}
@@ -16,7 +16,6 @@ use Rattle.graph.specs.Nodes.{Result}
 use Rattle.graph.specs.OneAtATime.{one_at_a_time}
 use Rattle.graph.specs.Sessions.{Session, pending, labels_of_results}
 use Rattle.graph.specs.Steps as graph
-use Rattle.graph.specs.Allowed.{allowed}
 use Rattle.graph.specs.Drain.{Drained, drain}
 use Rattle.graph.specs.EventRuns.{EventRun, start}
 use Rattle.graph.specs.Counts.{result_of_label, of_kind, quoted_steps, quoted}

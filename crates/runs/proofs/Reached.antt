@@ -86,4 +86,4 @@ pub reached : (x : EventRun) → Valid x.now → (es : List Sent) → Runs (enco
 reached x v [] h = nothing x
 reached x v (e ∷ es) h =
     let f = first_line_law x v e es h in
-    after_line x e es f.0 (reached _ f.0.valid es (subst (λ (b : List ℕ). Runs b es) f.0.image f.1))
+    after_line x e es f.0 (reached (adding x f.0.now f.0.calls f.0.steps f.0.gave) f.0.valid es (subst (λ (b : List ℕ). Runs b es) f.0.image f.1))

@@ -8,7 +8,7 @@ use lib.ListN.{length}
 use Rattle.graph.specs.Calls.{Call}
 use Rattle.graph.specs.OneAtATime.{one_at_a_time}
 use Rattle.graph.specs.Counts.{result_of_label}
-use Rattle.runs.specs.Runs.{Sent, Runs, opening, after, accepted_lines, TextsOf, no_line, a_line, here, there, GraphOf}
+use Rattle.runs.specs.Runs.{Sent, Runs, opening, after, accepted_lines, TextsOf, no_line, a_line, GraphOf}
 use Rattle.runs.specs.Demand.{ResultOf, NonePending, SameEnd}
 use Rattle.graph.proofs.Found.{some_same}
 use Rattle.host.proofs.Determined.{call_forms}

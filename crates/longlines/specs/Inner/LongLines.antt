@@ -1,11 +1,6 @@
 -- What is kept of a line of 64 bytes or more in place of its bytes.
 -- Assumes nothing.
-use Prim.Native.Nat.{ℕ, ◌+◌, ◌<◌, ◌≤◌, min}
-use mathlib.Core.Bool.{cond, ◌&&◌}
-use mathlib.Core.List.{List, ◌∷◌, ◌++◌}
-use mathlib.Core.Path.{◌≡◌}
-use lib.Dec.{leb, ltb}
-use lib.ListN.{length, take, drop}
+use Rattle.std.specs.Prelude.{ℕ, ◌+◌, ◌<◌, ◌≤◌, min, cond, ◌&&◌, List, ◌∷◌, ◌++◌, ◌≡◌, leb, ltb, length, take, drop}
 use Rattle.graph.specs.KeyLists.{are_keys, rising}
 use Rattle.graph.specs.Targets.{named}
 use Rattle.keylists.specs.Inner.ListsRead.{last_or, ReadSoFar}

@@ -13,7 +13,7 @@ stepped : {image line after : List ℕ} {t u v : Tally} {y z : ℤ} → Steps im
 stepped {image} {line} {after} {t} k e f = subst (λ r. r) (λ i. Steps image line t (record { answer = sym e i; image = after; tally = sym f i })) k
 
 -- the number of the answer
-number : LineTaken → ℤ
+abbrev number : LineTaken → ℤ
 number s = returned_number (taken_answer s)
 
 pub returns-in-One : goal.returns-in-One

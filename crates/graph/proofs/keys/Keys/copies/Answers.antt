@@ -28,8 +28,9 @@ loop-i-preserved c =
     let hit = count_hit (listed a.self) c.loop-i.i h a.k in
     let miss = count_miss (listed a.self) c.loop-i.i h a.k in
     elim c.if-k-at.branch [
-      then-k-at w ↦ (omega arith, omega (arith, w.found-is, c.loop-i.invariant.1), omega (arith, w.found-is, hit (w.if-k-at.true ∙ c.at.ensures), c.loop-i.invariant.2))
-    | else-k-at w ↦ (omega arith, omega (arith, w.found-is, c.loop-i.invariant.1), omega (arith, w.found-is, miss (λ e. w.if-k-at.false (e ∙ sym c.at.ensures)), c.loop-i.invariant.2)) ]
+      | then-k-at w ↦ (omega arith, omega (arith, w.found-is, c.loop-i.invariant.1), omega (arith, w.found-is, hit (w.if-k-at.true ∙ c.at.ensures), c.loop-i.invariant.2))
+      | else-k-at w ↦ (omega arith, omega (arith, w.found-is, c.loop-i.invariant.1), omega (arith, w.found-is, miss (λ e. w.if-k-at.false (e ∙ sym c.at.ensures)), c.loop-i.invariant.2))
+    ]
 
 pub returns : goal.returns
 returns c =

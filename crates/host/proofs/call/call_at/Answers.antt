@@ -1,0 +1,6 @@
+-- The part of the frame is the line.
+-- Assumes nothing.
+use Rattle.host.proofs.call.call_at.Goals as goal
+
+pub returns : goal.returns
+returns c = rw c.part_to.ensures at c.accept_line.ensures
