@@ -14,10 +14,16 @@ ITEM = re.compile(r'^impl (\w+) \{|^( *)pub (extern "C" )?fn (\w+)', re.M)
 EDIT = re.compile(r"\((?:definition )?`(\w+)`(?:, (\w+))?\)")
 
 
+def listed(pattern):
+    """The files of the crates that crates.txt lists."""
+    crates = re.findall(r"^(\w+)(?: staticlib)?:", (TOP / "crates.txt").read_text(), re.M)
+    return sorted(path for crate in crates for path in TOP.glob(f"crates/{crate}/{pattern}"))
+
+
 def functions():
     """The public functions as the page names them (by crate, file and type; those for C, and those of the libraries that they
     call, by their name), and whether each has an `ensures` before its body."""
-    for source in sorted(TOP.glob("crates/*/src/*.rt")):
+    for source in listed("src/*.rt"):
         crate, kind, text = source.parts[-3], "", source.read_text()
         file = "" if source.stem == "lib" else source.stem + "::"
         for item in ITEM.finditer(text):
@@ -29,7 +35,7 @@ def functions():
 
 
 def edits():
-    return [f"{path.parts[-3]}/must-fail/{path.name}" for path in sorted(TOP.glob("crates/*/must-fail/*.edit"))]
+    return [f"{path.parts[-3]}/must-fail/{path.name}" for path in listed("must-fail/*.edit")]
 
 
 def page():
