@@ -5,13 +5,13 @@ ghost use Prim.Native.Nat.{ℕ, ◌+◌, ◌*◌, ◌-◌, ◌≤◌, ◌<◌, �
 ghost use lib.ListN.{length, take, drop};
 ghost use Rattle.text.specs.Text.{up_to};
 ghost use Rattle.longlines.specs.Inner.LongLines.{LongOf};
-ghost use Rattle.program.specs.Inner.Serving.{LongOfSome};
+ghost use Rattle.pieces.specs.Inner.Serving.{LongOfSome};
 ghost use Rattle.pieces.specs.Inner.Feeding.{KeptOf, SomeTaken, BytesFed, Feeds};
 
 use crate::frame::{FramePlace, serve_lines};
 use crate::state::State;
 use longlines::longline::{LongLine, begin, go_on};
-use program::serve::serve_long;
+use crate::serving::serve_long;
 use text::cut::part_to;
 
 // Moves the bytes between two places to the start.

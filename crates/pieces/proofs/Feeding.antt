@@ -18,7 +18,8 @@ use Rattle.longlines.specs.declared.longline.LongLine.{LongLine}
 use Rattle.valid.specs.Values.{encode}
 use Rattle.program.specs.Lines.{Line}
 use Rattle.program.specs.Transcript.{lines_of, LineRun, none, next, Transcript}
-use Rattle.program.specs.Inner.Serving.{LongOfSome, Served, Ended}
+use Rattle.program.specs.Inner.Frames.{Served, Ended}
+use Rattle.pieces.specs.Inner.Serving.{LongOfSome}
 use Rattle.pieces.specs.Inner.Frames.{LinesTaken, LinesServed}
 use Rattle.pieces.specs.Inner.Feeding.{KeptOf, bytes, long, InputTaken, SomeTaken, piece_in, BytesFed, AllServed}
 use Rattle.pieces.specs.declared.frame.FramePlace.{FramePlace}

@@ -13,7 +13,7 @@ use borrow.Author.Tests.{ltb-true, ltb-false, lt-ltb, le-ltb}
 use borrow.Rule.Slice.PartMut.{mid_of, post_of, put_mid, mid_len}
 use Rattle.lines.specs.Forms.{line_at}
 use Rattle.program.specs.Transcript.{lines_of, LineRun, none, next}
-use Rattle.program.specs.Inner.Serving.{Served}
+use Rattle.program.specs.Inner.Frames.{Served}
 use Rattle.pieces.specs.Inner.Frames.{Ready, Next, LinesServed}
 use Rattle.pieces.specs.declared.frame.FramePlace.{FramePlace}
 use Rattle.pieces.proofs.InputLines.{lines_at, run_append, taken_none}

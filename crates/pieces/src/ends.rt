@@ -7,7 +7,8 @@ ghost use Rattle.pieces.specs.Inner.Feeding.{Begins, SomeTaken, LastServed, Fini
 use crate::state::State;
 use host::lent::cg_open;
 use longlines::longline::LongLine;
-use program::serve::{serve_end, serve_line, serve_long};
+use crate::serving::serve_long;
+use program::serve::{serve_end, serve_line};
 
 // A fresh session, and no byte of the input yet.
 pub fn start(image: &mut [u8]) -> State

@@ -4,4 +4,6 @@
 pub mod ends;
 pub mod feed;
 pub mod frame;
+pub mod reading;
+pub mod serving;
 pub mod state;

@@ -1,3 +1,4 @@
+pub mod LongServing
 pub mod InputLines
 pub mod Framing
 pub mod Moving
