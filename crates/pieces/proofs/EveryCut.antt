@@ -9,7 +9,7 @@ use Rattle.program.specs.Transcript.{Transcript}
 use Rattle.program.proofs.Determined.{transcript_same}
 use Rattle.pieces.specs.Pieces.{Fed, starts, feeds, Printed, joined, EveryCut}
 use Rattle.pieces.specs.Inner.Feeding.{KeptOf, bytes, long, InputTaken, piece_in}
-use Rattle.pieces.specs.declared.state.State.{State}
+use Rattle.pieces.specs.declared.between.State.{State}
 
 -- a read leaves what is kept
 still_kept : {s : State} {buffer filled part : List ℕ} → take s.kept filled ≡ take s.kept buffer → KeptOf s buffer part → KeptOf s filled part

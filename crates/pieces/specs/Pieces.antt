@@ -8,7 +8,7 @@ use lib.ListN.{take}
 use Rattle.text.specs.Text.{texts}
 use Rattle.program.specs.Transcript.{Transcript}
 use Rattle.pieces.specs.Inner.Feeding.{Begins, piece_in, Feeds, Finishes}
-use Rattle.pieces.specs.declared.state.State.{State}
+use Rattle.pieces.specs.declared.between.State.{State}
 
 -- `start`, and then for each piece a read and `feed`: the read puts the piece behind the bytes that the line buffer keeps and leaves
 -- these, and `feed` prints the text. A piece may be empty, and is as long as the buffer has room at most

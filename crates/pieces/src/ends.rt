@@ -4,7 +4,7 @@ ghost use Prim.Native.Nat.{◌≤◌};
 ghost use lib.ListN.{length};
 ghost use Rattle.pieces.specs.Inner.Feeding.{Begins, SomeTaken, LastServed, Finishes};
 
-use crate::state::State;
+use crate::between::State;
 use host::lent::cg_open;
 use longlines::longline::LongLine;
 use crate::serving::serve_long;

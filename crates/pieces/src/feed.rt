@@ -9,7 +9,7 @@ ghost use Rattle.pieces.specs.Inner.Serving.{LongOfSome};
 ghost use Rattle.pieces.specs.Inner.Feeding.{KeptOf, SomeTaken, BytesFed, Feeds};
 
 use crate::frame::{FramePlace, serve_lines};
-use crate::state::State;
+use crate::between::State;
 use longlines::longline::{LongLine, begin, go_on};
 use crate::serving::serve_long;
 use text::cut::part_to;

@@ -11,7 +11,7 @@ use Rattle.longlines.specs.Inner.LongLines.{LongOf}
 use Rattle.valid.specs.Values.{encode}
 use Rattle.program.specs.Transcript.{lines_of, LineRun, Transcript}
 use Rattle.pieces.specs.Inner.Frames.{LinesTaken}
-use Rattle.pieces.specs.declared.state.State.{State}
+use Rattle.pieces.specs.declared.between.State.{State}
 
 -- what is kept of a line of which this part came: its bytes, less than 64; or what stands for 64 and more
 pub data KeptOf (s : State) (buffer part : List ℕ) : Type 0 where
