@@ -5,9 +5,9 @@ ghost use lib.ListN.{length};
 ghost use Rattle.pieces.specs.Inner.Feeding.{Begins, SomeTaken, LastServed, Finishes};
 
 use crate::between::State;
+use crate::serving::serve_long;
 use host::lent::cg_open;
 use longlines::longline::LongLine;
-use crate::serving::serve_long;
 use program::serve::{serve_end, serve_line};
 
 // A fresh session, and no byte of the input yet.

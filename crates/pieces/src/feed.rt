@@ -8,10 +8,10 @@ ghost use Rattle.longlines.specs.Inner.LongLines.{LongOf};
 ghost use Rattle.pieces.specs.Inner.Serving.{LongOfSome};
 ghost use Rattle.pieces.specs.Inner.Feeding.{KeptOf, SomeTaken, BytesFed, Feeds};
 
-use crate::frame::{FramePlace, serve_lines};
 use crate::between::State;
-use longlines::longline::{LongLine, begin, go_on};
+use crate::frame::{FramePlace, serve_lines};
 use crate::serving::serve_long;
+use longlines::longline::{LongLine, begin, go_on};
 use text::cut::part_to;
 
 // Moves the bytes between two places to the start.

@@ -4,7 +4,6 @@ use mathlib.Core.Path.{◌≡◌, refl, sym, ap, subst, ◌∙◌}
 use mathlib.Core.List.{List, []}
 use Prim.Native.Nat.{ℕ}
 use native.Mathlib.Omega.{arith}
-use borrow.Author.Rules.{rules}
 use borrow.Author.Tests.{eq-eqb}
 use Rattle.text.specs.Text.{up_to}
 use Rattle.graph.specs.Sessions.{fresh}
@@ -13,22 +12,12 @@ use Rattle.host.specs.Entries.{Called}
 use Rattle.pieces.specs.Inner.Frames.{LinesTaken}
 use Rattle.pieces.specs.Inner.Feeding.{bytes}
 use Rattle.pieces.proofs.InputLines.{taken_none}
-use Rattle.pieces.proofs.ends.start.Statement.{statement}
-use Rattle.pieces.proofs.ends.start.Tie as tie
+use Rattle.pieces.proofs.ends.start.Goals as goal
 
-cg-open-requires : tie.Need-cg-open-requires
-cg-open-requires c κs = search rules
-
-none-requires : tie.Need-none-requires
-none-requires c κs = search rules
-
-same_length : tie.Need-same-length
-same_length c = search rules
-
-returns : tie.Need-returns
+pub returns : goal.returns
 unfolding up_to
 returns c =
-    let new : encode fresh ≡ c.before.before.before.cg-open.new.0 = sym (ap (λ (x : Called). x.image) c.before.before.before.cg-open.ensures ∙ rw (eq-eqb _ 4112 c.before.before.before.before.before.before.requires) refl) in
+    let new : encode fresh ≡ c.cg_open.new.image = sym (ap (λ (x : Called). x.image) c.cg_open.ensures ∙ rw (eq-eqb _ 4112 c.requires) refl) in
     record {
       taken = λ buffer. record {
         part = [];
@@ -38,6 +27,3 @@ returns c =
       };
       first = refl;
     }
-
-pub start_spec : {M : Type 1} → statement M
-start_spec = tie.close (tie.spec cg-open-requires none-requires same_length returns)
