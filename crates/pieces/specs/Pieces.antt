@@ -1,10 +1,7 @@
 -- "A console partner gives `cgrun` a 64-byte line buffer in place of whatever it has now, and no other memory for a line's bytes. Every
 -- line must be answered as before" (S-7): however the input is cut into pieces, what the program's functions print is its transcript.
 -- Assumes nothing.
-use Prim.Native.Nat.{ℕ}
-use mathlib.Core.Path.{◌≡◌}
-use mathlib.Core.List.{List, [], ◌∷◌, ◌++◌}
-use lib.ListN.{take}
+use Rattle.std.specs.Prelude.{ℕ, ◌≡◌, List, [], ◌∷◌, ◌++◌, take}
 use Rattle.text.specs.Text.{texts}
 use Rattle.program.specs.Transcript.{Transcript}
 use Rattle.pieces.specs.Inner.Feeding.{Begins, piece_in, Feeds, Finishes}

@@ -1,7 +1,5 @@
 // The start and the end of the input.
-ghost use mathlib.Core.Path.{◌≡◌};
-ghost use Prim.Native.Nat.{◌≤◌};
-ghost use lib.ListN.{length};
+ghost use Rattle.std.specs.Prelude.{◌≡◌, ◌≤◌, length};
 ghost use Rattle.pieces.specs.Inner.Feeding.{Begins, SomeTaken, LastServed, Finishes};
 
 use crate::between::State;

@@ -1,8 +1,5 @@
 // A piece of the input, served as far as it has whole lines.
-ghost use mathlib.Core.List.{List, [], ◌++◌};
-ghost use mathlib.Core.Path.{◌≡◌};
-ghost use Prim.Native.Nat.{ℕ, ◌+◌, ◌*◌, ◌-◌, ◌≤◌, ◌<◌, ◌^◌};
-ghost use lib.ListN.{length, take, drop};
+ghost use Rattle.std.specs.Prelude.{List, [], ◌++◌, ◌≡◌, ℕ, ◌+◌, ◌*◌, ◌-◌, ◌≤◌, ◌<◌, ◌^◌, length, take, drop};
 ghost use Rattle.text.specs.Text.{up_to};
 ghost use Rattle.longlines.specs.Inner.LongLines.{LongOf};
 ghost use Rattle.pieces.specs.Inner.Serving.{LongOfSome};

@@ -1,8 +1,5 @@
 // The whole lines of the line buffer, one after the other.
-ghost use mathlib.Core.Path.{◌≡◌};
-ghost use Prim.Native.Nat.{◌+◌, ◌*◌, ◌-◌, ◌≤◌, ◌<◌, ◌^◌};
-ghost use lib.Dec.{ltb};
-ghost use lib.ListN.{length};
+ghost use Rattle.std.specs.Prelude.{◌≡◌, ◌+◌, ◌*◌, ◌-◌, ◌≤◌, ◌<◌, ◌^◌, ltb, length};
 ghost use Rattle.lines.specs.Forms.{line_at};
 ghost use Rattle.pieces.specs.Inner.Frames.{Ready, Next, LinesServed};
 

@@ -1,10 +1,6 @@
 -- What is kept between two reads, and what feeding a piece and ending give and leave.
 -- Assumes nothing.
-use Prim.Native.Nat.{ℕ, ◌+◌, ◌≤◌, ◌<◌}
-use mathlib.Core.Bool.{true, false}
-use mathlib.Core.Path.{◌≡◌}
-use mathlib.Core.List.{List, [], ◌++◌}
-use lib.ListN.{length, take, drop}
+use Rattle.std.specs.Prelude.{ℕ, ◌+◌, ◌≤◌, ◌<◌, true, false, ◌≡◌, List, [], ◌++◌, length, take, drop}
 use Rattle.graph.specs.Sessions.{fresh}
 use Rattle.text.specs.Text.{up_to}
 use Rattle.longlines.specs.Inner.LongLines.{LongOf}

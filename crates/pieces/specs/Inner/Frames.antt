@@ -1,9 +1,6 @@
 -- What serving the lines of the line buffer gives and leaves.
 -- Assumes nothing.
-use Prim.Native.Nat.{ℕ, ◌+◌, ◌*◌, ◌-◌, ◌≤◌, ◌<◌}
-use mathlib.Core.Path.{◌≡◌}
-use mathlib.Core.List.{List, ◌++◌}
-use lib.ListN.{length, take, drop}
+use Rattle.std.specs.Prelude.{ℕ, ◌+◌, ◌*◌, ◌-◌, ◌≤◌, ◌<◌, ◌≡◌, List, ◌++◌, length, take, drop}
 use Rattle.lines.specs.Forms.{line_at}
 use Rattle.program.specs.Lines.{Line}
 use Rattle.program.specs.Transcript.{lines_of, LineRun}

@@ -39,7 +39,8 @@ module _ (c : After-serve_last-last) where
   enough = omega (arith, used, room)
 
   -- the listing ends inside the output
-  total : (listed : List ℕ) (r : ℕ) → r ≤ length listed → length listed ≡ length (mid_of c.serve_last-last.result (length filled - c.serve_last-last.result) filled) → c.serve_last-last.result + r ≤ length filled
+  total : (listed : List ℕ) (r : ℕ) → r ≤ length listed → length listed ≡ length (mid_of c.serve_last-last.result (length filled - c.serve_last-last.result) filled)
+      → c.serve_last-last.result + r ≤ length filled
   total listed r within same = omega (arith, within, same, mid_len c.serve_last-last.result (length filled) filled (omega arith), enough)
 
 pub slice_bounds-serve_last-end : goal.slice_bounds-serve_last-end
@@ -49,19 +50,42 @@ pub slice_bounds-serve_last-end-2 : goal.slice_bounds-serve_last-end-2
 slice_bounds-serve_last-end-2 c = sym (length-take-le 128 c.args.out.now (omega (arith, c.requires.1)))
 
 pub serve_last-last-requires : goal.serve_last-last-requires
-serve_last-last-requires c = let all : length (take 128 c.args.out.now) ≡ 128 = length-take-le 128 c.args.out.now (omega (arith, c.requires.1)) in (c.requires.0, omega (arith, all), c.requires.2)
+serve_last-last-requires c =
+    let all : length (take 128 c.args.out.now) ≡ 128 = length-take-le 128 c.args.out.now (omega (arith, c.requires.1)) in
+    (c.requires.0, omega (arith, all), c.requires.2)
 
 pub slice_bounds-serve_end-count : goal.slice_bounds-serve_end-count
-slice_bounds-serve_end-count c = omega (arith, used (goal.at.slice_bounds-serve_end-count c).After-serve_last-last, room (goal.at.slice_bounds-serve_end-count c).After-serve_last-last)
+slice_bounds-serve_end-count c =
+    let a = (goal.at.slice_bounds-serve_end-count c).After-serve_last-last in
+    omega (arith, used a, room a)
 
 pub slice_bounds-serve_end-start : goal.slice_bounds-serve_end-start
-slice_bounds-serve_end-start c = omega (arith, used (goal.at.slice_bounds-serve_end-start c).After-serve_last-last, room (goal.at.slice_bounds-serve_end-start c).After-serve_last-last)
+slice_bounds-serve_end-start c =
+    let a = (goal.at.slice_bounds-serve_end-start c).After-serve_last-last in
+    omega (arith, used a, room a)
 
 pub serve_end-n-requires : goal.serve_end-n-requires
-serve_end-n-requires c = omega (arith, used (goal.at.serve_end-n-requires c).After-serve_last-last, room (goal.at.serve_end-n-requires c).After-serve_last-last, mid_len c.serve_last-last.result (length (filled (goal.at.serve_end-n-requires c).After-serve_last-last)) (filled (goal.at.serve_end-n-requires c).After-serve_last-last) (omega arith))
+serve_end-n-requires c =
+    let a = (goal.at.serve_end-n-requires c).After-serve_last-last in
+    omega (arith, used a, room a, mid_len c.serve_last-last.result (length (filled a)) (filled a) (omega arith))
 
 pub overflow_add-result : goal.overflow_add-result
-overflow_add-result c = let h = total (goal.at.overflow_add-result c).After-serve_last-last c.serve_end-n.new.out c.serve_end-n.result c.serve_end-n.ensures.within c.serve_end-n.auto.out in let size = whole (goal.at.overflow_add-result c).After-serve_last-last in omega (arith, h, size)
+overflow_add-result c =
+    let a = (goal.at.overflow_add-result c).After-serve_last-last in
+    let h = total a c.serve_end-n.new.out c.serve_end-n.result c.serve_end-n.ensures.within c.serve_end-n.auto.out in
+    let size = whole a in
+    omega (arith, h, size)
 
 pub returns : goal.returns
-returns c = record { whole = λ input text t. all_listed text (filled (goal.at.returns c).After-serve_last-last) (length (filled (goal.at.returns c).After-serve_last-last) - c.serve_last-last.result) (enough (goal.at.returns c).After-serve_last-last) (subst (λ (x : List ℕ). AllServed input (text ++ x) c.serve_last-last.new.image) (sym (take-append-le c.serve_last-last.result (lent (goal.at.returns c).After-serve_last-last) (drop 128 (out (goal.at.returns c).After-serve_last-last)) c.serve_last-last.ensures.within)) (c.serve_last-last.ensures.all input text t)) c.serve_end-n.ensures; within = omega (arith, total (goal.at.returns c).After-serve_last-last c.serve_end-n.new.out c.serve_end-n.result c.serve_end-n.ensures.within c.serve_end-n.auto.out, same_len_mid c.serve_last-last.result (length (filled (goal.at.returns c).After-serve_last-last) - c.serve_last-last.result) (filled (goal.at.returns c).After-serve_last-last) c.serve_end-n.new.out c.serve_end-n.auto.out) }
+returns c =
+    let a = (goal.at.returns c).After-serve_last-last in
+    let last = c.serve_last-last in
+    let end = c.serve_end-n in
+    let k : ℕ = length (filled a) - last.result in
+    record {
+      whole = λ input text t.
+          all_listed text (filled a) k (enough a)
+          (subst (λ (x : List ℕ). AllServed input (text ++ x) last.new.image) (sym (take-append-le last.result (lent a) (drop 128 (out a)) last.ensures.within)) (last.ensures.all input text t))
+          end.ensures;
+      within = omega (arith, total a end.new.out end.result end.ensures.within end.auto.out, same_len_mid last.result k (filled a) end.new.out end.auto.out);
+    }

@@ -43,13 +43,19 @@ pub slice_bounds-part_to-end-2 : goal.slice_bounds-part_to-end-2
 slice_bounds-part_to-end-2 c = sym (length-take-le _ _ (omega (arith, c.requires.0, c.requires.1)))
 
 pub slice_bounds-go_on-end : goal.slice_bounds-go_on-end
-slice_bounds-go_on-end c = omega (arith, size (goal.at.slice_bounds-go_on-end c).After-part_to-n, inside (goal.at.slice_bounds-go_on-end c).After-part_to-n, c.requires.0, c.requires.1)
+slice_bounds-go_on-end c =
+    let a = (goal.at.slice_bounds-go_on-end c).After-part_to-n in
+    omega (arith, size a, inside a, c.requires.0, c.requires.1)
 
 pub slice_bounds-go_on-end-2 : goal.slice_bounds-go_on-end-2
-slice_bounds-go_on-end-2 c = sym (length-take-le _ _ (omega (arith, size (goal.at.slice_bounds-go_on-end-2 c).After-part_to-n, inside (goal.at.slice_bounds-go_on-end-2 c).After-part_to-n, c.requires.0, c.requires.1)))
+slice_bounds-go_on-end-2 c =
+    let a = (goal.at.slice_bounds-go_on-end-2 c).After-part_to-n in
+    sym (length-take-le _ _ (omega (arith, size a, inside a, c.requires.0, c.requires.1)))
 
 pub returns-then-n-got : goal.returns-then-n-got
-returns-then-n-got c = (λ part clean o. long_more part c.args.buffer.now c.args.got _ (omega (arith, c.requires.0, c.requires.1)) (size (goal.at.returns-then-n-got c).After-part_to-n) c.if-n-got.true clean (c.go_on-l.ensures part o), omega arith)
+returns-then-n-got c =
+    let a = (goal.at.returns-then-n-got c).After-part_to-n in
+    (λ part clean o. long_more part c.args.buffer.now c.args.got _ (omega (arith, c.requires.0, c.requires.1)) (size a) c.if-n-got.true clean (c.go_on-l.ensures part o), omega arith)
 
 pub slice_bounds-serve_long-end : goal.slice_bounds-serve_long-end
 slice_bounds-serve_long-end c = omega (arith, c.requires.2)
@@ -58,13 +64,26 @@ pub slice_bounds-serve_long-end-2 : goal.slice_bounds-serve_long-end-2
 slice_bounds-serve_long-end-2 c = sym (length-take-le 128 c.args.out.now (omega (arith, c.requires.2)))
 
 pub serve_long-used-requires : goal.serve_long-used-requires
-serve_long-used-requires c = let some = c.requires.4 in let all : length (take 128 c.args.out.now) ≡ 128 = length-take-le 128 c.args.out.now (omega (arith, c.requires.2)) in (omega (arith, all), (_, c.go_on-l.ensures some.0 some.1))
+serve_long-used-requires c =
+    let some = c.requires.4 in
+    let all : length (take 128 c.args.out.now) ≡ 128 = length-take-le 128 c.args.out.now (omega (arith, c.requires.2)) in
+    (omega (arith, all), (_, c.go_on-l.ensures some.0 some.1))
 
 pub overflow_add-p : goal.overflow_add-p
 overflow_add-p c = omega (arith, c.requires.3)
 
 pub feed_lines-requires : goal.feed_lines-requires
-feed_lines-requires c = (c.requires.0, omega (arith, size (goal.at.feed_lines-requires c).After-part_to-n, inside (goal.at.feed_lines-requires c).After-part_to-n, c.if-n-got.false), c.requires.1, omega (arith, used (goal.at.feed_lines-requires c).After-serve_long-used, room (goal.at.feed_lines-requires c).After-serve_long-used, c.requires.1), omega (arith, c.requires.3))
+feed_lines-requires c =
+    let a = (goal.at.feed_lines-requires c).After-part_to-n in
+    let b = (goal.at.feed_lines-requires c).After-serve_long-used in
+    (c.requires.0, omega (arith, size a, inside a, c.if-n-got.false), c.requires.1, omega (arith, used b, room b, c.requires.1), omega (arith, c.requires.3))
 
 pub returns : goal.returns
-returns c = (λ part clean o. long_ends part c.args.buffer.now (lent (goal.at.returns c).After-serve_long-used) (drop 128 (out (goal.at.returns c).After-serve_long-used)) c.args.got (length c.part_to-n.result.now) (omega (arith, c.requires.0, c.requires.1)) (size (goal.at.returns c).After-part_to-n) c.if-n-got.false clean (c.serve_long-used.ensures _ (c.go_on-l.ensures part o)) c.feed_lines.ensures.0, omega (arith, c.feed_lines.ensures.1))
+returns c =
+    let a = (goal.at.returns c).After-part_to-n in
+    let b = (goal.at.returns c).After-serve_long-used in (
+      λ part clean o.
+          long_ends part c.args.buffer.now (lent b) (drop 128 (out b)) c.args.got (length c.part_to-n.result.now) (omega (arith, c.requires.0, c.requires.1)) (size a) c.if-n-got.false clean
+          (c.serve_long-used.ensures _ (c.go_on-l.ensures part o)) c.feed_lines.ensures.0,
+      omega (arith, c.feed_lines.ensures.1),
+    )

@@ -25,13 +25,16 @@ is_whole-requires c = c.loop-image.invariant.0.inside
 pub serve_next-p-requires : goal.serve_next-p-requires
 serve_next-p-requires c =
     let w = c.loop-image.invariant.0 in
-    (served_ready w (whole (goal.at.serve_next-p-requires c).In-loop-image), omega (arith, whole (goal.at.serve_next-p-requires c).In-loop-image, w.fewer, c.requires.2))
+    let next = whole (goal.at.serve_next-p-requires c).In-loop-image in
+    (served_ready w next, omega (arith, next, w.fewer, c.requires.2))
 
 pub loop-image-smaller : goal.loop-image-smaller
 loop-image-smaller c = omega (arith, whole (goal.at.loop-image-smaller c).In-loop-image, c.serve_next-p.ensures.past)
 
 pub loop-image-preserved : goal.loop-image-preserved
-loop-image-preserved c = (served_next c.loop-image.invariant.0 (whole (goal.at.loop-image-preserved c).In-loop-image) (search rules) c.serve_next-p.ensures, search rules, search rules)
+loop-image-preserved c =
+    let next = whole (goal.at.loop-image-preserved c).In-loop-image in
+    (served_next c.loop-image.invariant.0 next (search rules) c.serve_next-p.ensures, search rules, search rules)
 
 pub returns : goal.returns
 returns c = (c.loop-image.invariant.0, ltb-false _ _ (sym c.is_whole.ensures ∙ c.loop-image-test.false))
