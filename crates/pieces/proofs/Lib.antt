@@ -1,0 +1,6 @@
+pub mod LongServing
+pub mod InputLines
+pub mod Framing
+pub mod Moving
+pub mod Feeding
+pub mod EveryCut
