@@ -16,7 +16,7 @@ from pathlib import Path
 
 TOP = Path(__file__).resolve().parent.parent
 ROOTS = ["runs/specs/Demand.antt", "host/specs/Entries.antt", "program/specs/Transcript.antt", "load/specs/Entry.antt", "page/specs/Entries.antt", "cgtool/specs/Commands.antt"]
-STATEMENTS = ["graph/specs/Allowed.antt", "graph/specs/CallResults.antt", "graph/specs/Cases.antt", "graph/specs/EventRuns.antt", "graph/specs/RefusalOrder.antt", "graph/specs/TakenBack.antt", "graph/specs/Tasks.antt", "graph/specs/WholeScene.antt", "host/specs/Sequences.antt", "load/specs/AcceptedLines.antt", "load/specs/Cases.antt", "page/specs/Cases.antt", "page/specs/ReadBack.antt"]
+STATEMENTS = ["graph/specs/Allowed.antt", "graph/specs/CallResults.antt", "graph/specs/Cases.antt", "graph/specs/EventRuns.antt", "graph/specs/RefusalOrder.antt", "graph/specs/TakenBack.antt", "graph/specs/Tasks.antt", "graph/specs/WholeScene.antt", "host/specs/Sequences.antt", "load/specs/AcceptedLines.antt", "load/specs/Cases.antt", "page/specs/Cases.antt", "page/specs/ReadBack.antt", "pieces/specs/Pieces.antt"]
 PAGE, HEADING = "docs/PROMISES.md", "## Reading guide"
 WIDTH = 160
 USE = re.compile(r"^\s*(?:pub )?use Rattle\.(?!std\.|core\.)(\w+)\.specs\.((?:\w|\.(?=\w))+)", re.M)
