@@ -38,7 +38,7 @@ proofs() {
 }
 
 count proofs
-make build/cgrun
+make build/cgrun || failed=$((failed + 1))
 count python3 tests/guide.py --check
 count python3 tests/ruled_out.py
 count python3 tests/papers.py
