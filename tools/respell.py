@@ -4,7 +4,8 @@
 Run once, at the top, after /opt/rattle/port/port.py. It renames what specs/ and proofs/*.antt define, `oneAtATime` and
 `put-high` for two, in every .antt file, in the ghost lines of every .rt file and in the edits of must-fail/. A lemma whose
 new name is another name already, there or in the sources, ends in `_law`. Goals' names, made by Rattle, stay.
-With --list it writes nothing and prints the names, old and new.
+With --list it writes nothing and prints the names, old and new. With --local it renames only what an answer file defines
+for itself, in that file: once the answer files are written.
 """
 
 import re
@@ -71,7 +72,26 @@ def spelled(top):
     return names | MOVED
 
 
+def local(top):
+    """The lemmas of an answer file's own, in that file. Goals are no names of ours: their type names them."""
+    for p in sorted(top.glob("crates/*/proofs/**/Answers.antt")):
+        text = p.read_text()
+        taken = set(NAME.findall(text))
+        names = {}
+        for line in text.split("\n"):
+            m = DEFINED.match(code(line)[0])
+            if m and ": goal." not in line and not line.lstrip().startswith("let "):
+                names.update({n: snake(n) for n in m.group(1).split(" ") if n != snake(n)})
+        names = {n: new + "_law" if new in taken else new for n, new in names.items()}
+        if names:
+            print(p.relative_to(top), " ".join(f"{n} {new}" for n, new in names.items()))
+            p.write_text("\n".join(renamed(code(line)[0], names, steps=True) + code(line)[1] for line in text.split("\n")))
+
+
 def main():
+    if "--local" in sys.argv:
+        local(TOP)
+        return
     names = spelled(TOP)
     if "--list" in sys.argv:
         for n in sorted(names):

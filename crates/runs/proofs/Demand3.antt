@@ -19,7 +19,7 @@ use Rattle.graph.specs.Steps as graph
 use Rattle.graph.specs.Drain.{Drained, drain}
 use Rattle.graph.specs.EventRuns.{EventRun, start}
 use Rattle.graph.specs.Counts.{result_of_label, of_kind, quoted_steps, quoted}
-use Rattle.graph.specs.EventRuns as graphRuns
+use Rattle.graph.specs.EventRuns as GraphRuns
 use Rattle.graph.specs.Valid.{Each, Given, Valid}
 use Rattle.graph.proofs.Answers.{is_done, by_bool}
 use Rattle.graph.proofs.Effects.{costs}
@@ -101,8 +101,8 @@ module _ (es : List Sent) (h : Runs opening es) where
   abbrev pub s : Session
   s = x.now
 
-  pub d : graphRuns.SessionDemand3 x
-  d = subst graphRuns.SessionDemand3 to.moved (sessions.demand3 to.made)
+  pub d : GraphRuns.SessionDemand3 x
+  d = subst GraphRuns.SessionDemand3 to.moved (sessions.demand3 to.made)
 
   pub v : Valid s
   v = d.valid

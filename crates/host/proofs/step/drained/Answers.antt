@@ -8,8 +8,8 @@ use borrow.Author.Rules.{rules}
 use Rattle.host.proofs.step.drained.Goals as goal
 use Rattle.host.proofs.step.drained.Goals.{Start}
 
-in-bits : (c : Start) → Fits c.args.t
-in-bits c = fits _ (search rules) (search rules) (search rules) (search rules) (search rules) (search rules) (search rules) (search rules)
+in_bits : (c : Start) → Fits c.args.t
+in_bits c = fits _ (search rules) (search rules) (search rules) (search rules) (search rules) (search rules) (search rules) (search rules)
 
 pub returns : goal.returns
 returns c ts d =
@@ -18,4 +18,4 @@ returns c ts d =
     c.raised.ensures
     ∙ ap (λ (u : Tally). raised u 3 n.finish) (c.raised-moves.ensures ∙ ap (λ (u : Tally). raised u 2 n.moved) (c.raised-realises.ensures ∙ ap (λ (u : Tally). raised u 1 n.realise) c.raised-admits.ensures))
     ∙ (λ i. raised (raised (raised (raised t 0 (d.counts.admits i)) 1 (d.counts.realises i)) 2 (d.counts.moves i)) 3 (d.counts.finishes i))
-    ∙ counted_at_once t ts (in-bits (goal.at.returns c).Start) d.works
+    ∙ counted_at_once t ts (in_bits (goal.at.returns c).Start) d.works

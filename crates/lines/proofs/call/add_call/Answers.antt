@@ -12,9 +12,9 @@ use borrow.Author.Rules.{rules}
 use Rattle.lines.proofs.call.add_call.Goals as goal
 use Rattle.lines.proofs.call.add_call.Goals.{In-Is}
 
-value-at : (c : In-Is) → NumberAt c.args.line.now c.args.at (ascii " value=") c.in-Is.value c.in-Is.n
+value_at : (c : In-Is) → NumberAt c.args.line.now c.args.at (ascii " value=") c.in-Is.value c.in-Is.n
 unfolding ascii
-value-at c = record { field = rw c.in-Is.is at c.number_field.ensures; small = search rules }
+value_at c = record { field = rw c.in-Is.is at c.number_field.ensures; small = search rules }
 
 pub returns-in_default : goal.returns-in_default
 unfolding ascii
@@ -23,8 +23,8 @@ returns-in_default c =
 
 pub returns-then-n-line : goal.returns-then-n-line
 returns-then-n-line c =
-    last_not (value-at (goal.at.returns-then-n-line c).In-Is) c.if-n-line.true c.refused_call-then-n-line.ensures
+    last_not (value_at (goal.at.returns-then-n-line c).In-Is) c.if-n-line.true c.refused_call-then-n-line.ensures
 
 pub returns : goal.returns
 returns c =
-    last_is (value-at (goal.at.returns c).In-Is) c.if-n-line.false (ap (λ (t : Remaining). record { answer = Is Add c.in-Is.value 0; to = t }) (none_listed c.unmarked.ensures c.none.ensures) ∙ add_answer c.in-Is.value (value-at (goal.at.returns c).In-Is).small)
+    last_is (value_at (goal.at.returns c).In-Is) c.if-n-line.false (ap (λ (t : Remaining). record { answer = Is Add c.in-Is.value 0; to = t }) (none_listed c.unmarked.ensures c.none.ensures) ∙ add_answer c.in-Is.value (value_at (goal.at.returns c).In-Is).small)

@@ -14,9 +14,9 @@ place_at : (c : In-Is) → NumberAt c.args.line.now c.args.at (ascii " at=") c.i
 unfolding ascii
 place_at c = record { field = rw c.in-Is.is at c.number_field.ensures; small = search rules }
 
-unit-at : (c : In-Is-number_field) → NumberAt c.args.line.now c.in-Is.n (ascii " unit=") c.in-Is-number_field.unit c.in-Is-number_field.m
+unit_at : (c : In-Is-number_field) → NumberAt c.args.line.now c.in-Is.n (ascii " unit=") c.in-Is-number_field.unit c.in-Is-number_field.m
 unfolding ascii
-unit-at c = record { field = rw c.in-Is-number_field.is at c.number_field-2.ensures; small = search rules }
+unit_at c = record { field = rw c.in-Is-number_field.is at c.number_field-2.ensures; small = search rules }
 
 pub returns-in_default : goal.returns-in_default
 unfolding ascii
@@ -34,9 +34,9 @@ returns-in_default-number_field c =
 pub returns-then-m-line : goal.returns-then-m-line
 unfolding ascii
 returns-then-m-line c =
-    by_literals c.args.kind (ascii " at=" ∷ ascii " unit=" ∷ []) _ _ c.requires.1 (number_then (place_at (goal.at.returns-then-m-line c).In-Is) (ascii " unit=" ∷ []) (refl, tt) (omega arith) (last_not (unit-at (goal.at.returns-then-m-line c).In-Is-number_field) c.if-m-line.true refl))
+    by_literals c.args.kind (ascii " at=" ∷ ascii " unit=" ∷ []) _ _ c.requires.1 (number_then (place_at (goal.at.returns-then-m-line c).In-Is) (ascii " unit=" ∷ []) (refl, tt) (omega arith) (last_not (unit_at (goal.at.returns-then-m-line c).In-Is-number_field) c.if-m-line.true refl))
 
 pub returns : goal.returns
 unfolding ascii
 returns c =
-    by_literals c.args.kind (ascii " at=" ∷ ascii " unit=" ∷ []) _ _ c.requires.1 (number_then (place_at (goal.at.returns c).In-Is) (ascii " unit=" ∷ []) (refl, tt) (omega arith) (last_is (unit-at (goal.at.returns c).In-Is-number_field) c.if-m-line.false (c.step_made.ensures ∙ place_answer c.args.kind (ascii " at=" ∷ ascii " unit=" ∷ []) _ _ _ c.requires.1 (omega arith))))
+    by_literals c.args.kind (ascii " at=" ∷ ascii " unit=" ∷ []) _ _ c.requires.1 (number_then (place_at (goal.at.returns c).In-Is) (ascii " unit=" ∷ []) (refl, tt) (omega arith) (last_is (unit_at (goal.at.returns c).In-Is-number_field) c.if-m-line.false (c.step_made.ensures ∙ place_answer c.args.kind (ascii " at=" ∷ ascii " unit=" ∷ []) _ _ _ c.requires.1 (omega arith))))

@@ -9,8 +9,8 @@ use Rattle.load.proofs.kind.kind_of.Goals as goal
 from : (k n : ℕ) → k ≤ n → (n ≡ k → ⊥) → k + 1 ≤ n
 from k n h ne = omega (arith, ne)
 
-last-kind : (n : ℕ) → 7 ≤ n → n < 8 → n ≡ 7
-last-kind n h l = omega arith
+last_kind : (n : ℕ) → 7 ≤ n → n < 8 → n ≡ 7
+last_kind n h l = omega arith
 
 pub returns-in-0 : goal.returns-in-0
 returns-in-0 c = rw c.in-0.is
@@ -40,4 +40,4 @@ returns-in_default c =
     let r = d % 8 in
     let three = from 2 r (from 1 r (from 0 r (omega arith) n.0.0.0.0.0.0.1) n.0.0.0.0.0.1) n.0.0.0.0.1 in
     let seven = from 6 r (from 5 r (from 4 r (from 3 r three n.0.0.0.1) n.0.0.1) n.0.1) n.1 in
-    rw (last-kind r seven (omega arith))
+    rw (last_kind r seven (omega arith))

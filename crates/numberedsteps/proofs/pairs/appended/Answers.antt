@@ -18,7 +18,7 @@ record Within (s : Start) : Type 0 where
   pub second : s.args.b.count ≡ length (labels_of s.args.b)
   pub few : s.args.a.count + s.args.b.count ≤ 4
   pub four : length s.args.b.label ≡ 4
-  pub four-too : length s.args.a.label ≡ 4
+  pub four_too : length s.args.a.label ≡ 4
 
 within : (s : Start) → Within s
 within s =
@@ -29,7 +29,7 @@ within s =
       second = n;
       few = omega (arith, m, n, length-append (labels_of s.args.a) (labels_of s.args.b), s.requires.2);
       four = search rules;
-      four-too = search rules;
+      four_too = search rules;
     }
 
 pub loop-i-init : goal.loop-i-init

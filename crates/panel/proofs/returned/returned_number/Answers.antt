@@ -19,8 +19,8 @@ fits : (n : ℕ) → n < 2 ^ 63 → SFits w64 (neg_ℤ (pos n))
 fits zero h = record { sfits = h }
 fits (suc n) h = record { sfits = omega arith }
 
-less-fits : (n : ℕ) → n < 2 ^ 63 → SFits w64 (pos 0 -ℤ to_z w64 n)
-less-fits n h = subst (SFits w64) (sym (less n h)) (fits n h)
+less_fits : (n : ℕ) → n < 2 ^ 63 → SFits w64 (pos 0 -ℤ to_z w64 n)
+less_fits n h = subst (SFits w64) (sym (less n h)) (fits n h)
 
 -- the number that the refusal holds, which is a u32
 small : (c : In-Refused) → c.in-Refused.n < 2 ^ 63
@@ -30,7 +30,7 @@ pub returns-in-Done : goal.returns-in-Done
 returns-in-Done c = to_z_pos w64 (omega arith) ∙ sym (ap returned_number c.in-Done.is)
 
 pub returns-in-Refused : goal.returns-in-Refused
-returns-in-Refused c = to_z-of_z (less-fits _ (small (goal.at.returns-in-Refused c).In-Refused)) ∙ less _ (small (goal.at.returns-in-Refused c).In-Refused) ∙ sym (ap returned_number c.in-Refused.is)
+returns-in-Refused c = to_z-of_z (less_fits _ (small (goal.at.returns-in-Refused c).In-Refused)) ∙ less _ (small (goal.at.returns-in-Refused c).In-Refused) ∙ sym (ap returned_number c.in-Refused.is)
 
 pub overflow_sub-result : goal.overflow_sub-result
-overflow_sub-result c = less-fits _ (small (goal.at.overflow_sub-result c).In-Refused)
+overflow_sub-result c = less_fits _ (small (goal.at.overflow_sub-result c).In-Refused)

@@ -22,15 +22,15 @@ module _ (c : After-serve_last-last) where
   abbrev filled : List ℕ
   filled = lent ++ drop 128 out
 
-  lent-size : length lent ≡ 128
-  lent-size = c.serve_last-last.auto.out ∙ length-take-le 128 out (omega (arith, c.requires.1))
+  lent_size : length lent ≡ 128
+  lent_size = c.serve_last-last.auto.out ∙ length-take-le 128 out (omega (arith, c.requires.1))
 
   -- what is printed of the last line has at most 128 bytes
   used : c.serve_last-last.result ≤ 128
-  used = omega (arith, c.serve_last-last.ensures.within, lent-size)
+  used = omega (arith, c.serve_last-last.ensures.within, lent_size)
 
   whole : length filled ≡ length out
-  whole = omega (arith, length-append lent (drop 128 out), lent-size, length-drop 128 out, c.requires.1)
+  whole = omega (arith, length-append lent (drop 128 out), lent_size, length-drop 128 out, c.requires.1)
 
   room : 16640 ≤ length filled
   room = omega (arith, whole, c.requires.1)

@@ -26,15 +26,15 @@ module _ (c : After-serve_long-used) where
   abbrev lent : List ℕ
   lent = c.serve_long-used.new.out
 
-  lent-size : length lent ≡ 128
-  lent-size = c.serve_long-used.auto.out ∙ length-take-le 128 out (omega (arith, c.requires.2))
+  lent_size : length lent ≡ 128
+  lent_size = c.serve_long-used.auto.out ∙ length-take-le 128 out (omega (arith, c.requires.2))
 
   -- what is printed of the line has at most 128 bytes
   used : c.serve_long-used.result ≤ 128
-  used = let some = c.requires.4 in omega (arith, (c.serve_long-used.ensures _ (c.go_on-l.ensures some.0 some.1)).within, lent-size)
+  used = let some = c.requires.4 in omega (arith, (c.serve_long-used.ensures _ (c.go_on-l.ensures some.0 some.1)).within, lent_size)
 
   room : 8192 ≤ length (lent ++ drop 128 out)
-  room = omega (arith, length-append lent (drop 128 out), lent-size, length-drop 128 out, c.requires.2)
+  room = omega (arith, length-append lent (drop 128 out), lent_size, length-drop 128 out, c.requires.2)
 
 pub slice_bounds-part_to-end : goal.slice_bounds-part_to-end
 slice_bounds-part_to-end c = omega (arith, c.requires.0, c.requires.1)

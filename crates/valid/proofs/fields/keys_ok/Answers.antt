@@ -32,9 +32,9 @@ whole : (e : Else-n-gt8) {b : Bool} → b ≡ ok e → b ≡ keys_ok e.args.rise
 unfolding keys_ok
 whole e q = rw (le-leb (get_or e.args.s.now e.args.at 0) 8 e.if-n-gt8.false) q
 
-not-ok : (b : Bool) → (b ≡ true → ⊥) → false ≡ b
-not-ok true f = absurd (f refl)
-not-ok false f = refl
+not_ok : (b : Bool) → (b ≡ true → ⊥) → false ≡ b
+not_ok true f = absurd (f refl)
+not_ok false f = refl
 
 -- past the test of the highest bits
 low : (c : Else-keys-ne0) → bit_and (le64 c.args.s.now (c.args.at + 1)) 9259542123273814144 ≡ 0
@@ -46,11 +46,11 @@ returns-then-n-gt8 c = rw (lt-leb (get_or c.args.s.now c.args.at 0) 8 c.if-n-gt8
 
 pub returns-then-most-keys : goal.returns-then-most-keys
 returns-then-most-keys c =
-    whole (goal.at.returns-then-most-keys c).Else-n-gt8 (not-ok (ok (goal.at.returns-then-most-keys c).Else-n-gt8) (λ t. omega (arith, c.if-most-keys.true, c.most_in-most.ensures, c.u64_at-keys.ensures, ok_few (list (goal.at.returns-then-most-keys c).Else-n-gt8) (place (goal.at.returns-then-most-keys c).Else-n-gt8) (bytes (goal.at.returns-then-most-keys c).Else-n-gt8) c.args.rise (get_or (list (goal.at.returns-then-most-keys c).Else-n-gt8) c.args.at 0) t)))
+    whole (goal.at.returns-then-most-keys c).Else-n-gt8 (not_ok (ok (goal.at.returns-then-most-keys c).Else-n-gt8) (λ t. omega (arith, c.if-most-keys.true, c.most_in-most.ensures, c.u64_at-keys.ensures, ok_few (list (goal.at.returns-then-most-keys c).Else-n-gt8) (place (goal.at.returns-then-most-keys c).Else-n-gt8) (bytes (goal.at.returns-then-most-keys c).Else-n-gt8) c.args.rise (get_or (list (goal.at.returns-then-most-keys c).Else-n-gt8) c.args.at 0) t)))
 
 pub returns-then-keys-ne0 : goal.returns-then-keys-ne0
 returns-then-keys-ne0 c =
-    whole (goal.at.returns-then-keys-ne0 c).Else-n-gt8 (not-ok (ok (goal.at.returns-then-keys-ne0 c).Else-n-gt8) (λ t. c.if-keys-ne0.true (ap (λ (k : ℕ). bit_and k 9259542123273814144) c.u64_at-keys.ensures ∙ ok_low (list (goal.at.returns-then-keys-ne0 c).Else-n-gt8) (place (goal.at.returns-then-keys-ne0 c).Else-n-gt8) (bytes (goal.at.returns-then-keys-ne0 c).Else-n-gt8) c.args.rise (get_or (list (goal.at.returns-then-keys-ne0 c).Else-n-gt8) c.args.at 0) t)))
+    whole (goal.at.returns-then-keys-ne0 c).Else-n-gt8 (not_ok (ok (goal.at.returns-then-keys-ne0 c).Else-n-gt8) (λ t. c.if-keys-ne0.true (ap (λ (k : ℕ). bit_and k 9259542123273814144) c.u64_at-keys.ensures ∙ ok_low (list (goal.at.returns-then-keys-ne0 c).Else-n-gt8) (place (goal.at.returns-then-keys-ne0 c).Else-n-gt8) (bytes (goal.at.returns-then-keys-ne0 c).Else-n-gt8) c.args.rise (get_or (list (goal.at.returns-then-keys-ne0 c).Else-n-gt8) c.args.at 0) t)))
 
 pub overflow_add-keys : goal.overflow_add-keys
 overflow_add-keys c =
@@ -58,7 +58,7 @@ overflow_add-keys c =
 
 pub returns-then-keys-ne0-2 : goal.returns-then-keys-ne0-2
 returns-then-keys-ne0-2 c =
-    whole (goal.at.returns-then-keys-ne0-2 c).Else-n-gt8 (not-ok (ok (goal.at.returns-then-keys-ne0-2 c).Else-n-gt8) (λ t. c.if-keys-ne0-2.true (ap (λ (k : ℕ). bit_and (k + 4557430888798830399) 9259542123273814144) c.u64_at-keys.ensures ∙ ok_64 (list (goal.at.returns-then-keys-ne0-2 c).Else-n-gt8) (place (goal.at.returns-then-keys-ne0-2 c).Else-n-gt8) (bytes (goal.at.returns-then-keys-ne0-2 c).Else-n-gt8) c.args.rise (get_or (list (goal.at.returns-then-keys-ne0-2 c).Else-n-gt8) c.args.at 0) t)))
+    whole (goal.at.returns-then-keys-ne0-2 c).Else-n-gt8 (not_ok (ok (goal.at.returns-then-keys-ne0-2 c).Else-n-gt8) (λ t. c.if-keys-ne0-2.true (ap (λ (k : ℕ). bit_and (k + 4557430888798830399) 9259542123273814144) c.u64_at-keys.ensures ∙ ok_64 (list (goal.at.returns-then-keys-ne0-2 c).Else-n-gt8) (place (goal.at.returns-then-keys-ne0-2 c).Else-n-gt8) (bytes (goal.at.returns-then-keys-ne0-2 c).Else-n-gt8) c.args.rise (get_or (list (goal.at.returns-then-keys-ne0-2 c).Else-n-gt8) c.args.at 0) t)))
 
 pub overflow_add-result : goal.overflow_add-result
 overflow_add-result c =

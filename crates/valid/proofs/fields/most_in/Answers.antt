@@ -6,16 +6,16 @@ use native.Mathlib.Omega.{arith}
 use Rattle.valid.proofs.fields.most_in.Goals as goal
 
 -- none of 0 to 7
-above-seven : (n : ℕ) → n ≤ 8 → (n ≡ 0 → ⊥) → (n ≡ 1 → ⊥) → (n ≡ 2 → ⊥) → (n ≡ 3 → ⊥) → (n ≡ 4 → ⊥) → (n ≡ 5 → ⊥) → (n ≡ 6 → ⊥) → (n ≡ 7 → ⊥) → n ≡ 8
-above-seven zero h a b c d e f g i = absurd (a refl)
-above-seven (suc zero) h a b c d e f g i = absurd (b refl)
-above-seven (suc (suc zero)) h a b c d e f g i = absurd (c refl)
-above-seven (suc (suc (suc zero))) h a b c d e f g i = absurd (d refl)
-above-seven (suc (suc (suc (suc zero)))) h a b c d e f g i = absurd (e refl)
-above-seven (suc (suc (suc (suc (suc zero))))) h a b c d e f g i = absurd (f refl)
-above-seven (suc (suc (suc (suc (suc (suc zero)))))) h a b c d e f g i = absurd (g refl)
-above-seven (suc (suc (suc (suc (suc (suc (suc zero))))))) h a b c d e f g i = absurd (i refl)
-above-seven (suc (suc (suc (suc (suc (suc (suc (suc n)))))))) h a b c d e f g i = omega arith
+above_seven : (n : ℕ) → n ≤ 8 → (n ≡ 0 → ⊥) → (n ≡ 1 → ⊥) → (n ≡ 2 → ⊥) → (n ≡ 3 → ⊥) → (n ≡ 4 → ⊥) → (n ≡ 5 → ⊥) → (n ≡ 6 → ⊥) → (n ≡ 7 → ⊥) → n ≡ 8
+above_seven zero h a b c d e f g i = absurd (a refl)
+above_seven (suc zero) h a b c d e f g i = absurd (b refl)
+above_seven (suc (suc zero)) h a b c d e f g i = absurd (c refl)
+above_seven (suc (suc (suc zero))) h a b c d e f g i = absurd (d refl)
+above_seven (suc (suc (suc (suc zero)))) h a b c d e f g i = absurd (e refl)
+above_seven (suc (suc (suc (suc (suc zero))))) h a b c d e f g i = absurd (f refl)
+above_seven (suc (suc (suc (suc (suc (suc zero)))))) h a b c d e f g i = absurd (g refl)
+above_seven (suc (suc (suc (suc (suc (suc (suc zero))))))) h a b c d e f g i = absurd (i refl)
+above_seven (suc (suc (suc (suc (suc (suc (suc (suc n)))))))) h a b c d e f g i = omega arith
 
 power : {n k : ℕ} → n ≡ k → 256 ^ k ≡ 256 ^ n
 power e = ap (λ (i : ℕ). 256 ^ i) (sym e)
@@ -47,4 +47,4 @@ returns-in-7 c = power c.in-7.is
 pub returns-in_default : goal.returns-in_default
 returns-in_default c =
     let r = c.in_default.in_default-own.rest in
-    power (above-seven _ c.requires r.0.0.0.0.0.0.0.1 r.0.0.0.0.0.0.1 r.0.0.0.0.0.1 r.0.0.0.0.1 r.0.0.0.1 r.0.0.1 r.0.1 r.1)
+    power (above_seven _ c.requires r.0.0.0.0.0.0.0.1 r.0.0.0.0.0.0.1 r.0.0.0.0.0.1 r.0.0.0.0.1 r.0.0.0.1 r.0.0.1 r.0.1 r.1)

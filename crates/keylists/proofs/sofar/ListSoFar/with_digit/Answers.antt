@@ -13,9 +13,9 @@ use borrow.Author.Rules.{rules}
 use Rattle.keylists.proofs.sofar.ListSoFar.with_digit.Goals as goal
 
 -- the number that a digit makes
-text-more : (s : List ℕ) (f : ListSoFar) (g : Begun s f) (going : Bool) → f.going ≡ going → (b w : ℕ) → begun going f.value ++ b ∷ [] ≡ decimal w
+text_more : (s : List ℕ) (f : ListSoFar) (g : Begun s f) (going : Bool) → f.going ≡ going → (b w : ℕ) → begun going f.value ++ b ∷ [] ≡ decimal w
     → s ++ b ∷ [] ≡ passed g.read ++ decimal w
-text-more s f g going e b w q = text_then s f g going e (b ∷ []) ∙ ap (λ (l : List ℕ). passed g.read ++ l) q
+text_more s f g going e b w q = text_then s f g going e (b ∷ []) ∙ ap (λ (l : List ℕ). passed g.read ++ l) q
 
 pub returns-then-not-self : goal.returns-then-not-self
 returns-then-not-self c = λ s p.
@@ -23,7 +23,7 @@ returns-then-not-self c = λ s p.
     let b = c.args.b in
     let g = has_begun s f c.requires.0 p in
     let off : f.going ≡ false = not-true f.going c.if-not-self.true in
-    begins c.requires.0 g.read g.below (text-more s f g false off b _ (one_digit b c.requires.1 c.requires.2)) g.known g.stored
+    begins c.requires.0 g.read g.below (text_more s f g false off b _ (one_digit b c.requires.1 c.requires.2)) g.known g.stored
 
 pub returns-then-self-eq0 : goal.returns-then-self-eq0
 returns-then-self-eq0 c = λ s p.
@@ -46,5 +46,5 @@ returns c = λ s p.
     let g = has_begun s f c.requires.0 p in
     let on : f.going ≡ true = not-false f.going c.if-not-self.false in
     begins c.requires.0 g.read g.below
-    (text-more s f g true on b _ (rw (c.wide.ensures, c.wide-2.ensures) (digit_more f.value b (search rules) c.requires.1 c.requires.2)))
+    (text_more s f g true on b _ (rw (c.wide.ensures, c.wide-2.ensures) (digit_more f.value b (search rules) c.requires.1 c.requires.2)))
     g.known g.stored

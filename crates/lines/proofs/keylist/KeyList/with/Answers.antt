@@ -12,10 +12,10 @@ use Rattle.lines.proofs.keylist.KeyList.with.Goals as goal
 use Rattle.lines.proofs.keylist.KeyList.with.Goals.{After-and-rising}
 
 -- the list that is returned, with count n
-abbrev listWith : After-and-rising → ℕ → KeyList
-listWith w n = record { count = n; latest = w.args.v; keys = w.and-keys.result; rising = w.and-rising.result }
+abbrev list_with : After-and-rising → ℕ → KeyList
+list_with w n = record { count = n; latest = w.args.v; keys = w.and-keys.result; rising = w.and-rising.result }
 
-one_more : (w : After-and-rising) (n : ℕ) (ts : List ℕ) → KeysOf ts w.args.self → n ≡ min (w.args.self.count + 1) 9 → KeysOf (ts ++ w.args.v ∷ []) (listWith w n)
+one_more : (w : After-and-rising) (n : ℕ) (ts : List ℕ) → KeysOf ts w.args.self → n ≡ min (w.args.self.count + 1) 9 → KeysOf (ts ++ w.args.v ∷ []) (list_with w n)
 one_more w n ts p e =
     let a = w.args in
     keys_more ts a.v a.self _ p e refl
