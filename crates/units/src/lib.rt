@@ -24,10 +24,7 @@ pub fn is_at(image: &[u8], k: u8, p: usize) -> bool
     requires { Proper image.now }
     ensures { result ≡ is_at k p (flat_in image.now).queue }
 {
-    if ops::total(image) <= p {
-        return false;
-    }
-    ops::place_at(image, p) == k
+    p < ops::total(image) && ops::place_at(image, p) == k
 }
 
 // Where that unit starts, or the queue's end. It goes from unit to unit, and stops after the last.
@@ -40,13 +37,11 @@ fn unit_start(image: &[u8], k: u8, unit: u32) -> usize
         return n;
     }
     let mut p = ops::first_at(image, k);
-    let mut i = unit;
-    while 1 < i {
+    for _ in 1..unit {
         if !is_at(image, k, p) {
             return n;
         }
         p = ops::unit_end(image, k, p);
-        i -= 1;
     }
     p
 }
