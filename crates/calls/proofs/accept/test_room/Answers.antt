@@ -5,7 +5,7 @@ use borrow.Author.Tests.{le-leb, lt-leb}
 use lib.ListN.{length}
 use Rattle.flat.specs.Inner.Queues.{live_in}
 use Rattle.state.specs.Inner.State.{flat_in}
-use Rattle.calls.proofs.accept.refusal.Goals as goal
+use Rattle.calls.proofs.accept.test_room.Goals as goal
 
 pub returns-then-live_total-ge64 : goal.returns-then-live_total-ge64
 returns-then-live_total-ge64 c =
