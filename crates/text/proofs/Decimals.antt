@@ -144,9 +144,6 @@ pub record Reading (s : List ℕ) (v i : ℕ) : Type 0 where
   pub worth : value_from 0 s ≡ value_from v (drop i s)
   pub figures : Figures (drop i s) → Figures s
 
-pub reading_none : (s : List ℕ) → Reading s 0 0
-reading_none s = record { within = omega arith; small = omega arith; worth = refl; figures = λ d. d }
-
 module _ (s : List ℕ) (v i x : ℕ) (r : Reading s v i) (h : i < length s) (e : x ≡ get_or s i 0) where
   worth_more : value_from 0 s ≡ value_from (v * 10 + (x - 48)) (drop (i + 1) s)
   worth_more = r.worth ∙ rw (add-one, drop-cons s i 0, e)
