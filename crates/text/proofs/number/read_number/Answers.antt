@@ -1,7 +1,7 @@
 -- `text::number::read_number` meets its contract. The loop's invariant: v is what the digits passed make.
 -- Assumes nothing.
 use mathlib.Core.Path.{refl}
-use Rattle.text.proofs.Decimals.{reading_more, refute_large, refute_digit, refute_empty, is_zero, refute_zero, read_whole}
+use Rattle.text.proofs.Decimals.{reading_more, outside, refute_large, refute_digit, refute_empty, is_zero, refute_zero, read_whole}
 use native.Mathlib.Omega.{arith}
 use Rattle.std.proofs.Common.{rules, ℕ, ◌≤◌, ◌≡◌, ◌+◌, ◌*◌, ◌-◌, Bool, false, get_or, inl, inr}
 use Rattle.std.specs.Bool.{MatchBool}
@@ -17,13 +17,6 @@ returns-then-s-eq1 c = is_zero _ c.if-s-eq48.true c.if-s-eq1.true
 
 pub returns-else-s-eq1 : goal.returns-else-s-eq1
 returns-else-s-eq1 c = refute_zero _ c.if-s-eq48.true c.if-s-eq1.false
-
-outside : {b : Bool} {x : ℕ} → b ≡ false → MatchBool b (IsAsciiDigit x) (IsNotAsciiDigit x) → 48 ≤ x → x ≤ 57 → ⊥
-outside {b} {x} e m lo hi = go (when_false _ _ e m)
-  where
-    go : IsNotAsciiDigit x → ⊥
-    go (inl h) = omega arith
-    go (inr h) = omega arith
 
 pub returns-then-not-is_ascii_digit : goal.returns-then-not-is_ascii_digit
 returns-then-not-is_ascii_digit c =
