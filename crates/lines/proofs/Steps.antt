@@ -65,19 +65,6 @@ steps =
       kinds = step_kinds;
     }
 
-pub no_step_word : (w : List ℕ) → (w ≡ ascii "admit" → ⊥) → (w ≡ ascii "realise" → ⊥) → (w ≡ ascii "move" → ⊥) → (w ≡ ascii "finish" → ⊥)
-    → (w ≡ ascii "join" → ⊥) → (w ≡ ascii "split" → ⊥) → (w ≡ ascii "swap" → ⊥) → (w ≡ ascii "fuse" → ⊥) → (w ≡ ascii "drain" → ⊥)
-    → (k : StepKind) → w ≡ step_word k → ⊥
-no_step_word w a r m f j p s u d Admit = a
-no_step_word w a r m f j p s u d Realise = r
-no_step_word w a r m f j p s u d Move = m
-no_step_word w a r m f j p s u d Finish = f
-no_step_word w a r m f j p s u d Join = j
-no_step_word w a r m f j p s u d Split = p
-no_step_word w a r m f j p s u d Swap = s
-no_step_word w a r m f j p s u d Fuse = u
-no_step_word w a r m f j p s u d Drain = d
-
 -- ---- the forms
 
 step_made_law : (k : StepKind) (x y z : ℕ) (to : To) → Made steps step_text step_numbers (record { kind = k; x = x; y = y; z = z; to = to }) (step_form k x y z)
@@ -134,46 +121,36 @@ step_unique = unique step_forms
 
 -- ---- the answer
 
--- the form's own test
-tested : (f : StepForm) (a : Bool) → are_keys (step_keys f) ≡ a → step_answer f ≡ cond a (done f) (refused 11)
-tested f true e = rw e
-tested f false e = rw e
-
 -- a key fits in a byte
 pub key_small : (k : ℕ) → is_key k ≡ true → k < 256
 key_small k e =
     let high : k ≤ 64 = leb-true k 64 (and_right (leb 1 k) (leb k 64) e) in
     omega arith
 
--- the key of a step that names a node
-place_of : (k : StepKind) (x y z : ℕ) → 0 < length (step_literals k) → are_keys (step_keys (step_form k x y z)) ≡ is_key x
-place_of Admit x y z h = absurd (omega arith)
-place_of Realise x y z h = and-true (is_key x)
-place_of Move x y z h = and-true (is_key x)
-place_of Finish x y z h = and-true (is_key x)
-place_of Join x y z h = and-true (is_key x)
-place_of Split x y z h = and-true (is_key x)
-place_of Swap x y z h = and-true (is_key x)
-place_of Fuse x y z h = and-true (is_key x)
-place_of Drain x y z h = absurd (omega arith)
+-- a step that names no node
+pub word_answer : (k : StepKind) (x y z : ℕ) → length (step_literals k) ≡ 0 → done (step_form k 0 0 0) ≡ step_answer (step_form k x y z)
+word_answer Admit x y z e = refl
+word_answer Drain x y z e = refl
+word_answer Realise x y z e = absurd (omega arith)
+word_answer Move x y z e = absurd (omega arith)
+word_answer Finish x y z e = absurd (omega arith)
+word_answer Join x y z e = absurd (omega arith)
+word_answer Split x y z e = absurd (omega arith)
+word_answer Swap x y z e = absurd (omega arith)
+word_answer Fuse x y z e = absurd (omega arith)
 
-pub place_answer : (k : StepKind) (literals : List (List ℕ)) (x y z : ℕ) → step_literals k ≡ literals → 0 < length literals → step_tested k x y z ≡ step_answer (step_form k x y z)
-place_answer k literals x y z e h = sym (tested (step_form k x y z) (is_key x) (place_of k x y z (omega (arith, ap length e))))
+-- one that names a node by x
+tested : (f : StepForm) (x : ℕ) (a : Bool) → are_keys (step_keys f) ≡ is_key x → is_key x ≡ a → cond a (done f) (refused 11) ≡ step_answer f
+tested f x true p e = rw (p, e) refl
+tested f x false p e = rw (p, e) refl
 
-pub word_answer : (k : StepKind) → step_literals k ≡ [] → done (step_form k 0 0 0) ≡ step_answer (step_form k 0 0 0)
-word_answer Admit e = refl
-word_answer Drain e = refl
-word_answer Realise e = absurd (omega (arith, ap length e))
-word_answer Move e = absurd (omega (arith, ap length e))
-word_answer Finish e = absurd (omega (arith, ap length e))
-word_answer Join e = absurd (omega (arith, ap length e))
-word_answer Split e = absurd (omega (arith, ap length e))
-word_answer Swap e = absurd (omega (arith, ap length e))
-word_answer Fuse e = absurd (omega (arith, ap length e))
-
--- after a word, by the literals of its kind
-pub by_literals : (k : StepKind) (literals : List (List ℕ)) (l : List ℕ) (r : Answer StepForm) → step_literals k ≡ literals
-    → ReadAs (ValuesOf literals false l) (λ v. step_answer (step_form k v.x v.y v.z)) (refused 10) r
-    → ReadAs (ValuesOf (step_literals k) false l) (λ v. step_answer (step_form k v.x v.y v.z)) (refused 10) r
-by_literals k literals l r e h =
-    subst (λ (x : List (List ℕ)). ReadAs (ValuesOf x false l) (λ v. step_answer (step_form k v.x v.y v.z)) (refused 10) r) (sym e) h
+pub place_answer : (k : StepKind) (x y z : ℕ) (a : Bool) → (length (step_literals k) ≡ 0 → ⊥) → is_key x ≡ a → cond a (done (step_form k x y z)) (refused 11) ≡ step_answer (step_form k x y z)
+place_answer Admit x y z a n e = absurd (n refl)
+place_answer Realise x y z a n e = tested (step_form Realise x y z) x a (and-true (is_key x)) e
+place_answer Move x y z a n e = tested (step_form Move x y z) x a (and-true (is_key x)) e
+place_answer Finish x y z a n e = tested (step_form Finish x y z) x a (and-true (is_key x)) e
+place_answer Join x y z a n e = tested (step_form Join x y z) x a (and-true (is_key x)) e
+place_answer Split x y z a n e = tested (step_form Split x y z) x a (and-true (is_key x)) e
+place_answer Swap x y z a n e = tested (step_form Swap x y z) x a (and-true (is_key x)) e
+place_answer Fuse x y z a n e = tested (step_form Fuse x y z) x a (and-true (is_key x)) e
+place_answer Drain x y z a n e = absurd (n refl)
