@@ -2,31 +2,38 @@
 -- Assumes nothing.
 use Prim.Native.Nat.{ℕ, ◌<◌, ◌≤◌}
 use mathlib.Core.Path.{◌≡◌, refl, sym, ap, subst, ◌∙◌}
-use mathlib.Core.Bool.{Bool, true, false, cond, not, false≢true, ◌&&◌}
-use mathlib.Core.List.{List, [], ◌∷◌, ◌++◌}
-use mathlib.Core.Logic.{inl, inr}
+use mathlib.Core.Bool.{Bool, true, false, cond, not, ◌&&◌}
+use mathlib.Core.List.{List, [], ◌++◌}
 use native.Mathlib.Omega.{arith}
-use borrow.Author.Tests.{le-leb, lt-leb}
 use lib.Dec.{eqb, leb}
 use lib.ListN.{length, get_or}
 use Rattle.graph.specs.Calls.{Call, add, map, link, unlink, sum, top, pick, near, unmap, operands_of, listed_of, lacks_inverse}
-use Rattle.graph.specs.Words.{modulus, are_words}
-use Rattle.graph.specs.Affine.{is_odd}
+use Rattle.graph.specs.Words.{modulus}
 use Rattle.graph.specs.Refusals.{refused, done}
 use Rattle.graph.specs.declared.keys.Keys.{Keys}
 use Rattle.graph.specs.declared.remaining.Remaining.{Remaining}
-use Rattle.graph.specs.KeyLists.{is_key, are_keys, rising}
+use Rattle.graph.specs.KeyLists.{are_keys, rising}
 use Rattle.graph.specs.Packed.{packed, packed_targets}
-use Rattle.graph.specs.Targets.{To, named, whole, keys_listed, these, untouched}
+use Rattle.graph.specs.Targets.{To, named, whole, keys_listed, untouched}
 use Rattle.text.specs.Text.{ascii}
 use Rattle.text.proofs.Splits.{clean_test, clean_by}
 use Rattle.lines.specs.Forms.{call_text, call_numbers}
 use Rattle.keylists.specs.Inner.ListsRead.{Below}
 use Rattle.keylists.proofs.KeyLists.{below_words}
-use Rattle.graph.specs.Refusals.{and_then, map_done}
+use Rattle.graph.specs.Refusals.{Answer, and_then, map_done}
 use Rattle.lines.specs.Inner.Answers.{call_parts, call_read, call_answer, call_form}
 use Rattle.lines.specs.Inner.LineParts.{Tailed, call_word, call_literals, first_literals, second_literals, call_listed, key_fits, lacks_inverse_of, call_made}
-use Rattle.lines.proofs.Chains.{Literals, One}
+use Rattle.lines.specs.Inner.Answers.{ReadAs}
+use Rattle.lines.specs.Inner.LineParts.{FieldIf, TailOf, ToRead, Values, ValuesOf, targets_named}
+use Rattle.lines.specs.declared.fields.TargetsRead.{TargetsRead}
+use Rattle.lines.specs.declared.fields.TargetsRead.TheVariants.{Listed as Read}
+use Rattle.graph.specs.declared.remaining.Remaining.TheVariants.{Listed}
+use Rattle.graph.specs.Refused.{answered}
+use Rattle.graph.specs.declared.refusal.Refusal.{Refusal}
+use Rattle.keylists.specs.Inner.ListsRead.{KeysOf, keys_named}
+use Rattle.keylists.specs.declared.keylist.KeyList.{KeyList}
+use Rattle.std.proofs.Common.{Some, None, Result, Ok, Err, drop}
+use Rattle.lines.proofs.Chains.{Literals, One, before_if, only, zero_if, if_not, if_then, tail_not, tail_is}
 use Rattle.lines.specs.declared.call.Call.{Call as Asked}
 use Rattle.lines.specs.declared.call.CallKind.{CallKind}
 use Rattle.lines.specs.declared.call.CallKind.TheVariants.{Add, Map, Link, Unlink, Sum, Top, Pick, Near, Unmap}
@@ -192,3 +199,66 @@ made_answer Top x y to hx hy h z t = rw (z refl) (by_words x 0 to hx (omega arit
 made_answer Pick x y to hx hy h z t = rw (z refl) (by_words x 0 to hx (omega arith) h Pick (pick x to) (hx, h) refl refl refl refl)
 made_answer Near x y to hx hy h z t = by_words x y to hx hy h Near (near x y to) (hy, (hx, h)) refl refl refl refl
 made_answer Unmap x y to hx hy h z t = by_words x y to hx hy h Unmap (unmap x y to) (hx, (hy, h)) refl refl refl refl
+
+-- ---- what follows a word
+
+values_are : (k : CallKind) (x y : ℕ) (to : To) → (second_literals k ≡ [] → y ≡ 0) → record { x = x; y = y; z = 0; to = to } ≡ before_if (first_literals k) x (before_if (second_literals k) y (only to))
+values_are Add x y to z = rw (z refl) refl
+values_are Map x y to z = refl
+values_are Link x y to z = rw (z refl) refl
+values_are Unlink x y to z = rw (z refl) refl
+values_are Sum x y to z = rw (z refl) refl
+values_are Top x y to z = rw (z refl) refl
+values_are Pick x y to z = rw (z refl) refl
+values_are Near x y to z = refl
+values_are Unmap x y to z = refl
+
+module _ (k : CallKind) (line : List ℕ) (at : ℕ) (r : Answer Asked) where
+  abbrev answer : Values → Answer Asked
+  answer v = call_answer (call_form k v.x v.y v.to)
+
+  abbrev After : Type 0
+  After = ReadAs (ValuesOf (call_literals k) (call_listed k) (drop at line)) answer (refused 10) r
+
+  abbrev second_literal : List (List ℕ)
+  second_literal = second_literals k ++ []
+
+  parted : ReadAs (ValuesOf (first_literals k ++ second_literal) (call_listed k) (drop at line)) answer (refused 10) r → After
+  parted = subst (λ (l : List (List ℕ)). ReadAs (ValuesOf l (call_listed k) (drop at line)) answer (refused 10) r) (sym (literals_parted k))
+
+  pub no_first : FieldIf line at (first_literals k) None → r ≡ refused 10 → After
+  no_first f e = parted (if_not line at second_literal (second k).gaps (first_literals k) (first_one k) f e)
+
+  module _ (x n : ℕ) (f : FieldIf line at (first_literals k) (Some (x, n))) (hx : x < modulus) where
+    first_then : ReadAs (ValuesOf second_literal (call_listed k) (drop n line)) (λ v. answer (before_if (first_literals k) x v)) (refused 10) r → After
+    first_then t = parted (if_then line at second_literal (second k).gaps (first_literals k) (first_one k) x n f hx (second k).few t)
+
+    pub no_second : FieldIf line n (second_literals k) None → r ≡ refused 10 → After
+    no_second g e = first_then (if_not line n [] tt (second_literals k) (second k).one g e)
+
+    module _ (y m : ℕ) (g : FieldIf line n (second_literals k) (Some (y, m))) (hy : y < modulus) where
+      second_then : ReadAs (ValuesOf [] (call_listed k) (drop m line)) (λ v. answer (before_if (first_literals k) x (before_if (second_literals k) y v))) (refused 10) r → After
+      second_then t = first_then (if_then line n [] tt (second_literals k) (second k).one y m g hy (omega arith) t)
+
+      pub no_targets : TailOf (call_listed k) (drop m line) None → r ≡ refused 10 → After
+      no_targets t e = second_then (tail_not (drop m line) t e)
+
+      pub with_targets : {read : TargetsRead} → TailOf (call_listed k) (drop m line) (Some read) → ((to : To) → ToRead to read → r ≡ call_made k x y to) → After
+      with_targets t e =
+          let z : second_literals k ≡ [] → y ≡ 0 = zero_if line n y m (second_literals k) g in
+          second_then (tail_is (drop m line) t (λ to p d b. e to p ∙ made_answer k x y to hx hy b z d ∙ ap answer (values_are k x y to z)))
+
+-- ---- the targets by what is known of them
+
+pub targets_law : (to : To) (k : KeyList) (r : Result Keys Refusal) → ToRead to (Read k) → ((ts : List ℕ) → KeysOf ts k → answered (λ q. q) r ≡ keys_named ts) → answered Listed r ≡ targets_named to
+targets_law whole k r p e = absurd p
+targets_law (named ts) k r p e = answered_then Listed r ∙ ap (map_done Listed) (e ts p.1) ∙ go (are_keys ts) (leb (length ts) 8 && rising ts)
+  where
+    answered_then : (f : Keys → Remaining) (r : Result Keys Refusal) → answered f r ≡ map_done f (answered (λ q. q) r)
+    answered_then f (Ok q) = refl
+    answered_then f (Err n) = refl
+
+    go : (a b : Bool) → map_done Listed (cond a (cond b (done (packed ts)) (refused 12)) (refused 11)) ≡ cond a (cond b (done (Listed (packed ts))) (refused 12)) (refused 11)
+    go true true = refl
+    go true false = refl
+    go false b = refl

@@ -3,14 +3,14 @@
 use Prim.Native.Nat.{ℕ, ◌+◌, ◌<◌, ◌≤◌}
 use mathlib.Core.Path.{◌≡◌, refl, sym, ap, subst, ◌∙◌}
 use mathlib.Core.Bool.{Bool, true, false}
-use mathlib.Core.List.{List, [], ◌∷◌, ◌++◌, append-nil}
+use mathlib.Core.List.{List, [], ◌∷◌, ◌++◌}
 use native.Mathlib.Omega.{arith}
 use lib.ListN.{length, drop, length-drop, drop_of_length-le}
 use Rattle.graph.specs.Targets.{To, named, whole, keys_listed}
 use Rattle.graph.specs.Words.{modulus}
 use Rattle.text.specs.Text.{up_to, decimal, ascii}
 use Rattle.text.specs.Inner.PartsRead.{LiteralAt, DecimalOf, Gap}
-use Rattle.std.proofs.Common.{Option, Some, None}
+use Rattle.std.proofs.Common.{Some, None}
 use Rattle.text.proofs.Splits.{Part, part, part_is, cancel, decimal_clean, same_number}
 use Rattle.lines.specs.Forms.{to_text, targets}
 use Rattle.lines.specs.Inner.Answers.{ReadAs, form, other}
@@ -19,7 +19,6 @@ use Rattle.lines.specs.declared.fields.TargetsRead.{TargetsRead}
 use Rattle.lines.specs.declared.fields.TargetsRead.TheVariants.{All, Listed}
 use Rattle.keylists.specs.declared.keylist.KeyList.{KeyList}
 use Rattle.keylists.specs.Inner.ListsRead.{Below, KeysRead}
-use Rattle.lines.proofs.ToTexts.{to_clean}
 
 -- ---- a number after a literal
 
@@ -95,10 +94,10 @@ literals_after (c ∷ cs) others h = h.1
 -- ---- the answer, by what was read of the fields: each law goes from the fields after one to the fields with it
 
 -- a number before the others
-abbrev before : ℕ → Values → Values
+abbrev pub before : ℕ → Values → Values
 before x v = record { x = x; y = v.x; z = v.y; to = v.to }
 
-abbrev only : To → Values
+abbrev pub only : To → Values
 only to = record { x = 0; y = 0; z = 0; to = to }
 
 module _ {R : Type 0} {ten r : R} {answer : Values → R} (s : List ℕ) (at : ℕ) where
@@ -173,6 +172,10 @@ module _ (s : List ℕ) (at : ℕ) where
     if_then [] o x n f h few t = subst (λ (k : ℕ). ReadAs (ValuesOf more listed (drop k s)) answer ten r) f.1 t
     if_then (a ∷ []) o x n f h few t = number_then (record { field = f; small = h }) more gaps few t
     if_then (a ∷ b ∷ others) o x n f h few t = absurd o
+
+pub zero_if : (s : List ℕ) (at x n : ℕ) (literals : List (List ℕ)) → FieldIf s at literals (Some (x, n)) → literals ≡ [] → x ≡ 0
+zero_if s at x n [] f e = f.0
+zero_if s at x n (a ∷ others) f e = absurd (omega (arith, ap length e))
 
 -- ---- the line's end
 

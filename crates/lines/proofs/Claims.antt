@@ -14,7 +14,7 @@ use Rattle.lines.specs.Forms.{claim_text, claim_numbers, IsClaim}
 use Rattle.lines.specs.Inner.Answers.{ReadAs, form, other}
 use Rattle.lines.specs.Inner.LineParts.{FieldOf, ValuesOf}
 use Rattle.lines.proofs.Chains.{if_not, if_then, end_not, end_is}
-use Rattle.std.proofs.Common.{Some, None, ◌≤◌, drop}
+use Rattle.std.proofs.Common.{Some, None, ◌≤◌}
 use Rattle.graph.specs.Words.{modulus}
 use Rattle.keylists.proofs.KeyLists.{words_below, below_words}
 

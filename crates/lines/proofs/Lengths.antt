@@ -1,7 +1,7 @@
 -- The length of the text of a call whose form passes its tests: at most 63 bytes.
 -- Assumes nothing.
 use mathlib.Core.Path.{◌≡◌}
-use Prim.Native.Nat.{ℕ, ◌*◌, ◌≤◌}
+use Prim.Native.Nat.{ℕ, ◌≤◌}
 use native.Mathlib.Omega.{arith}
 use mathlib.Core.Bool.{true}
 use mathlib.Core.List.{List, [], ◌∷◌}
@@ -13,9 +13,8 @@ use Rattle.graph.specs.KeyLists.{is_key, are_keys}
 use Rattle.graph.specs.Targets.{To, named, whole, keys_listed}
 use Rattle.graph.specs.Calls.{Call, add, map, link, unlink, sum, top, pick, near, unmap}
 use Rattle.graph.proofs.Answers.{and_left, and_right}
-use Rattle.graph.proofs.KeyLaws.{key_high}
 use Rattle.graph.proofs.Validity.{FormFits}
-use Rattle.text.specs.Text.{ascii, decimal, further, commas}
+use Rattle.text.specs.Text.{ascii, decimal}
 use Rattle.text.proofs.Decimals.{len_ten}
 use Rattle.text.proofs.CommaLists.{key_short, commas_short}
 use Rattle.lines.specs.Forms.{to_text, call_text}

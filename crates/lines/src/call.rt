@@ -7,7 +7,6 @@ ghost use Rattle.lines.specs.Inner.LineParts.{FieldIf, TailOf, ToRead, CallWordO
 
 use crate::fields::{TargetsRead, number_field, targets_field, too_long, value_at};
 use graph::affine::is_odd;
-use graph::keys::Keys;
 use graph::refusal::Refusal;
 use graph::remaining::Remaining;
 use keylists::keylist::{KeyList, is_key};
@@ -56,6 +55,7 @@ fn call_word(word: &[u8]) -> Option<CallKind>
 }
 
 // The first number of a line of this kind, and the place after it.
+#[tactic(auto, unfolding(text::specs::Text::ascii))]
 fn first_field(kind: CallKind, line: &[u8], at: usize) -> Option<(u32, usize)>
     requires { at ≤ length line.now }
     ensures { FieldIf line.now at (first_literals kind) result }
@@ -69,6 +69,7 @@ fn first_field(kind: CallKind, line: &[u8], at: usize) -> Option<(u32, usize)>
 }
 
 // The second, where the kind has two: else 0, and the same place.
+#[tactic(auto, unfolding(text::specs::Text::ascii))]
 fn second_field(kind: CallKind, line: &[u8], at: usize) -> Option<(u32, usize)>
     requires { at ≤ length line.now }
     ensures { FieldIf line.now at (second_literals kind) result }
@@ -85,13 +86,11 @@ fn call_targets(kind: CallKind, line: &[u8], at: usize) -> Option<TargetsRead>
     requires { at ≤ length line.now }
     ensures { TailOf (call_listed kind) (drop at line.now) result }
 {
-    if kind != CallKind::Add {
-        return targets_field(line, at);
+    match kind {
+        CallKind::Add if at < line.len() => None,
+        CallKind::Add => Some(TargetsRead::Listed(KeyList::none())),
+        _ => targets_field(line, at),
     }
-    if at < line.len() {
-        return None;
-    }
-    Some(TargetsRead::Listed(KeyList::none()))
 }
 
 // Is the key one, where the kind's first number is a key?
@@ -104,24 +103,23 @@ fn key_fits(kind: CallKind, x: u32) -> bool
     }
 }
 
+// Is it an unmap of an even a?
+fn lacks_inverse(kind: CallKind, x: u32) -> bool
+    ensures { result ≡ lacks_inverse_of kind x }
+{
+    match kind {
+        CallKind::Unmap => !is_odd(x),
+        _ => false,
+    }
+}
+
 // The targets of a call just read: 11 for one that is no key, then 12.
 fn untouched(to: TargetsRead) -> Result<Remaining, Refusal>
     ensures { (t : To) → ToRead t to → answered (λ r. r) result ≡ targets_named t }
 {
     match to {
-        TargetsRead::All => Ok(Remaining {
-            all: true,
-            mark: false,
-            keys: Keys::none(),
-        }),
-        TargetsRead::Listed(list) => {
-            let keys = list.targets()?;
-            Ok(Remaining {
-                all: false,
-                mark: false,
-                keys,
-            })
-        }
+        TargetsRead::All => Ok(Remaining::All { done: false }),
+        TargetsRead::Listed(list) => Ok(Remaining::Listed(list.targets()?)),
     }
 }
 
@@ -133,7 +131,7 @@ fn call_made(kind: CallKind, x: u32, y: u32, to: TargetsRead) -> Result<Call, Re
         return Err(Refusal::NotAKey);
     }
     let to = untouched(to)?;
-    if kind == CallKind::Unmap && !is_odd(x) {
+    if lacks_inverse(kind, x) {
         return Err(Refusal::EvenMultiplier);
     }
     Ok(Call { kind, x, y, to })

@@ -6,7 +6,7 @@ use Rattle.graph.specs.Packed.{packed_targets}
 use Rattle.graph.specs.Refusals.{Answer, refused, done, map_done, unless}
 use Rattle.graph.specs.Refused.{answered}
 use Rattle.graph.specs.declared.refusal.Refusal.{Refusal}
-use Rattle.graph.specs.Targets.{To, named, these, untouched}
+use Rattle.graph.specs.Targets.{To, named, untouched}
 use Rattle.graph.specs.Steps.{Step, admit, realise, move, finish, join, split, swap, fuse}
 use Rattle.lines.specs.Forms.{StepForm, work, drain_form, IsCall, step_form_tests, IsStep, IsClaim}
 use Rattle.lines.specs.declared.call.Call.{Call as Asked}

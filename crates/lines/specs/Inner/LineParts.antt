@@ -1,7 +1,7 @@
 -- What the parts of the readers answer: a field, the targets, a first word, and what follows it.
 -- Assumes nothing.
 use Rattle.std.specs.Prelude.{ℕ, ◌<◌, ◌≤◌, Bool, true, false, not, cond, ◌&&◌, List, [], ◌∷◌, ◌++◌, ◌≡◌, leb, length, take, drop, Option, Some, None, Result}
-use Rattle.text.specs.Text.{ascii, decimal, commas}
+use Rattle.text.specs.Text.{ascii, decimal}
 use Rattle.text.specs.Inner.PartsRead.{Gap}
 use Rattle.graph.specs.KeyLists.{is_key, are_keys, rising}
 use Rattle.graph.specs.Words.{modulus}

@@ -5,7 +5,7 @@ use native.Mathlib.Omega.{arith}
 use lib.ListN.{length}
 use Rattle.text.specs.Inner.PartsRead.{LiteralAt}
 use Rattle.std.proofs.Common.{Some}
-use Rattle.lines.proofs.Chains.{no_literal, no_number, is_field, value_within}
+use Rattle.lines.proofs.Chains.{no_number, is_field, value_within}
 use Rattle.lines.proofs.fields.number_field.Goals as goal
 use Rattle.lines.proofs.fields.number_field.Goals.{In_ok-from}
 
