@@ -56,16 +56,23 @@ module _ (q : List Tagged) where
   labels_end i h = ap (λ (r : List Tagged). length (queued r)) (drop_of_length-le q h)
 
   -- from the call at a to the last
-  pub adds_counted : (a n : ℕ) → a + n ≡ length q → length (filter (λ i. not (is_op (call_at i))) (range_with_len a n)) ≡ adds_queued (drop a q)
-  adds_counted a zero e = sym (ap adds_queued (drop_of_length-le q (omega arith)))
-  adds_counted a (suc n) e =
-      let more = adds_counted (a + 1) n (omega arith) in
+  adds_from : (a n : ℕ) → a + n ≡ length q → length (filter (λ i. not (is_op (call_at i))) (range_with_len a n)) ≡ adds_queued (drop a q)
+  adds_from a zero e = sym (ap adds_queued (drop_of_length-le q (omega arith)))
+  adds_from a (suc n) e =
+      let more = adds_from (a + 1) n (omega arith) in
       let next = adds_next a (omega arith) in
       by_bool (not (is_op (call_at a)))
       (λ t. rw t (omega (arith, more, next, adds_one (call_at a) t)))
       (λ t. rw t (omega (arith, more, next, adds_none (call_at a) t)))
 
-  pub names_any : (l a n : ℕ) → a + n ≡ length q → list_any (λ i. contains l (labels_in (call_at i))) (range_with_len a n) ≡ contains l (queued (drop a q))
-  names_any l a zero e = sym (ap (λ (r : List Tagged). contains l (queued r)) (drop_of_length-le q (omega arith)))
-  names_any l a (suc n) e =
-      ap (λ (b : Bool). contains l (labels_in (call_at a)) || b) (names_any l (a + 1) n (omega arith)) ∙ sym (names_next a (omega arith) l)
+  names_from : (l a n : ℕ) → a + n ≡ length q → list_any (λ i. contains l (labels_in (call_at i))) (range_with_len a n) ≡ contains l (queued (drop a q))
+  names_from l a zero e = sym (ap (λ (r : List Tagged). contains l (queued r)) (drop_of_length-le q (omega arith)))
+  names_from l a (suc n) e =
+      ap (λ (b : Bool). contains l (labels_in (call_at a)) || b) (names_from l (a + 1) n (omega arith)) ∙ sym (names_next a (omega arith) l)
+
+  -- so from the first
+  pub adds_counted : (n : ℕ) → n ≡ length q → length (filter (λ i. not (is_op (call_at i))) (range_with_len 0 n)) ≡ adds_queued q
+  adds_counted n e = adds_from 0 n (omega arith)
+
+  pub names_any : (l n : ℕ) → n ≡ length q → list_any (λ i. contains l (labels_in (call_at i))) (range_with_len 0 n) ≡ contains l (queued q)
+  names_any l n e = names_from l 0 n (omega arith)

@@ -1,6 +1,6 @@
 -- Some call has the label where the queue's labels have it.
 -- Assumes nothing.
-use Rattle.std.proofs.Common.{get_or, ◌∙◌, refl, arith, rules, tests}
+use Rattle.std.proofs.Common.{◌∙◌, refl, arith, rules, tests}
 use Rattle.std.proofs.lemmas.Iterator.{YieldsList-from_range}
 use Rattle.std.proofs.lemmas.Iterator.Search.{any_from_yields_List}
 use Rattle.graph.specs.KeyLists.{contains}
@@ -14,4 +14,4 @@ returns c =
     let q = (flat_in c.args.image.now).queue in
     let n = c.total.result in
     any_from_yields_List (λ i. contains c.args.label (labels_in (call_at q i))) _ _ _ c.any.ensures.ran (YieldsList-from_range 0 n n refl (omega arith)) (λ x r f k. search (rules, tests))
-    ∙ names_any q c.args.label 0 n c.total.ensures.is
+    ∙ names_any q c.args.label n c.total.ensures.is

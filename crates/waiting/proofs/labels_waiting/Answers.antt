@@ -1,6 +1,6 @@
 -- The loop's invariant: the labels counted, at most four of a call, and those from the call at i on, are the queue's.
 -- Assumes nothing.
-use Rattle.std.proofs.Common.{◌≡◌, ◌≤◌, ◌<◌, length, ap, ◌∙◌, arith, rules}
+use Rattle.std.proofs.Common.{◌≡◌, ◌≤◌, length, ap, ◌∙◌, arith, rules}
 use Rattle.flat.specs.Inner.Queues.{labels_in}
 use Rattle.state.specs.Inner.State.{flat_in}
 use Rattle.state.proofs.ResultLaws.{labels_count}
