@@ -3,3 +3,4 @@ pub mod Admitting
 pub mod Claims
 pub mod Room
 pub mod Worked
+pub mod Refusing

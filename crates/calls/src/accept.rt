@@ -5,6 +5,7 @@ ghost use Rattle.graph.specs.OneAtATime.{add_of, operation};
 ghost use Rattle.graph.specs.Packed.{packed_targets};
 ghost use Rattle.graph.specs.Targets.{untouched};
 ghost use Rattle.graph.specs.RefusalOrder.{first_of};
+ghost use Rattle.graph.specs.Refused.{number_in};
 ghost use Rattle.flat.specs.Inner.Queues.{adds_queued, live_in};
 ghost use Rattle.state.specs.Inner.Operations.{Bounded};
 ghost use Rattle.state.specs.Inner.State.{flat_in, Proper};
@@ -12,6 +13,7 @@ ghost use Rattle.state.specs.Inner.ValidImage.{ValidImage, Works};
 ghost use Rattle.calls.specs.Inner.Accepting.{named_in, flat_live_tests, flat_accept_rest};
 
 use graph::act::Act;
+use graph::refusal::Refusal;
 use graph::remaining::Remaining;
 use records::labels::Labels;
 use state::operation::Operation;
@@ -34,58 +36,57 @@ fn adds_spent(image: &[u8]) -> bool
     64 <= nodes::total(image) + adds_waiting(image)
 }
 
-// The refusal of any call whose form is good, or 0.
-fn refusal(image: &[u8]) -> u32
+// The tests of any call whose form is good.
+fn test_room(image: &[u8]) -> Result<(), Refusal>
     requires { Proper image.now }
-    ensures { result ≡ first_of (flat_live_tests (flat_in image.now)) }
+    ensures { number_in result ≡ first_of (flat_live_tests (flat_in image.now)) }
 {
     if 64 <= live_total(image) {
-        return 14;
+        return Err(Refusal::TooManyLive);
     }
     if 65535 <= results::last(image) {
-        return 15;
+        return Err(Refusal::NoMoreLabels);
     }
-    0
+    Ok(())
 }
 
-pub fn accept_add(image: &mut [u8], value: u32) -> u32
+pub fn accept_add(image: &mut [u8], value: u32) -> Result<(), Refusal>
     requires { ValidImage image.old }
-    ensures { Works (flat_accept_rest (add_of (suc (flat_in image.old).last) value) (flat_in image.old)) image.old image.new result }
+    ensures { Works (flat_accept_rest (add_of (suc (flat_in image.old).last) value) (flat_in image.old)) image.old image.new (number_in result) }
 {
     if adds_spent(image) {
-        return 13;
+        return Err(Refusal::NoMoreAdds);
     }
-    let n = refusal(image);
-    if n != 0 {
-        return n;
-    }
+    test_room(image)?;
     let label = results::last(image) + 1;
     ops::append_add(image, label, value);
     results::set_last(image, label);
-    0
+    Ok(())
 }
 
 // A call that visits nodes: what it does, what it holds at first, and its targets as the line named them, so without a mark.
-pub fn accept_operation(image: &mut [u8], act: Act, start: u32, targets: Remaining) -> u32
+pub fn accept_operation(
+    image: &mut [u8],
+    act: Act,
+    start: u32,
+    targets: Remaining,
+) -> Result<(), Refusal>
     requires { (ValidImage image.old) × (targets ≡ packed_targets (untouched (named_in targets))) × (is_map act ≡ true → start ≡ 0) }
-    ensures { Works (flat_accept_rest (operation act start (named_in targets) (suc (flat_in image.old).last)) (flat_in image.old)) image.old image.new result }
+    ensures { Works (flat_accept_rest (operation act start (named_in targets) (suc (flat_in image.old).last)) (flat_in image.old)) image.old image.new (number_in result) }
 {
-    let n = refusal(image);
-    if n != 0 {
-        return n;
-    }
+    test_room(image)?;
     let label = results::last(image) + 1;
     let labels = Labels {
         count: 1,
         label: [label, 0, 0, 0],
     };
     let o = Operation {
-        act: act,
+        act,
         held: start,
-        targets: targets,
-        labels: labels,
+        targets,
+        labels,
     };
     ops::append_operation(image, o);
     results::set_last(image, label);
-    0
+    Ok(())
 }

@@ -2,12 +2,14 @@
 ghost use Rattle.std.specs.Prelude.{◌≡◌, true, false, ◌+◌, ◌<◌, length, get_or};
 ghost use Rattle.graph.specs.Steps.{admit};
 ghost use Rattle.graph.specs.OneAtATime.{is_op};
+ghost use Rattle.graph.specs.Refused.{number_in};
 ghost use Rattle.flat.specs.Inner.FlatSteps.{no_op, flat_step};
 ghost use Rattle.state.specs.Inner.State.{flat_in, Proper, Shows};
 ghost use Rattle.state.specs.Inner.ValidImage.{ValidImage, Works};
 ghost use Rattle.calls.specs.Inner.Admission.{admitted_at};
 
 use graph::keys::Keys;
+use graph::refusal::Refusal;
 use headsteps::finish_at;
 use state::{nodes, ops, results};
 
@@ -37,18 +39,18 @@ fn admit_operation(image: &mut [u8], w: usize)
     ops::set_place(image, w, n as u8);
 }
 
-pub fn admit(image: &mut [u8]) -> u32
+pub fn admit(image: &mut [u8]) -> Result<(), Refusal>
     requires { ValidImage image.old }
-    ensures { Works (flat_step admit (flat_in image.old)) image.old image.new result }
+    ensures { Works (flat_step admit (flat_in image.old)) image.old image.new (number_in result) }
 {
     let w = ops::first_at(image, 65);
     if w == ops::total(image) {
-        return 21;
+        return Err(Refusal::NoUnit);
     }
     if ops::is_add_at(image, w) {
         admit_add(image, w);
-        return 0;
+        return Ok(());
     }
     admit_operation(image, w);
-    0
+    Ok(())
 }

@@ -1,19 +1,15 @@
-// What an entry returns inside, and the number that the host gets for it.
+// The number that the host gets for what an entry answered.
 ghost use Rattle.std.specs.Prelude.{◌≡◌};
 ghost use Rattle.panel.specs.Returned.{returned_number};
 
-// Served, with a label, a length or 0; or refused, with the refusal's number.
-#[derive(Clone, Copy)]
-pub enum Returned {
-    Done(u32),
-    Refused(u32),
-}
+use graph::refusal::Refusal;
 
-pub fn returned_number(a: Returned) -> i64
+// A label, a length or 0 as it is, and a refusal's number negated.
+pub fn returned_number(a: Result<u32, Refusal>) -> i64
     ensures { result ≡ returned_number a }
 {
     match a {
-        Returned::Done(n) => n as i64,
-        Returned::Refused(n) => 0 - (n as i64),
+        Ok(n) => i64::from(n),
+        Err(refusal) => -i64::from(refusal.number()),
     }
 }

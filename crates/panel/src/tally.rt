@@ -20,13 +20,11 @@ pub struct Tally {
 fn raised_at(own: u8, place: u8, count: u32, by: u32) -> u32
     ensures { result ≡ raised_at place by own count }
 {
-    if own != place {
-        return count;
+    if own == place {
+        count.saturating_add(by)
+    } else {
+        count
     }
-    if by > 4294967295 - count {
-        return 4294967295;
-    }
-    count + by
 }
 
 impl Tally {
@@ -51,5 +49,5 @@ impl Tally {
 pub fn raise(t: &mut Tally, place: u8)
     ensures { t.new ≡ raised t.old place 1 }
 {
-    *t = (*t).raised(place, 1);
+    *t = t.raised(place, 1);
 }

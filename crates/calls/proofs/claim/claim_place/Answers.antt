@@ -17,8 +17,8 @@ use Rattle.calls.proofs.claim.claim_place.Goals.{After-is_queued, Start}
 pub returns-then-label-eq0 : goal.returns-then-label-eq0
 returns-then-label-eq0 c = finds_zero c.args.label (flat_in c.args.image.now) c.if-label-eq0.true
 
-pub returns-then-last-label : goal.returns-then-last-label
-returns-then-last-label c = finds_above c.args.label (flat_in c.args.image.now) (omega (arith, c.last.ensures, c.if-last-label.true))
+pub returns-then-from-label : goal.returns-then-from-label
+returns-then-from-label c = finds_above c.args.label (flat_in c.args.image.now) (omega (arith, c.from.ensures, c.last.ensures, c.if-from-label.true))
 
 -- the label was given; whether it waits is what `is_queued` said
 module _ (q : After-is_queued) where
@@ -29,7 +29,7 @@ module _ (q : After-is_queued) where
   low = omega (arith, q.if-label-eq0.false)
 
   high : q.args.label ≤ f.last
-  high = omega (arith, q.last.ensures, q.if-last-label.false)
+  high = omega (arith, q.from.ensures, q.last.ensures, q.if-from-label.false)
 
   order : rising (labels_of_results f.results) ≡ true
   order = q.requires.valid.order
