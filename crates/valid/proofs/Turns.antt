@@ -1,19 +1,19 @@
 -- One turn of each loop of the tests: the answer for the whole is the answer for what is left.
 -- Assumes nothing.
-use mathlib.Core.Path.{◌≡◌, refl, sym, ap, ◌∙◌}
+use mathlib.Core.Path.{◌≡◌, refl, sym, ap, subst, ◌∙◌}
 use Prim.Native.Nat.{ℕ, zero, suc, ◌+◌, ◌-◌, ◌%◌, ◌≤◌, ◌<◌}
 use native.Mathlib.Numerals.{add-one}
 use native.Mathlib.Omega.{arith}
 use mathlib.Core.Bool.{Bool, true, false, cond, not, ◌&&◌, ◌||◌, or-false, true≢false, or_assoc}
 use mathlib.Core.List.{List, [], ◌∷◌, ◌++◌, append_assoc, append-nil}
-use lib.Dec.{eqb, leb, ltb}
+use lib.Dec.{eqb, leb}
 use native.Mathlib.Decide.{dec_lt}
 use borrow.Rule.Slice.PartMut.{put_mid}
 use Rattle.std.specs.Prelude.{min}
 use Rattle.std.proofs.lemmas.Slice.{take-put_mid}
 use lib.ListN.{length, length-append, length-take, get_or, set, take, drop, replicate, drop_of_length-le, length-drop, length-set}
-use lib.Seq.{drop-cons, take-suc, take_all, take-suc-set, take-add, take-take, take-append-add, take_at, drop_at, drop-append-le, length-take-le, get_or-drop, get_or-set_same, get_or-set_other}
-use borrow.Author.Tests.{eq-eqb, eqb-true, eqb-false, ne_eqb, le-leb, lt-leb, ltb-false}
+use lib.Seq.{drop-cons, take-suc, take_all, take-suc-set, take-add, take-take, take-append-add, take_at, drop_at, drop-append-le, length-take-le, get_or-take, get_or-set_same, get_or-set_other}
+use borrow.Author.Tests.{eq-eqb, eqb-true, eqb-false, ne_eqb, le-leb, lt-leb}
 use Rattle.graph.specs.KeyLists.{contains}
 use Rattle.graph.proofs.Answers.{and_right}
 use Rattle.records.specs.declared.op.OpRecord.{OpRecord}
@@ -22,22 +22,6 @@ use Rattle.valid.specs.Inner.Decoded.{labels_of}
 use Rattle.valid.specs.Inner.Tests.{walk, is_add_record, adds_among, op_labels, result_labels, given_once, Gathers, Padded}
 
 -- TESTS one after the other
-abbrev pub all_of : List Bool → Bool
-all_of [] = true
-all_of (t ∷ []) = t
-all_of (t ∷ u ∷ us) = t && all_of (u ∷ us)
-
-and_none : (a b : Bool) → b ≡ false → (a && b) ≡ false
-and_none true b e = e
-and_none false b e = refl
-
-pub none_at : (ts : List Bool) (k : ℕ) → get_or ts k true ≡ false → false ≡ all_of ts
-none_at [] k e = absurd (true≢false e)
-none_at (t ∷ []) zero e = sym e
-none_at (t ∷ []) (suc k) e = absurd (true≢false e)
-none_at (t ∷ u ∷ us) zero e = sym (ap (λ (x : Bool). x && all_of (u ∷ us)) e)
-none_at (t ∷ u ∷ us) (suc k) e = sym (and_none t (all_of (u ∷ us)) (sym (none_at (u ∷ us) k e)))
-
 pub yes_test : {a b c : Bool} → a ≡ true → c ≡ b → c ≡ (a && b)
 yes_test {a} {b} {c} e q = q ∙ sym (ap (λ (x : Bool). x && b) e)
 
@@ -250,3 +234,53 @@ module _ (l : List ℕ) (k : ℕ) (seen : List Bool) (S : Seen l (k + 1) seen) (
       go : (y : ℕ) (b : Bool) → eqb y x ≡ b → (b || contains y (drop (k + 1) l)) ≡ true → get_or (set seen (x % 256) true) (y % 256) false ≡ true
       go y true q t = ap (λ (n : ℕ). get_or (set seen (x % 256) true) (n % 256) false) (eqb-true y x q) ∙ get_or-set_same seen (x % 256) true false (omega (arith, S.size))
       go y false q t = at y (eqb (x % 256) (y % 256)) refl (S.marked y t)
+
+-- ONE TURN of the loop that looks at the label before i
+module _ (n last : ℕ) (pool : List ℕ) (p : Padded n pool) (i : ℕ) (up : i ≤ n) (more : 0 < i) where
+  abbrev live : List ℕ
+  live = take n pool
+
+  abbrev here : ℕ
+  here = get_or pool (i - 1) 0
+
+  back : i - 1 + 1 ≡ i
+  back = omega arith
+
+  room : n ≤ length pool
+  room = omega (arith, p.size)
+
+  inside : i - 1 < length live
+  inside = omega (arith, length-take-le n pool room)
+
+  read : get_or live (i - 1) 0 ≡ here
+  read = get_or-take n pool (i - 1) 0 (omega arith)
+
+  pub turn_zero : here < 1 → false ≡ given_once last live
+  turn_zero a = given_none last (i - 1) live (given_zero last live (i - 1) here inside read a)
+
+  module _ (a : 1 ≤ here) where
+    pub turn_late : last < here → false ≡ given_once last live
+    turn_late b = given_none last (i - 1) live (given_late last live (i - 1) here inside read a b)
+
+    searched : contains here (take 64 (drop (i - 1 + 1) pool)) ≡ contains here (drop (i - 1 + 1) live)
+    searched = among_padded n pool p (i - 1 + 1) (omega arith) here a
+
+    module _ (b : here ≤ last) where
+      pub turn_twice : contains here (take 64 (drop (i - 1 + 1) pool)) ≡ true → false ≡ given_once last live
+      turn_twice t = given_none last (i - 1) live (given_twice last live (i - 1) here inside read a b (sym searched ∙ t))
+
+      module _ (seen : List Bool) (S : Seen live i seen) (rest : given_once last (drop i live) ≡ true) where
+        kept_seen : Seen live (i - 1 + 1) seen
+        kept_seen = subst (λ (k : ℕ). Seen live k seen) (sym back) S
+
+        -- it was searched where its lower byte is noted
+        pub turn_next : (get_or seen (here % 256) false ≡ true → contains here (take 64 (drop (i - 1 + 1) pool)) ≡ false)
+            → (given_once last (drop (i - 1) live) ≡ true) × Seen live (i - 1) (set seen (here % 256) true)
+        turn_next unfound = (
+          sym (given_next last live (i - 1) here inside read a b (go (get_or seen (here % 256) false) refl)) ∙ ap (λ (k : ℕ). given_once last (drop k live)) back ∙ rest,
+          one_seen live (i - 1) seen kept_seen here inside read,
+        )
+          where
+            go : (m : Bool) → get_or seen (here % 256) false ≡ m → contains here (drop (i - 1 + 1) live) ≡ false
+            go true q = sym searched ∙ unfound q
+            go false q = unseen live (i - 1) seen kept_seen here q
