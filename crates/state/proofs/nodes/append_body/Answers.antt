@@ -13,6 +13,6 @@ append_node-requires c =
 
 pub returns : goal.returns
 returns c =
-    let n = c.node_count-n in
+    let n = c.node_count in
     let k = ap (λ m. m + 1) (n.ensures ∙ node_count_law c.args.image.now c.requires.0) ∙ add-one _ in
-    body_appended c.args.image.now c.requires.0 _ (n.result + 1) c.args.value _ k c.none-links.ensures c.append_node.ensures
+    body_appended c.args.image.now c.requires.0 _ (n.result + 1) c.args.value _ k c.none.ensures c.append_node.ensures

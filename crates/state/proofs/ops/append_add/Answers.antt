@@ -9,4 +9,4 @@ shape_of-image c = c.append_record.ensures.proper.sound.size ∙ sym c.requires.
 
 pub returns : goal.returns
 returns c =
-    append_as c.args.image.now c.requires.0 _ c.add_record-r.ensures c.append_record.ensures
+    append_as c.args.image.now c.requires.0 _ c.add_record.ensures c.append_record.ensures

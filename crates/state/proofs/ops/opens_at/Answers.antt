@@ -5,4 +5,4 @@ use Rattle.flat.specs.Flat.{Tagged}
 use Rattle.state.proofs.ops.opens_at.Goals as goal
 
 pub returns : goal.returns
-returns c = ap (λ (x : Tagged). x.opens) (sym c.record_at-r.ensures.is)
+returns c = ap (λ (x : Tagged). x.opens) (sym c.record_at.ensures.is)

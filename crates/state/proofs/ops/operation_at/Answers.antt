@@ -7,8 +7,8 @@ use Rattle.state.proofs.ops.operation_at.Goals as goal
 
 pub operation_of-requires : goal.operation_of-requires
 operation_of-requires c =
-    let r = c.record_at-r in
+    let r = c.record_at in
     (is_add_law r.result r.ensures ∙ ap not c.requires.2, r.ensures.clean)
 
 pub returns : goal.returns
-returns c = rw c.record_at-r.ensures.is c.operation_of.ensures
+returns c = rw c.record_at.ensures.is c.operation_of.ensures
