@@ -3,13 +3,8 @@
 use mathlib.Core.Path.{ap, ◌∙◌}
 use Prim.Native.Nat.{◌+◌}
 use native.Mathlib.Numerals.{add-one}
-use native.Mathlib.Omega.{arith}
 use Rattle.state.proofs.NodeLaws.{node_count_law, body_appended}
 use Rattle.state.proofs.nodes.append_body.Goals as goal
-
-pub append_node-requires : goal.append_node-requires
-append_node-requires c =
-    (c.requires.0.sound, omega (arith, node_count_law c.args.image.now c.requires.0))
 
 pub returns : goal.returns
 returns c =
