@@ -6,16 +6,12 @@ use mathlib.Core.List.{List, [], ◌∷◌, ◌++◌, append-nil, append_assoc}
 use native.Mathlib.Omega.{arith}
 use native.Mathlib.Numerals.{add-one}
 use lib.ListN.{length, take, drop, get_or, length-append, take-append-drop}
-use lib.Seq.{take-suc, take_all, length-take-le}
+use lib.Seq.{take-suc, length-take-le}
 use Rattle.text.specs.Text.{decimal, further, commas}
 use Rattle.text.specs.Inner.Put.{TextPut}
 use Rattle.text.proofs.CommaLists.{further_append}
-use Rattle.text.proofs.Pasting.{written_none, written_room, written_then, written_size}
+use Rattle.text.proofs.Pasting.{written_none, written_room, written_then}
 use Rattle.print.specs.Inner.Values.{entry}
-
-pub entry_first : (place key k : ℕ) → place ≡ 0 → k ≡ key → entry place key ≡ decimal k
-entry_first zero key k h e = ap decimal (sym e)
-entry_first (suc place) key k h e = absurd (omega arith)
 
 pub entry_later : (place key k : ℕ) → (place ≡ 0 → ⊥) → k ≡ key → entry place key ≡ 44 ∷ decimal k
 entry_later zero key k h e = absurd (h refl)
@@ -61,12 +57,6 @@ module _ (s : List ℕ) (at : ℕ) (l out : List ℕ) (p i : ℕ) (fits : at + l
     pub entry_more : (out' : List ℕ) (p' : ℕ) → TextPut out p (entry i k) out' p' → TextPut s at (commas (take (i + 1) l)) out' p'
     entry_more out' p' v = rw (commas_next l i h, ← e) (written_then w v room)
 
-  pub entries_size : length out ≡ length s
-  entries_size = written_size w (omega (arith, commas_front i l))
-
-  pub entries_all : length l ≤ i → TextPut s at (commas l) out p
-  entries_all h = rw (take_all i l h) at w
-
 pub entries_none : (s : List ℕ) (at : ℕ) (l : List ℕ) → TextPut s at (commas (take 0 l)) s at
 unfolding commas
 entries_none s at l = written_none s at
@@ -75,7 +65,3 @@ entries_none s at l = written_none s at
 
 pub length_next : (l : List ℕ) (i : ℕ) → i < length l → length (commas (take (i + 1) l)) ≡ length (commas (take i l)) + length (entry i (get_or l i 0))
 length_next l i h = ap length (commas_next l i h) ∙ length-append (commas (take i l)) (entry i (get_or l i 0))
-
-pub length_none : (l : List ℕ) → length (commas (take 0 l)) ≡ 0
-unfolding commas
-length_none l = refl

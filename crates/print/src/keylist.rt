@@ -9,22 +9,16 @@ ghost use Rattle.print.specs.Inner.Lengths.{EntryLength, KeysLength};
 use graph::keys::Keys;
 use text::number::{decimal_len, put_decimal};
 
-fn wide(x: u8) -> u32
-    ensures { result ≡ x }
-{
-    x as u32
-}
-
 // Writes the key that stands at `place` of a list: a comma before each but the first.
 fn put_entry(out: &mut [u8], at: usize, place: usize, key: u8) -> usize
     requires { at + length (entry place key) ≤ length out.old }
     ensures { TextPut out.old at (entry place key) out.new result }
 {
     if place == 0 {
-        return put_decimal(out, at, wide(key));
+        return put_decimal(out, at, u32::from(key));
     }
     out[at] = b',';
-    put_decimal(out, at + 1, wide(key))
+    put_decimal(out, at + 1, u32::from(key))
 }
 
 // Writes the keys from `at` on, and returns the place after them.
@@ -32,12 +26,9 @@ pub fn put_keys(out: &mut [u8], at: usize, keys: Keys) -> usize
     requires { at + length (commas (listed keys)) ≤ length out.old }
     ensures { TextPut out.old at (commas (listed keys)) out.new result }
 {
-    let n = keys.len();
     let mut p = at;
-    let mut i = 0;
-    while i < n {
+    for i in 0..keys.len() {
         p = put_entry(out, p, i, keys.at(i));
-        i += 1;
     }
     p
 }
@@ -45,22 +36,16 @@ pub fn put_keys(out: &mut [u8], at: usize, keys: Keys) -> usize
 fn entry_len(place: usize, key: u8) -> usize
     ensures { EntryLength place key result }
 {
-    if place == 0 {
-        return decimal_len(wide(key));
-    }
-    1 + decimal_len(wide(key))
+    usize::from(place != 0) + decimal_len(u32::from(key))
 }
 
 // How many bytes `put_keys` writes.
 pub fn keys_len(keys: Keys) -> usize
     ensures { KeysLength keys result }
 {
-    let n = keys.len();
     let mut sum = 0;
-    let mut i = 0;
-    while i < n {
+    for i in 0..keys.len() {
         sum += entry_len(i, keys.at(i));
-        i += 1;
     }
     sum
 }

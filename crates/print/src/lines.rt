@@ -26,7 +26,7 @@ pub fn put_field(out: &mut [u8], at: usize, name: &[u8], v: u32) -> usize
     requires { at + length (numbered name.now v) ≤ length out.old }
     ensures { TextPut out.old at (numbered name.now v) out.new result }
 {
-    put_wide_field(out, at, name, v as u64)
+    put_wide_field(out, at, name, u64::from(v))
 }
 
 // Writes two numbers and a list of keys, each after its name, and a newline.
@@ -51,6 +51,7 @@ pub fn put_line(
 }
 
 // Writes a result's line from `at` on, and returns the place after it.
+#[tactic(auto, unfolding(text::specs::Text::ascii))]
 pub fn put_result(out: &mut [u8], at: usize, label: u32, value: u32, left: Keys) -> usize
     requires { at + length (result_text (result_by_value label value left)) ≤ length out.old }
     ensures { TextPut out.old at (result_text (result_by_value label value left)) out.new result }
@@ -61,6 +62,7 @@ pub fn put_result(out: &mut [u8], at: usize, label: u32, value: u32, left: Keys)
 }
 
 // Writes a node's line from `at` on, and returns the place after it.
+#[tactic(auto, unfolding(text::specs::Text::ascii))]
 pub fn put_node(out: &mut [u8], at: usize, key: u32, value: u32, links: Keys) -> usize
     requires { at + length (node_text (node_by_value key value links)) ≤ length out.old }
     ensures { TextPut out.old at (node_text (node_by_value key value links)) out.new result }
@@ -69,6 +71,7 @@ pub fn put_node(out: &mut [u8], at: usize, key: u32, value: u32, links: Keys) ->
 }
 
 // Writes the listing's head from `at` on, and returns the place after it.
+#[tactic(auto, unfolding(text::specs::Text::ascii))]
 pub fn put_head(out: &mut [u8], at: usize, nodes: u32, results: u32, pending: u32) -> usize
     requires { at + length (head_text nodes results pending) ≤ length out.old }
     ensures { TextPut out.old at (head_text nodes results pending) out.new result }
@@ -81,6 +84,7 @@ pub fn put_head(out: &mut [u8], at: usize, nodes: u32, results: u32, pending: u3
 
 // Writes what cgrun prints of a refused line from `at` on, and returns the place after it. An input may have more lines
 // than a number of 32 bits counts.
+#[tactic(auto, unfolding(text::specs::Text::ascii))]
 pub fn put_refusal(out: &mut [u8], at: usize, line: u64, refusal: u32) -> usize
     requires { at + length (refusal_text line refusal) ≤ length out.old }
     ensures { TextPut out.old at (refusal_text line refusal) out.new result }
@@ -92,18 +96,21 @@ pub fn put_refusal(out: &mut [u8], at: usize, line: u64, refusal: u32) -> usize
 
 // The lengths: the names and the newline, the digits, the keys.
 
+#[tactic(auto, unfolding(text::specs::Text::ascii))]
 pub fn result_len(label: u32, value: u32, left: Keys) -> usize
     ensures { LineLength (result_text (result_by_value label value left)) result }
 {
     20 + decimal_len(label) + decimal_len(value) + keys_len(left)
 }
 
+#[tactic(auto, unfolding(text::specs::Text::ascii))]
 pub fn node_len(key: u32, value: u32, links: Keys) -> usize
     ensures { LineLength (node_text (node_by_value key value links)) result }
 {
     19 + decimal_len(key) + decimal_len(value) + keys_len(links)
 }
 
+#[tactic(auto, unfolding(text::specs::Text::ascii))]
 pub fn head_len(nodes: u32, results: u32, pending: u32) -> usize
     ensures { LineLength (head_text nodes results pending) result }
 {

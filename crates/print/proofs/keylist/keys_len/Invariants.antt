@@ -1,6 +1,6 @@
 -- `print::keylist::keys_len` meets its contract. The loop's invariant: the sum is the length of the entries before place i.
 -- Assumes nothing.
-use Prim.Native.Nat.{◌-◌, ◌*◌, ◌≤◌}
+use Prim.Native.Nat.{◌*◌, ◌≤◌}
 use mathlib.Core.Path.{◌≡◌}
 use lib.ListN.{length, take}
 use Rattle.graph.specs.Packed.{listed}
@@ -8,7 +8,4 @@ use Rattle.text.specs.Text.{commas}
 use Rattle.print.proofs.keylist.keys_len.Given as goal
 
 abbrev pub invariant-loop-i : goal.invariant-loop-i
-invariant-loop-i l = (l.i ≤ l.n) × (l.sum ≡ length (commas (take l.i (listed l.keys)))) × (l.sum ≤ 11 * l.i)
-
-abbrev pub decreases-loop-i : goal.decreases-loop-i
-decreases-loop-i l = l.n - l.i
+invariant-loop-i l = (l.sum ≡ length (commas (take l.i (listed l.keys)))) × (l.sum ≤ 11 * l.i)
