@@ -5,12 +5,12 @@ use native.Mathlib.Nat.{zero-add}
 use Rattle.flat.specs.Inner.Nested.{at_place}
 use Rattle.flat.specs.Inner.FlatSteps.{no_op}
 use Rattle.state.specs.Inner.State.{flat_in}
-use Rattle.state.proofs.Searching.{searched}
+use Rattle.state.proofs.Searching.{searched_all}
 use Rattle.state.proofs.ops.first_at.Goals as goal
 
 pub returns : goal.returns
 returns c =
     let q = (flat_in c.args.image.now).queue in
     c.unwrap_or.ensures
-    ∙ (searched (at_place c.args.k) q no_op _ _ _ _ c.find.ensures.ran (λ x b f k. (search rules, search (rules, tests))) c.total-n.ensures.is (omega arith)).is
+    ∙ (searched_all (at_place c.args.k) q no_op _ _ _ _ c.find.ensures.ran (λ x b f k. (search rules, search (rules, tests))) (omega arith) c.total-n.ensures.is).is
     ∙ zero-add _

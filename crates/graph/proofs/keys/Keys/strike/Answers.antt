@@ -1,10 +1,8 @@
 -- The loop's invariant: what is kept is the struct of the keys passed, without the key.
 -- Assumes nothing.
 use mathlib.Core.Path.{◌≡◌, sym, ap, ◌∙◌}
-use mathlib.Core.List.{List}
-use Prim.Native.Nat.{ℕ, ◌≤◌}
+use Prim.Native.Nat.{◌≤◌}
 use lib.ListN.{length, take, get_or}
-use lib.Seq.{take_all}
 use Rattle.graph.specs.KeyLists.{strike}
 use Rattle.graph.specs.Packed.{packed}
 use Rattle.graph.proofs.KeyLaws.{strike_hit, strike_miss, strike_few, length_listed, normal, linked_next}
@@ -34,10 +32,3 @@ loop-key-preserved c =
           ∙ ap packed (strike_miss keys i c.loop-key-test.true a.k (λ e. w.if-key-k.true (sym e)))
       | else-key-k w ↦ w.kept-is ∙ c.loop-key.invariant ∙ ap packed (strike_hit keys i c.loop-key-test.true a.k (sym w.if-key-k.false))
     ]
-
-pub returns : goal.returns
-returns c =
-    let a = c.args in
-    let keys = c.as_slice-key-items.result.now in
-    c.loop-key.invariant
-    ∙ ap (λ (ts : List ℕ). packed (strike a.k ts)) (take_all c.loop-key.key-index keys c.loop-key-test.false ∙ c.as_slice-key-items.ensures)
