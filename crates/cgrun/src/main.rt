@@ -9,17 +9,11 @@ use program::serve::serve_end;
 use script::serve_script;
 
 // A write that fails is passed over.
-fn write(rt: &impl Print, out: &[u8], n: usize) {
-    if n <= out.len() {
-        let _ = rt.write_all(&out[..n]);
-    }
-}
-
 fn print_listing(rt: &impl Print, image: &[u8], out: &mut [u8])
     requires { 16512 ≤ length out.old }
 {
     let n = serve_end(image, out);
-    write(rt, out, n);
+    let _ = rt.write_all(&out[..n]);
 }
 
 fn main(rt: HostRuntime) {

@@ -11,7 +11,11 @@ use lib.Signed.{lt_z, le_z, ◌≤ℤ◌, le_z_yes, lt_z_yes, lt_z_no, <ℤ-≤�
 use borrow.Author.Tests.{lt-ltb, le-ltb, ltb-true, ltb-false}
 use Rattle.graph.specs.Words.{modulus, signed}
 use Rattle.graph.specs.Cases.{LeastSigned}
-use Rattle.graph.specs.Inner.Biased.{biased}
+use Rattle.graph.specs.Affine.{plus}
+
+-- how far a number lies, as a signed one, above the least; that of 2,147,483,648 is 0
+abbrev pub biased : ℕ → ℕ
+biased v = plus v 2147483648
 
 same_order : (a b c d : ℕ) → (a < b → c < d) → (b ≤ a → d ≤ c) → ltb a b ≡ ltb c d
 same_order a b c d f g = go (ltb a b) refl

@@ -1,4 +1,3 @@
 -- What states the contracts of functions that no host in C calls; a reader of the promises needs none of it.
-pub mod Biased
 pub mod Maps
 pub mod SwapRows

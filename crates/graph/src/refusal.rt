@@ -6,45 +6,45 @@ ghost use Rattle.graph.specs.Refused.{refusal_number};
 #[derive(Clone, Copy, Debug, PartialEq, Eq)]
 pub enum Refusal {
     // The image has another length.
-    WrongLength,
+    WrongLength = 1,
     // The bytes are the image of no session.
-    NotAnImage,
+    NotAnImage = 2,
     // The line is none of the forms.
-    NotALine,
+    NotALine = 10,
     // A number that stands for a key is none.
-    NotAKey,
+    NotAKey = 11,
     // More than eight targets, or not strictly rising.
-    BadTargets,
+    BadTargets = 12,
     // Nodes and waiting adds are 64.
-    NoMoreAdds,
+    NoMoreAdds = 13,
     // 64 calls are live.
-    TooManyLive,
+    TooManyLive = 14,
     // Each label was given.
-    NoMoreLabels,
+    NoMoreLabels = 15,
     // No node has the key.
-    NoNode,
+    NoNode = 20,
     // No call waits, or there is no such unit.
-    NoUnit,
+    NoUnit = 21,
     // The step is not allowed there.
-    NotAllowed,
+    NotAllowed = 22,
     // The label was never given.
-    NeverGiven,
+    NeverGiven = 30,
     // The call is pending.
-    StillPending,
+    StillPending = 31,
     // The result was claimed.
-    AlreadyClaimed,
+    AlreadyClaimed = 32,
     // The output is too short for the result's line, or the listing.
-    ShortOutput,
+    ShortOutput = 33,
     // The output is too short for the page, or the lines of one.
-    ShortForPage,
+    ShortForPage = 34,
     // The bytes are no page.
-    NotAPage,
+    NotAPage = 35,
     // No map undoes a map whose a is even.
-    EvenMultiplier,
+    EvenMultiplier = 40,
     // More than 64 lines are asked for.
-    LoadTooLong,
+    LoadTooLong = 46,
     // The output is too short for the lines.
-    ShortForLoad,
+    ShortForLoad = 47,
 }
 
 impl Refusal {
@@ -52,27 +52,6 @@ impl Refusal {
     pub fn number(self) -> u32
         ensures { result ≡ refusal_number self }
     {
-        match self {
-            Refusal::WrongLength => 1,
-            Refusal::NotAnImage => 2,
-            Refusal::NotALine => 10,
-            Refusal::NotAKey => 11,
-            Refusal::BadTargets => 12,
-            Refusal::NoMoreAdds => 13,
-            Refusal::TooManyLive => 14,
-            Refusal::NoMoreLabels => 15,
-            Refusal::NoNode => 20,
-            Refusal::NoUnit => 21,
-            Refusal::NotAllowed => 22,
-            Refusal::NeverGiven => 30,
-            Refusal::StillPending => 31,
-            Refusal::AlreadyClaimed => 32,
-            Refusal::ShortOutput => 33,
-            Refusal::ShortForPage => 34,
-            Refusal::NotAPage => 35,
-            Refusal::EvenMultiplier => 40,
-            Refusal::LoadTooLong => 46,
-            Refusal::ShortForLoad => 47,
-        }
+        self as u32
     }
 }

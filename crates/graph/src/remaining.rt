@@ -5,12 +5,11 @@ ghost use Rattle.graph.specs.Packed.{packed, targets_in, packed_targets};
 
 use crate::keys::Keys;
 
-// Where `all` holds, `mark` says that it is done at this station, and no key is listed. Elsewhere there is no mark.
-#[derive(Clone, Copy)]
-pub struct Remaining {
-    pub all: bool,
-    pub mark: bool,
-    pub keys: Keys,
+// All nodes, `done` at this station or not, or the keys listed that are left.
+#[derive(Clone, Copy, Debug)]
+pub enum Remaining {
+    All { done: bool },
+    Listed(Keys),
 }
 
 impl Remaining {
@@ -18,40 +17,29 @@ impl Remaining {
     pub fn reaches(self, key: u8) -> bool
         ensures { result ≡ reaches key (targets_in self) }
     {
-        let keys = self.keys;
-        if self.all {
-            return !self.mark;
+        match self {
+            Remaining::All { done } => !done,
+            Remaining::Listed(keys) => keys.contains(key),
         }
-        keys.contains(key)
     }
 
     // After the act at the node with this key.
     pub fn struck(self, key: u8) -> Self
         ensures { result ≡ packed_targets (struck key (targets_in self)) }
     {
-        let keys = self.keys;
-        if self.all {
-            return Remaining {
-                all: true,
-                mark: true,
-                keys: Keys::none(),
-            };
-        }
-        Remaining {
-            all: false,
-            mark: false,
-            keys: keys.strike(key),
+        match self {
+            Remaining::All { .. } => Remaining::All { done: true },
+            Remaining::Listed(keys) => Remaining::Listed(keys.strike(key)),
         }
     }
 
     pub fn none_left(self) -> bool
         ensures { result ≡ none_left (targets_in self) }
     {
-        let keys = self.keys;
-        if self.all {
-            return false;
+        match self {
+            Remaining::All { .. } => false,
+            Remaining::Listed(keys) => keys.as_slice().is_empty(),
         }
-        keys.len() == 0
     }
 
     // A result's `left`.
@@ -59,39 +47,31 @@ impl Remaining {
         requires { self ≡ packed_targets (targets_in self) }
         ensures { result ≡ packed (left_of (targets_in self)) }
     {
-        self.keys
+        match self {
+            Remaining::All { .. } => Keys::none(),
+            Remaining::Listed(keys) => keys,
+        }
     }
 
     // Do they share no target?
     pub fn disjoint(self, other: Remaining) -> bool
         ensures { result ≡ disjoint_targets (targets_in self) (targets_in other) }
     {
-        if self.all {
-            return other.none_left();
+        match (self, other) {
+            (Remaining::All { .. }, _) => other.none_left(),
+            (_, Remaining::All { .. }) => self.none_left(),
+            (Remaining::Listed(keys), Remaining::Listed(others)) => keys.disjoint(others),
         }
-        if other.all {
-            return self.none_left();
-        }
-        let keys = self.keys;
-        keys.disjoint(other.keys)
     }
 
     pub fn same(self, other: Remaining) -> bool
         ensures { result ≡ same_targets (targets_in self) (targets_in other) }
     {
-        let keys = self.keys;
-        if self.all {
-            if other.all {
-                if self.mark {
-                    return other.mark;
-                }
-                return !other.mark;
-            }
-            return false;
+        match (self, other) {
+            (Remaining::All { done }, Remaining::All { done: other_done }) => done == other_done,
+            (Remaining::Listed(keys), Remaining::Listed(others)) => keys.same(others),
+            (Remaining::All { .. }, Remaining::Listed(_))
+            | (Remaining::Listed(_), Remaining::All { .. }) => false,
         }
-        if other.all {
-            return false;
-        }
-        keys.same(other.keys)
     }
 }

@@ -4,6 +4,7 @@
 ghost use Rattle.std.specs.Prelude.{◌≡◌, true, ◌-◌, ◌≤◌, ◌<◌, length, get_or};
 ghost use Rattle.graph.specs.Nodes.{act_by};
 ghost use Rattle.graph.specs.OneAtATime.{op_of, is_op};
+ghost use Rattle.graph.specs.Refused.{number_in};
 ghost use Rattle.graph.specs.Steps.{realise, move, finish};
 ghost use Rattle.flat.specs.Inner.FlatSteps.{no_op, no_node, move_on, map_from, first_in, with_queue, rule_at, sought_at, act_at, take_out, finish_place, known, flat_step, hand_on};
 ghost use Rattle.state.specs.Inner.Operations.{op_value, Normal, Carries, Bounded};
@@ -13,11 +14,12 @@ ghost use Rattle.units.specs.Inner.Numbered.{spotted};
 ghost use Rattle.headsteps.specs.Inner.Heads.{body_value, NoAdds, locate_first};
 
 use graph::act;
+use graph::refusal::Refusal;
 use graph::task::{Sought, TaskRule, rule_of};
 use state::nodes::Body;
 use state::operation::Operation;
 use state::{nodes, ops, results};
-use units::{Spot, unit_at};
+use units::{UnitPlace, unit_at};
 
 // The first task rule that holds for the operation at i, at the station with key k.
 fn rule_at(image: &[u8], k: u8, i: usize) -> TaskRule
@@ -34,15 +36,9 @@ pub fn first_for(image: &[u8], sought: Sought, k: u8, h: usize, e: usize) -> usi
     requires { (Proper image.now) × (h ≤ e) × (e ≤ length (flat_in image.now).queue) × (NoAdds h e (flat_in image.now).queue) }
     ensures { Bounded (first_in (sought_at sought k) h e (flat_in image.now).queue) e result }
 {
-    let mut i = h;
-    while i < e {
-        let rule = rule_at(image, k, i);
-        if sought.includes(rule) {
-            return i;
-        }
-        i += 1;
-    }
-    e
+    (h..e)
+        .find(|&i| sought.includes(rule_at(image, k, i)))
+        .unwrap_or(e)
 }
 
 // The operation after it acted at a node: the node's key is struck, an all-call is marked.
@@ -84,11 +80,8 @@ pub fn move_unit(image: &mut [u8], k: u8, h: usize, e: usize)
     requires { (Proper image.old) × (1 ≤ k) × (h ≤ e) × (e ≤ length (flat_in image.old).queue) }
     ensures { Shows (with_queue (flat_in image.old) (map_from (move_on (k - 1)) h e (flat_in image.old).queue)) image.new }
 {
-    let next = k - 1;
-    let mut i = h;
-    while i < e {
-        ops::move_op(image, i, next);
-        i += 1;
+    for i in h..e {
+        ops::move_op(image, i, k - 1);
     }
 }
 
@@ -129,66 +122,53 @@ pub fn finish_at(image: &mut [u8], p: usize, e: usize)
 }
 
 // In the head unit, the first operation that a step looks for: its place, and where the unit ends.
-fn first_in_head(image: &[u8], sought: Sought, k: u8) -> Spot
+fn first_in_head(image: &[u8], sought: Sought, k: u8) -> Result<UnitPlace, Refusal>
     requires { ValidImage image.now }
     ensures { locate_first sought k (flat_in image.now) ≡ spotted result }
 {
-    match unit_at(image, k, 1) {
-        Spot::Refused(n) => Spot::Refused(n),
-        Spot::At(h, e) => {
-            let p = first_for(image, sought, k, h, e);
-            if p == e {
-                return Spot::Refused(22);
-            }
-            Spot::At(p, e)
-        }
+    let head = unit_at(image, k, 1)?;
+    let p = first_for(image, sought, k, head.start, head.end);
+    if p == head.end {
+        return Err(Refusal::NotAllowed);
     }
+    Ok(UnitPlace {
+        start: p,
+        end: head.end,
+    })
 }
 
 // In the head unit, the first operation that targets the node acts and strikes its key or is marked.
-pub fn realise(image: &mut [u8], k: u8) -> u32
+pub fn realise(image: &mut [u8], k: u8) -> Result<(), Refusal>
     requires { ValidImage image.old }
-    ensures { Works (flat_step (realise k) (flat_in image.old)) image.old image.new result }
+    ensures { Works (flat_step (realise k) (flat_in image.old)) image.old image.new (number_in result) }
 {
-    match first_in_head(image, Sought::Acts, k) {
-        Spot::Refused(n) => n,
-        Spot::At(p, _) => {
-            act_at(image, k, p);
-            0
-        }
-    }
+    let place = first_in_head(image, Sought::Acts, k)?;
+    act_at(image, k, place.start);
+    Ok(())
 }
 
 // In the head unit, the first operation that may finish stores its results and goes.
-pub fn finish(image: &mut [u8], k: u8) -> u32
+pub fn finish(image: &mut [u8], k: u8) -> Result<(), Refusal>
     requires { ValidImage image.old }
-    ensures { Works (flat_step (finish k) (flat_in image.old)) image.old image.new result }
+    ensures { Works (flat_step (finish k) (flat_in image.old)) image.old image.new (number_in result) }
 {
-    match first_in_head(image, Sought::Finishes, k) {
-        Spot::Refused(n) => n,
-        Spot::At(p, e) => {
-            finish_at(image, p, e);
-            0
-        }
-    }
+    let place = first_in_head(image, Sought::Finishes, k)?;
+    finish_at(image, place.start, place.end);
+    Ok(())
 }
 
 // The head unit goes to the next station's tail, where no operation in it targets the node and the station isn't last.
-pub fn move_on(image: &mut [u8], k: u8) -> u32
+pub fn move_on(image: &mut [u8], k: u8) -> Result<(), Refusal>
     requires { ValidImage image.old }
-    ensures { Works (flat_step (move k) (flat_in image.old)) image.old image.new result }
+    ensures { Works (flat_step (move k) (flat_in image.old)) image.old image.new (number_in result) }
 {
-    match unit_at(image, k, 1) {
-        Spot::Refused(n) => n,
-        Spot::At(h, e) => {
-            if k == 1 {
-                return 22;
-            }
-            if first_for(image, Sought::Acts, k, h, e) < e {
-                return 22;
-            }
-            move_unit(image, k, h, e);
-            0
-        }
+    let head = unit_at(image, k, 1)?;
+    if k == 1 {
+        return Err(Refusal::NotAllowed);
     }
+    if first_for(image, Sought::Acts, k, head.start, head.end) < head.end {
+        return Err(Refusal::NotAllowed);
+    }
+    move_unit(image, k, head.start, head.end);
+    Ok(())
 }

@@ -2,21 +2,21 @@
 -- Assumes nothing.
 use Prim.Native.Nat.{ℕ, zero, suc, ◌+◌, ◌*◌, ◌-◌, ◌<◌, ◌≤◌}
 use mathlib.Core.Path.{◌≡◌, refl, sym, ap, ◌∙◌}
-use mathlib.Core.Bool.{Bool, true, false, false≢true}
 use mathlib.Core.List.{List, [], ◌∷◌, ◌++◌, append-nil, append_assoc}
 use native.Mathlib.Omega.{arith}
-use lib.ListN.{length, drop, get_or, length-append, get_or-append}
-use lib.Seq.{append_snoc}
+use lib.ListN.{length, take, drop, take-append-drop, get_or, length-append, get_or-append}
+use lib.Seq.{append_snoc, take-suc}
 use Rattle.text.specs.Text.{decimal, further, commas}
 use Rattle.text.specs.Inner.PartsRead.{Gap}
 use Rattle.text.proofs.Decimals.{Figures, value_from, value_from_ge, decimal_low, decimal_more, decimal_is, digit_at}
 use Rattle.text.proofs.Splits.{same_number}
 use Rattle.text.proofs.CommaLists.{further_gap}
 use Rattle.graph.specs.Words.{modulus}
-use Rattle.keylists.specs.Inner.ListsRead.{Below, KeysOf, KeysStored, KeysRead, passed, begun, ReadSoFar, begins, breaks}
+use Rattle.std.proofs.Common.{Option, Some, None}
+use Rattle.keylists.proofs.KeyLists.{below_snoc}
+use Rattle.keylists.specs.Inner.ListsRead.{Below, KeysOf, KeysRead, passed, begun, Begun, ReadSoFar}
 use Rattle.keylists.specs.declared.sofar.ListSoFar.{ListSoFar}
 use Rattle.keylists.specs.declared.keylist.KeyList.{KeyList}
-use Rattle.keylists.specs.declared.keylist.TargetsAnswer.TheVariants.{Are}
 
 -- ---- one number more
 
@@ -102,18 +102,18 @@ figures_end [] z f = f
 figures_end (c ∷ cs) z f = figures_end cs z f.2
 
 -- where a digit must stand, or the comma behind a number
-pub no_digit : (going : Bool) (v b : ℕ) → (48 ≤ b → b ≤ 57 → ⊥) → (going ≡ true → b ≡ 44 → ⊥) → (rest : List ℕ) → NoNumber (begun going v ++ b ∷ rest)
-no_digit false v b nd nc rest w ws q e =
+pub no_digit : (n : Option ℕ) (b : ℕ) → (48 ≤ b → b ≤ 57 → ⊥) → ((v : ℕ) → n ≡ Some v → b ≡ 44 → ⊥) → (rest : List ℕ) → NoNumber (begun n ++ b ∷ rest)
+no_digit None b nd nc rest w ws q e =
     let d = digit_at (decimal w) 0 (decimal_is w).figures (decimal_is w).some in
     let h : b ≡ get_or (decimal w) 0 0 = ap (λ (l : List ℕ). get_or l 0 0) e ∙ get_or-append (decimal w) (further ws) 0 0 (decimal_is w).some in
     nd (omega (arith, d.0)) (omega (arith, d.1))
-no_digit true v b nd nc rest w ws q e =
+no_digit (Some v) b nd nc rest w ws q e =
     let t = number_goes_on v (b ∷ rest) w ws e in
     go t.0 (further ws) (figures_end (decimal v) t.0 (rw t.1 at (decimal_is w).figures)) (further_gap ws) t.2
   where
     go : (z y : List ℕ) → Figures z → Gap 44 y → b ∷ rest ≡ z ++ y → ⊥
     go [] [] f g e = let z : ◌≡◌ {A = ℕ} 0 1 = cc in omega arith
-    go [] (k ∷ y) f g e = let h : b ≡ k = cc in nc refl (omega arith)
+    go [] (k ∷ y) f g e = let h : b ≡ k = cc in nc v refl (omega arith)
     go (k ∷ z) y f g e = let h : b ≡ k = cc in nd (omega (arith, f.0)) (omega (arith, f.1))
 
 -- no zero stands before another digit
@@ -142,36 +142,53 @@ too_large v b some lo hi big rest w ws q e =
     sym (decimal_is w).worth ∙ ap (value_from 0) t.1 ∙ value_from_append 0 (decimal n) t.0 ∙ ap (λ (k : ℕ). value_from k t.0) (decimal_is n).worth in
     omega (arith, value_from_ge n t.0, q.0)
 
--- ---- a reader that goes on, and one that does not
+-- ---- what came, and with what follows it
 
-pub record Begun (s : List ℕ) (f : ListSoFar) : Type 0 where
-  pub read : List ℕ
-  pub below : Below read
-  pub text : s ≡ passed read ++ begun f.going f.value
-  pub known : KeysOf read f.list
-  pub stored : KeysStored read f.key
+module _ (s : List ℕ) (f : ListSoFar) (g : Begun s f) (n : Option ℕ) (e : f.number ≡ n) where
+  pub text_when : s ≡ passed g.read ++ begun n
+  text_when = g.text ∙ ap (λ (m : Option ℕ). passed g.read ++ begun m) e
 
-pub has_begun : (s : List ℕ) (f : ListSoFar) → f.ok ≡ true → ReadSoFar s f → Begun s f
-has_begun s f h (begins ok read below text known stored) = record { read = read; below = below; text = text; known = known; stored = stored }
-has_begun s f h (breaks ok n) = absurd (false≢true (sym ok ∙ h))
-
--- what came, and with what follows it
-module _ (s : List ℕ) (f : ListSoFar) (g : Begun s f) (going : Bool) (e : f.going ≡ going) where
-  pub text_when : s ≡ passed g.read ++ begun going f.value
-  text_when = g.text ∙ ap (λ (b : Bool). passed g.read ++ begun b f.value) e
-
-  pub text_then : (x : List ℕ) → s ++ x ≡ passed g.read ++ (begun going f.value ++ x)
-  text_then x = ap (λ (l : List ℕ). l ++ x) text_when ∙ append_assoc (passed g.read) (begun going f.value) x
+  pub text_then : (x : List ℕ) → s ++ x ≡ passed g.read ++ (begun n ++ x)
+  text_then x = ap (λ (l : List ℕ). l ++ x) text_when ∙ append_assoc (passed g.read) (begun n) x
 
   -- no list goes on with the byte b
-  pub breaks_at_law : (b : ℕ) (r : ListSoFar) → r.ok ≡ false → ((rest : List ℕ) → NoNumber (begun going f.value ++ b ∷ rest)) → ReadSoFar (s ++ b ∷ []) r
-  breaks_at_law b r h n = breaks h
-      (λ rest us below eu. no_list _ (omega (arith, ap length (text_then (b ∷ rest)), length-append s (b ∷ rest))) (still_none g.read _ (n rest)) us below
-      (sym (append_snoc s b rest ∙ text_then (b ∷ rest)) ∙ eu))
+  pub breaks_at_law : (b : ℕ) → ((rest : List ℕ) → NoNumber (begun n ++ b ∷ rest)) → ReadSoFar (s ++ b ∷ []) None
+  breaks_at_law b m rest us below eu =
+      no_list _ (omega (arith, ap length (text_then (b ∷ rest)), length-append s (b ∷ rest))) (still_none g.read _ (m rest)) us below
+      (sym (append_snoc s b rest ∙ text_then (b ∷ rest)) ∙ eu)
 
-pub stays_broken : (s : List ℕ) (b : ℕ) (f : ListSoFar) → f.ok ≡ false → ReadSoFar s f → ReadSoFar (s ++ b ∷ []) f
-stays_broken s b f h (begins ok read below text known stored) = absurd (false≢true (sym h ∙ ok))
-stays_broken s b f h (breaks ok n) = breaks ok (λ rest us below e. n (b ∷ rest) us below (sym (append_snoc s b rest) ∙ e))
+-- more bytes do not make it one
+pub still_broken : (s x : List ℕ) → ReadSoFar s None → ReadSoFar (s ++ x) None
+still_broken s x n rest us below e = n (x ++ rest) us below (sym (append_assoc s x rest) ∙ e)
+
+-- of a piece whose byte i breaks it
+pub piece_broken : (s piece : List ℕ) (i : ℕ) → i < length piece → ReadSoFar ((s ++ take i piece) ++ get_or piece i 0 ∷ []) None → ReadSoFar (s ++ piece) None
+piece_broken s piece i h n =
+    let t : (s ++ take i piece) ++ get_or piece i 0 ∷ [] ≡ s ++ take (suc i) piece = append_assoc s (take i piece) (get_or piece i 0 ∷ []) ∙ ap (λ (l : List ℕ). s ++ l) (sym (take-suc piece i 0 h)) in
+    let a : (s ++ take (suc i) piece) ++ drop (suc i) piece ≡ s ++ piece = append_assoc s (take (suc i) piece) (drop (suc i) piece) ∙ ap (λ (l : List ℕ). s ++ l) (take-append-drop (suc i) piece) in
+    rw a at (still_broken (s ++ take (suc i) piece) (drop (suc i) piece) (rw t at n))
+
+-- one number more
+pub list_more : (s : List ℕ) (f : ListSoFar) (g : Begun s f) (v : ℕ) → f.number ≡ Some v → v < modulus → (k : KeyList) → KeysOf (g.read ++ v ∷ []) k
+    → Begun (s ++ 44 ∷ []) (record { list = k; number = None })
+list_more s f g v e h k p =
+    record {
+      read = g.read ++ v ∷ [];
+      below = below_snoc g.read v g.below h;
+      text = text_then s f g (Some v) e (44 ∷ []) ∙ passed_next g.read v [];
+      known = p;
+    }
+
+-- a digit more
+pub number_more : (s : List ℕ) (f : ListSoFar) (g : Begun s f) (n : Option ℕ) → f.number ≡ n → (b w : ℕ) → begun n ++ b ∷ [] ≡ decimal w
+    → Begun (s ++ b ∷ []) (record { list = f.list; number = Some w })
+number_more s f g n e b w q =
+    record {
+      read = g.read;
+      below = g.below;
+      text = text_then s f g n e (b ∷ []) ∙ ap (λ (l : List ℕ). passed g.read ++ l) q;
+      known = g.known;
+    }
 
 -- ---- the end
 
@@ -180,18 +197,26 @@ unfolding passed
 some_passed [] h = absurd (omega arith)
 some_passed (t ∷ ts) h = some_byte t (44 ∷ passed ts)
 
--- a comma is the last byte
-pub comma_last : (s read : List ℕ) → s ≡ passed read ++ [] → 0 < length read → (us : List ℕ) → Below us → s ≡ commas us → ⊥
-comma_last s read e some us below eu =
-    no_list (passed read ++ []) (omega (arith, some_passed read some, length-append (passed read) [])) (still_none read [] nothing) us below (sym e ∙ eu)
+module _ (s : List ℕ) (f : ListSoFar) (g : Begun s f) where
+  -- a number is the last
+  pub number_last : (v : ℕ) → f.number ≡ Some v → v < modulus → (k : KeyList) → KeysOf (g.read ++ v ∷ []) k → KeysRead s (Some k)
+  number_last v e h k p = (g.read ++ v ∷ [], below_snoc g.read v g.below h, text_when s f g (Some v) e ∙ passed_last g.read v, p)
 
--- no byte came
-pub no_byte : (s read : List ℕ) (k : KeyList) (key : List ℕ) → s ≡ passed read ++ [] → length read ≡ 0 → KeysOf read k → KeysStored read key → KeysRead s (Are k) false key
-unfolding passed commas
-no_byte s [] k key e h p q = ([], e, record { below = tt; known = p; stored = q; wholly = refl })
-no_byte s (t ∷ ts) k key e h p q = absurd (omega arith)
+  -- a comma is the last byte
+  pub comma_last : f.number ≡ None → (f.list.count ≡ 0 → ⊥) → KeysRead s None
+  comma_last e some us below eu =
+      let n : 0 < length g.read = omega (arith, g.known.count) in
+      no_list (passed g.read ++ []) (omega (arith, some_passed g.read n, length-append (passed g.read) [])) (still_none g.read [] nothing) us below (sym (text_when s f g None e) ∙ eu)
+
+  -- no byte came
+  pub no_byte : f.number ≡ None → f.list.count ≡ 0 → KeysRead s (Some f.list)
+  unfolding passed commas
+  no_byte e n = go g.read (text_when s f g None e) (omega (arith, g.known.count)) g.known
+    where
+      go : (read : List ℕ) → s ≡ passed read ++ [] → length read ≡ 0 → KeysOf read f.list → KeysRead s (Some f.list)
+      go [] t h p = ([], tt, t, p)
+      go (x ∷ xs) t h p = absurd (omega arith)
 
 -- what no list begins with is none
-pub breaks_end : (s : List ℕ) (f : ListSoFar) → f.ok ≡ false → ReadSoFar s f → (us : List ℕ) → Below us → s ≡ commas us → ⊥
-breaks_end s f h (begins ok read below text known stored) us b e = absurd (false≢true (sym h ∙ ok))
-breaks_end s f h (breaks ok n) us b e = n [] us b (append-nil s ∙ e)
+pub breaks_end : (s : List ℕ) → ReadSoFar s None → KeysRead s None
+breaks_end s n us b e = n [] us b (append-nil s ∙ e)

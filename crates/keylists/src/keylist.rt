@@ -1,72 +1,38 @@
 // What is known of a list of numbers, one number at a time.
-ghost use Rattle.std.specs.Prelude.{◌≡◌, List, [], ◌∷◌, ◌++◌, ◌&&◌, ℕ, ◌≤◌, ◌<◌, set};
+ghost use Rattle.std.specs.Prelude.{◌≡◌, List, [], ◌∷◌, ◌++◌, ℕ, ◌≤◌, ◌<◌, set};
 ghost use Rattle.graph.specs.KeyLists.{is_key};
-ghost use Rattle.keylists.specs.Inner.ListsRead.{KeysOf};
-ghost use Rattle.keylists.specs.declared.keylist.TargetsAnswer.TheVariants.{Not};
+ghost use Rattle.graph.specs.Refused.{answered};
+ghost use Rattle.keylists.specs.Inner.ListsRead.{KeysOf, keys_named};
 
-// What is known of the numbers so far: how many (9 for more than eight), the last, whether all are keys, and whether they
-// rise strictly.
+use graph::keys::Keys;
+use graph::refusal::Refusal;
+
+// What is known of the numbers so far: how many (9 for more than eight), the last, whether all are keys, whether they rise
+// strictly; and the keys, where they are at most eight.
 #[derive(Clone, Copy)]
 pub struct KeyList {
     pub count: u8,
     pub latest: u32,
     pub keys: bool,
     pub rising: bool,
-}
-
-// Whether bytes are targets.
-#[derive(Clone, Copy)]
-pub enum TargetsAnswer {
-    Are(KeyList),
-    Not,
-}
-
-// The answer, whether they are all, and the keys where they are at most eight. These stand beside it: no covered enum
-// holds an array. Of all no key is listed.
-#[derive(Clone, Copy)]
-pub struct TargetsRead {
-    pub answer: TargetsAnswer,
-    pub all: bool,
     pub key: [u8; 8],
-}
-
-pub fn no_targets() -> TargetsRead
-    ensures { result.answer ≡ Not }
-{
-    TargetsRead {
-        answer: TargetsAnswer::Not,
-        all: false,
-        key: [0u8; 8],
-    }
 }
 
 // 1 to 64.
 pub fn is_key(v: u32) -> bool
     ensures { result ≡ is_key v }
 {
-    if v == 0 {
-        return false;
-    }
-    v <= 64
-}
-
-fn and(a: bool, b: bool) -> bool
-    ensures { result ≡ a && b }
-{
-    if a { b } else { false }
+    1 <= v && v <= 64
 }
 
 // The array with `v` at `n`, where there is such a place and `v` may be a key.
-pub fn store(key: [u8; 8], n: u8, v: u32) -> [u8; 8]
+fn stored(mut key: [u8; 8], n: u8, v: u32) -> [u8; 8]
     ensures { n < 8 → v ≤ 64 → result ≡ set key n v }
 {
-    let mut k = key;
-    if n < 8 {
-        if v <= 64 {
-            k[n as usize] = v as u8;
-        }
+    if n < 8 && v <= 64 {
+        key[usize::from(n)] = v as u8;
     }
-    k
+    key
 }
 
 impl KeyList {
@@ -79,6 +45,7 @@ impl KeyList {
             latest: 0,
             keys: true,
             rising: true,
+            key: [0; 8],
         }
     }
 
@@ -86,16 +53,31 @@ impl KeyList {
     pub fn with(self, v: u32) -> Self
         ensures { (ts : List ℕ) → KeysOf ts self → KeysOf (ts ++ v ∷ []) result }
     {
-        let n = self.count;
-        let latest = self.latest;
-        let keys = and(self.keys, is_key(v));
-        let rising = and(self.rising, latest < v);
-        let more = if n < 9 { n + 1 } else { n };
+        let key = self.key;
+        let key = stored(key, self.count, v);
         KeyList {
-            count: more,
+            count: self.count.saturating_add(1).min(9),
             latest: v,
-            keys: keys,
-            rising: rising,
+            keys: self.keys & is_key(v),
+            rising: self.rising & (self.latest < v),
+            key,
         }
+    }
+
+    // The targets that a line names so: 11 where one is no key, 12 where they are more than eight or do not rise strictly.
+    pub fn targets(self) -> Result<Keys, Refusal>
+        ensures { (ts : List ℕ) → KeysOf ts self → answered (λ k. k) result ≡ keys_named ts }
+    {
+        if !self.keys {
+            return Err(Refusal::NotAKey);
+        }
+        if 8 < self.count || !self.rising {
+            return Err(Refusal::BadTargets);
+        }
+        let key = self.key;
+        Ok(Keys {
+            count: self.count,
+            key,
+        })
     }
 }

@@ -1,161 +1,94 @@
 // A list of numbers parted by commas, read byte by byte. Its bytes may come in pieces, and none of them is kept.
-ghost use Rattle.std.specs.Prelude.{◌≡◌, true, false, List, [], ◌∷◌, ◌++◌, ℕ, ◌≤◌};
+ghost use Rattle.std.specs.Prelude.{List, [], ◌∷◌, ◌++◌, ℕ, ◌≤◌, Some};
 ghost use Rattle.keylists.specs.Inner.ListsRead.{KeysRead, ReadSoFar};
 
-use crate::keylist::{KeyList, TargetsAnswer, TargetsRead, no_targets, store};
+use crate::keylist::KeyList;
 
-// What is known of the bytes so far. `ok`: a list may begin so. Then `list` and `key` tell of the numbers that have a comma
-// behind them; `going`: a number has begun after the last comma, and its digits make `value`.
+// What is known of bytes that a list may begin with: `list` tells of the numbers that have a comma behind them, and `number`
+// is what the digits after the last comma make, where there are any.
 #[derive(Clone, Copy)]
 pub struct ListSoFar {
-    pub ok: bool,
-    pub going: bool,
-    pub value: u32,
     pub list: KeyList,
-    pub key: [u8; 8],
-}
-
-fn wide(x: u32) -> u64
-    ensures { result ≡ x }
-{
-    x as u64
+    pub number: Option<u32>,
 }
 
 impl ListSoFar {
     // No byte yet.
     pub fn none() -> Self
-        ensures { ReadSoFar [] result }
+        ensures { ReadSoFar [] (Some result) }
     {
         ListSoFar {
-            ok: true,
-            going: false,
-            value: 0,
             list: KeyList::none(),
-            key: [0u8; 8],
+            number: None,
         }
     }
 
-    // No list begins so, whatever follows.
-    fn broken() -> Self
-        ensures { result.ok ≡ false }
+    // The number that has begun ends. None: no list begins so, whatever follows.
+    fn with_comma(self) -> Option<Self>
+        ensures { (s : List ℕ) → ReadSoFar s (Some self) → ReadSoFar (s ++ 44 ∷ []) result }
     {
-        ListSoFar {
-            ok: false,
-            going: false,
-            value: 0,
-            list: KeyList::none(),
-            key: [0u8; 8],
-        }
-    }
-
-    // The number that has begun ends.
-    fn with_comma(self) -> Self
-        requires { self.ok ≡ true }
-        ensures { (s : List ℕ) → ReadSoFar s self → ReadSoFar (s ++ 44 ∷ []) result }
-    {
-        if !self.going {
-            return ListSoFar::broken();
-        }
-        let v = self.value;
-        let list = self.list;
-        let key = self.key;
-        let stored = store(key, list.count, v);
-        ListSoFar {
-            ok: true,
-            going: false,
-            value: 0,
-            list: list.with(v),
-            key: stored,
-        }
+        Some(ListSoFar {
+            list: self.list.with(self.number?),
+            number: None,
+        })
     }
 
     // A number begins, or goes on: no zero stands before another digit, and no number is above 4,294,967,295.
-    fn with_digit(self, b: u8) -> Self
-        requires { (self.ok ≡ true) × (48 ≤ b) × (b ≤ 57) }
-        ensures { (s : List ℕ) → ReadSoFar s self → ReadSoFar (s ++ b ∷ []) result }
+    fn with_digit(self, b: u8) -> Option<Self>
+        requires { (48 ≤ b) × (b ≤ 57) }
+        ensures { (s : List ℕ) → ReadSoFar s (Some self) → ReadSoFar (s ++ b ∷ []) result }
     {
-        let digit = (b - 48) as u32;
-        let mut next = self;
-        next.going = true;
-        if !self.going {
-            next.value = digit;
-            return next;
-        }
-        if self.value == 0 {
-            return ListSoFar::broken();
-        }
-        let v = wide(self.value) * 10 + wide(digit);
-        if 4294967295 < v {
-            return ListSoFar::broken();
-        }
-        next.value = v as u32;
-        next
+        let digit = u32::from(b - b'0');
+        let number = match self.number {
+            None => digit,
+            Some(0) => return None,
+            Some(v) => v.checked_mul(10)?.checked_add(digit)?,
+        };
+        Some(ListSoFar {
+            list: self.list,
+            number: Some(number),
+        })
     }
 
     // With one byte more.
-    fn with_byte(self, b: u8) -> Self
-        ensures { (s : List ℕ) → ReadSoFar s self → ReadSoFar (s ++ b ∷ []) result }
+    fn with_byte(self, b: u8) -> Option<Self>
+        ensures { (s : List ℕ) → ReadSoFar s (Some self) → ReadSoFar (s ++ b ∷ []) result }
     {
-        if !self.ok {
-            return self;
+        if b == b',' {
+            self.with_comma()
+        } else if b.is_ascii_digit() {
+            self.with_digit(b)
+        } else {
+            None
         }
-        if b == 44 {
-            return self.with_comma();
-        }
-        if b < 48 {
-            return ListSoFar::broken();
-        }
-        if 57 < b {
-            return ListSoFar::broken();
-        }
-        self.with_digit(b)
     }
 
     // With the bytes of a piece.
-    pub fn with_bytes(self, piece: &[u8]) -> Self
-        ensures { (s : List ℕ) → ReadSoFar s self → ReadSoFar (s ++ piece.now) result }
+    pub fn with_bytes(self, piece: &[u8]) -> Option<Self>
+        ensures { (s : List ℕ) → ReadSoFar s (Some self) → ReadSoFar (s ++ piece.now) result }
     {
         let mut f = self;
-        let mut i = 0;
-        while i < piece.len() {
-            f = f.with_byte(piece[i]);
-            i += 1;
+        for &b in piece {
+            f = f.with_byte(b)?;
         }
-        f
+        Some(f)
     }
 
     // The list, where these are all its bytes: the last number has no comma behind it.
-    pub fn ended(self) -> TargetsRead
-        ensures { (s : List ℕ) → ReadSoFar s self → KeysRead s result.answer result.all result.key }
+    pub fn ended(self) -> Option<KeyList>
+        ensures { (s : List ℕ) → ReadSoFar s (Some self) → KeysRead s result }
     {
-        if !self.ok {
-            return no_targets();
-        }
-        let list = self.list;
-        let key = self.key;
-        if self.going {
-            let v = self.value;
-            let stored = store(key, list.count, v);
-            return TargetsRead {
-                answer: TargetsAnswer::Are(list.with(v)),
-                all: false,
-                key: stored,
-            };
-        }
-        if list.count != 0 {
-            return no_targets();
-        }
-        TargetsRead {
-            answer: TargetsAnswer::Are(list),
-            all: false,
-            key: key,
+        match self.number {
+            Some(v) => Some(self.list.with(v)),
+            None if self.list.count == 0 => Some(self.list),
+            None => None,
         }
     }
 }
 
 // The numbers that the whole of `s` holds, parted by commas; none where it is empty.
-pub fn read_keys(s: &[u8]) -> TargetsRead
-    ensures { KeysRead s.now result.answer result.all result.key }
+pub fn read_keys(s: &[u8]) -> Option<KeyList>
+    ensures { KeysRead s.now result }
 {
-    ListSoFar::none().with_bytes(s).ended()
+    ListSoFar::none().with_bytes(s)?.ended()
 }

@@ -1,35 +1,37 @@
--- The struct of two lists of labels, the second put after the first one by one.
+-- The struct of two lists of labels, the second put after the first.
 -- Assumes nothing.
 use mathlib.Core.Path.{◌≡◌, sym, ◌∙◌, ap}
-use Prim.Native.Nat.{ℕ, ◌+◌, ◌-◌, ◌<◌}
-use native.Mathlib.Numerals.{add-one}
+use Prim.Native.Nat.{ℕ, ◌+◌, ◌-◌, ◌≤◌}
 use native.Mathlib.Omega.{arith}
-use mathlib.Core.List.{List, [], ◌∷◌, ◌++◌, append-nil, append_assoc}
-use lib.ListN.{length, get_or, set, take, replicate, length-append}
-use lib.Seq.{take-suc, length-take-le, take-append_seam}
-use Rattle.graph.proofs.KeyLaws.{padded_more}
+use mathlib.Core.List.{List, ◌++◌, append_assoc}
+use lib.ListN.{length, take, drop, replicate, length-append}
+use lib.Seq.{take-append_seam, drop-append_seam}
+use borrow.Rule.Slice.PartMut.{put_mid}
+use Rattle.std.proofs.lemmas.List.{drop-replicate}
 use Rattle.records.specs.declared.labels.Labels.{Labels}
 use Rattle.valid.specs.Inner.Decoded.{labels_of}
 use Rattle.valid.specs.Values.{packed_labels}
+use Rattle.state.proofs.ResultLaws.{labels_count}
 
--- the labels after i turns: those of a, and i of b's
-module _ (a b : Labels) where
-  pub labels_none : a ≡ packed_labels (labels_of a) → a.label ≡ (packed_labels (labels_of a ++ take 0 b.label)).label
-  labels_none e = ap (λ (x : Labels). x.label) e ∙ ap (λ (l : List ℕ). (packed_labels l).label) (sym (append-nil (labels_of a)))
-
-  pub labels_next : (i : ℕ) → i < length b.label → length (labels_of a) + i < 4
-      → set (packed_labels (labels_of a ++ take i b.label)).label (length (labels_of a) + i) (get_or b.label i 0) ≡ (packed_labels (labels_of a ++ take (i + 1) b.label)).label
-  unfolding packed_labels
-  labels_next i h room =
-      let l = labels_of a ++ take i b.label in
-      let n : length l ≡ length (labels_of a) + i = length-append (labels_of a) (take i b.label) ∙ ap (λ (m : ℕ). length (labels_of a) + m) (length-take-le i b.label (omega arith)) in
-      ap (λ (m : ℕ). set (packed_labels l).label m (get_or b.label i 0)) (sym n)
-      ∙ padded_more 4 l (get_or b.label i 0) (omega arith)
-      ∙ ap (λ (x : List ℕ). (packed_labels x).label) (append_assoc (labels_of a) (take i b.label) (get_or b.label i 0 ∷ []) ∙ ap (λ (x : List ℕ). labels_of a ++ x) (sym (take-suc b.label i 0 h) ∙ ap (λ (m : ℕ). take m b.label) (sym (add-one i))))
-
-pub packed_made : (l : List ℕ) (n : ℕ) (ls : List ℕ) → n ≡ length l → ls ≡ (packed_labels l).label → record { count = n; label = ls } ≡ packed_labels l
+-- the second's labels at the place after the first's
+pub labels_put : (a b : Labels) → a ≡ packed_labels (labels_of a) → b ≡ packed_labels (labels_of b) → length (labels_of a ++ labels_of b) ≤ 4
+    → (n m : ℕ) (part : List ℕ) → n ≡ a.count → m ≡ b.count → part ≡ labels_of b
+    → record { count = a.count + b.count; label = put_mid n (n + m - n) a.label part } ≡ packed_labels (labels_of a ++ labels_of b)
 unfolding packed_labels
-packed_made l n ls e d = λ i. record { count = e i; label = d i }
+labels_put a b e f few n m part en em ep =
+    let la = labels_of a in
+    let lb = labels_of b in
+    let ca : a.count ≡ length la = labels_count a e in
+    let cb : b.count ≡ length lb = labels_count b f in
+    let both : a.count + b.count ≡ length (la ++ lb) = omega (arith, length-append la lb) in
+    let size : n + m - n ≡ length lb = omega arith in
+    let rest : 4 - length la - length lb ≡ 4 - length (la ++ lb) = omega (arith, length-append la lb) in
+    let behind : drop (n + m - n) (drop n a.label) ≡ replicate (4 - length (la ++ lb)) 0 =
+    (λ i. drop (size i) (drop ((en ∙ ca) i) (ap (λ (x : Labels). x.label) e i)))
+    ∙ ap (drop (length lb)) (drop-append_seam la (replicate (4 - length la) 0))
+    ∙ drop-replicate (length lb) (4 - length la) 0
+    ∙ ap (λ (k : ℕ). replicate k 0) rest in
+    λ i. record { count = both i; label = ((λ j. take (en j) a.label ++ (ep j ++ behind j)) ∙ sym (append_assoc la lb (replicate (4 - length (la ++ lb)) 0))) i }
 
 -- the struct of a list lists it
 pub listed_labels : (l : List ℕ) → labels_of (packed_labels l) ≡ l

@@ -47,15 +47,18 @@ commas_front (suc i) (t ∷ ts) =
 -- ---- written entry by entry
 
 module _ (s : List ℕ) (at : ℕ) (l out : List ℕ) (p i : ℕ) (fits : at + length (commas l) ≤ length s) (w : TextPut s at (commas (take i l)) out p) where
-  module _ (h : i < length l) (k : ℕ) (e : k ≡ get_or l i 0) where
-    room : at + length (commas (take i l) ++ entry i k) ≤ length s
-    room = rw e (omega (arith, commas_front (i + 1) l, ap length (commas_next l i h)))
+  module _ (h : i < length l) where
+    abbrev next : List ℕ
+    next = entry i (get_or l i 0)
 
-    pub entry_room : p + length (entry i k) ≤ length out
-    entry_room = written_room w (entry i k) room
+    room : at + length (commas (take i l) ++ next) ≤ length s
+    room = omega (arith, commas_front (i + 1) l, ap length (commas_next l i h))
 
-    pub entry_more : (out' : List ℕ) (p' : ℕ) → TextPut out p (entry i k) out' p' → TextPut s at (commas (take (i + 1) l)) out' p'
-    entry_more out' p' v = rw (commas_next l i h, ← e) (written_then w v room)
+    pub entry_room : p + length next ≤ length out
+    entry_room = written_room w next room
+
+    pub entry_more : (out' : List ℕ) (p' : ℕ) → TextPut out p next out' p' → TextPut s at (commas (take (i + 1) l)) out' p'
+    entry_more out' p' v = rw (commas_next l i h) (written_then w v room)
 
 pub entries_none : (s : List ℕ) (at : ℕ) (l : List ℕ) → TextPut s at (commas (take 0 l)) s at
 unfolding commas

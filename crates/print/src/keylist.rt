@@ -27,8 +27,8 @@ pub fn put_keys(out: &mut [u8], at: usize, keys: Keys) -> usize
     ensures { TextPut out.old at (commas (listed keys)) out.new result }
 {
     let mut p = at;
-    for i in 0..keys.len() {
-        p = put_entry(out, p, i, keys.at(i));
+    for (i, &key) in keys.as_slice().iter().enumerate() {
+        p = put_entry(out, p, i, key);
     }
     p
 }
@@ -44,8 +44,8 @@ pub fn keys_len(keys: Keys) -> usize
     ensures { KeysLength keys result }
 {
     let mut sum = 0;
-    for i in 0..keys.len() {
-        sum += entry_len(i, keys.at(i));
+    for (i, &key) in keys.as_slice().iter().enumerate() {
+        sum += entry_len(i, key);
     }
     sum
 }

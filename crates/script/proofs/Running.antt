@@ -13,9 +13,6 @@ use Rattle.script.specs.Inner.Running.{LinesRun}
 pub no_lines : {image : List ℕ} {n : ℕ} → LinesRun image n image n
 no_lines = record { lines = []; text = []; runs = none }
 
-pub unmoved : {image : List ℕ} {n m : ℕ} → m ≡ n → LinesRun image n image m
-unmoved {image} {n} e = subst (LinesRun image n image) (sym e) no_lines
-
 pub one_line : {image l after text : List ℕ} {n : ℕ} → Line image l n after text → LinesRun image n after (n + 1)
 one_line {image} {l} {after} {text} {n} x =
     let e : suc n ≡ n + 1 = omega arith in

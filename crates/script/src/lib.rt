@@ -12,6 +12,7 @@ use input::serve_input;
 use serve::serve_last;
 
 // Serves all lines of standard input. Nothing is written where not `printing`.
+#[tactic(auto, using(crate::proofs::Running::then))]
 pub fn serve_script(
     rt: &(impl Input + Print),
     image: &mut [u8],

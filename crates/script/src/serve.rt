@@ -20,12 +20,9 @@ pub struct Rest {
 }
 
 // A write that fails is passed over.
-fn write(rt: &impl Print, out: &[u8], n: usize, printing: bool) {
-    if !printing {
-        return;
-    }
-    if n <= out.len() {
-        let _ = rt.write_all(&out[..n]);
+fn show(rt: &impl Print, text: &[u8], printing: bool) {
+    if printing {
+        let _ = rt.write_all(text);
     }
 }
 
@@ -42,20 +39,19 @@ fn serve_whole(
     requires { (at ≤ length frame.now) × RoomToServe frame.now line out.old }
     ensures { RestWithin frame.now line result × LinesRun image.old line image.new result.line }
 {
-    let mut from = at;
-    let mut number = line;
+    let mut rest = Rest {
+        at,
+        line,
+        long: false,
+    };
     loop {
-        let p = serve_lines(image, frame, from, number, out);
-        write(rt, out, p.used, printing);
-        if p.at == from {
-            return Rest {
-                at: from,
-                line: number,
-                long: false,
-            };
+        let p = serve_lines(image, frame, rest.at, rest.line, out);
+        show(rt, &out[..p.used], printing);
+        if p.at == rest.at {
+            return rest;
         }
-        from = p.at;
-        number = p.line;
+        rest.at = p.at;
+        rest.line = p.line;
     }
 }
 
@@ -76,7 +72,7 @@ fn serve_long(
         return rest;
     }
     let n = serve_line(image, frame, at, rest.line, out);
-    write(rt, out, n, printing);
+    show(rt, &out[..n], printing);
     Rest {
         at: frame.len(),
         line: rest.line + 1,
@@ -84,6 +80,7 @@ fn serve_long(
     }
 }
 
+#[tactic(auto, using(crate::proofs::Running::then))]
 fn serve_from(
     rt: &impl Print,
     image: &mut [u8],
@@ -101,6 +98,7 @@ fn serve_from(
 }
 
 // Serves the lines of a frame. The rest of a line that was refused for its length is passed over.
+#[tactic(auto, using(crate::proofs::Running::no_lines))]
 pub fn serve_frame(
     rt: &impl Print,
     image: &mut [u8],
@@ -141,6 +139,6 @@ pub fn serve_last(
 {
     if 0 < frame.len() {
         let n = serve_line(image, frame, 0, line, out);
-        write(rt, out, n, printing);
+        show(rt, &out[..n], printing);
     }
 }

@@ -32,11 +32,7 @@ pub fn is_known(image: &[u8], k: u8) -> bool
     requires { Proper image.now }
     ensures { result ≡ known k (flat_in image.now) }
 {
-    if k < 1 {
-        return false;
-    }
-    let n = total(image);
-    k as usize <= n
+    1 <= k && usize::from(k) <= total(image)
 }
 
 pub fn body_at(image: &[u8], i: usize) -> Body

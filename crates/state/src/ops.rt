@@ -11,7 +11,7 @@ ghost use Rattle.valid.specs.Values.{tagged_record};
 ghost use Rattle.state.specs.Inner.Operations.{op_value, add_value, Normal, Carries, TargetsHeld, RecordFor, Bounded};
 ghost use Rattle.state.specs.Inner.State.{flat_in, Proper, Shows};
 
-use crate::operation::{Added, Operation, add_record, flag, operation_of, record_of, remaining_of};
+use crate::operation::{Added, Operation, add_record, operation_of, record_of, remaining_of};
 use graph::remaining::Remaining;
 use image::read::{op_at, op_count};
 use image::write::{append_op, put_op, remove_op};
@@ -100,14 +100,7 @@ pub fn first_at(image: &[u8], k: u8) -> usize
     ensures { result ≡ first_index (at_place k) (flat_in image.now).queue }
 {
     let n = total(image);
-    let mut i: usize = 0;
-    while i < n {
-        if place_at(image, i) == k {
-            return i;
-        }
-        i += 1;
-    }
-    n
+    (0..n).find(|&i| place_at(image, i) == k).unwrap_or(n)
 }
 
 // The operation at i does not go on with a unit of station k.
@@ -115,10 +108,7 @@ fn breaks_at(image: &[u8], k: u8, i: usize) -> bool
     requires { (Proper image.now) × (i < length (flat_in image.now).queue) }
     ensures { result ≡ breaks k (get_or (flat_in image.now).queue i no_op) }
 {
-    if place_at(image, i) != k {
-        return true;
-    }
-    opens_at(image, i)
+    place_at(image, i) != k || opens_at(image, i)
 }
 
 // Where the unit of station k that starts at p ends.
@@ -127,14 +117,7 @@ pub fn unit_end(image: &[u8], k: u8, p: usize) -> usize
     ensures { Bounded (end_of k p (flat_in image.now).queue) (length (flat_in image.now).queue) result }
 {
     let n = total(image);
-    let mut i = p + 1;
-    while i < n {
-        if breaks_at(image, k, i) {
-            return i;
-        }
-        i += 1;
-    }
-    n
+    (p + 1..n).find(|&i| breaks_at(image, k, i)).unwrap_or(n)
 }
 
 fn put_record(image: &mut [u8], i: usize, r: OpRecord)
@@ -169,7 +152,7 @@ pub fn set_opens(image: &mut [u8], i: usize, b: bool)
     ensures { Shows (with_queue (flat_in image.old) (alter i (open_as b) (flat_in image.old).queue)) image.new }
 {
     let mut r = record_at(image, i);
-    r.opens = flag(b);
+    r.opens = u8::from(b);
     put_record(image, i, r);
 }
 

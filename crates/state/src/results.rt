@@ -72,14 +72,7 @@ pub fn place_of(image: &[u8], label: u16) -> usize
     ensures { result ≡ place_of label (flat_in image.now).results }
 {
     let n = total(image);
-    let mut i: usize = 0;
-    while i < n {
-        if label < label_at(image, i) {
-            return i;
-        }
-        i += 1;
-    }
-    n
+    (0..n).find(|&i| label < label_at(image, i)).unwrap_or(n)
 }
 
 // A result at its place by label.
@@ -105,13 +98,9 @@ pub fn store_all(image: &mut [u8], labels: Labels, value: u32, left: Keys)
     requires { (Proper image.old) × (labels ≡ packed_labels (labels_of labels)) × (length (flat_in image.old).results + length (labels_of labels) ≤ 64) × (left ≡ packed (listed left)) }
     ensures { Shows (with_results (flat_in image.old) (store (results_for (labels_of labels) value (listed left)) (flat_in image.old).results)) image.new }
 {
-    let n = labels.count as usize;
     let each = labels.label;
-    let mut i: usize = 0;
-    while i < n {
-        let l = each[i];
-        store_one(image, l, value, left);
-        i += 1;
+    for label in &each[..usize::from(labels.count)] {
+        store_one(image, *label, value, left);
     }
 }
 

@@ -5,47 +5,40 @@
 // line (the line's number, the label).
 #![tactic(auto)]
 
-ghost use Rattle.std.specs.Prelude.{◌≤◌, length};
-
 use graph::keys::Keys;
 use lines::call::{CallAnswer, CallKind, parse_call};
 use lines::claim::{ClaimLine, parse_claim};
 use lines::step::{StepLine, WorkStep, parse_step, tally_place};
 use print::lines::{head_len, node_len, put_head, put_node, put_refusal, put_result, result_len};
-use std::io::Read;
-use text::cut::{part_to, starts_with};
+use streams::read_full;
 
-fn send(rt: &impl Print, out: &[u8], n: usize) {
-    if n <= out.len() {
-        let _ = rt.write_all(&out[..n]);
-    }
-}
-
+// A write that fails is passed over.
+#[tactic(auto, using(print::proofs::Refusals::refusal_fits))]
 fn show_refusal(rt: &impl Print, line: u32, refusal: u32) {
     let mut out = [0u8; 128];
     let n = put_refusal(&mut out, 0, line as u64, refusal);
-    send(rt, &out, n);
+    let _ = rt.write_all(&out[..n]);
 }
 
 fn show_result(rt: &impl Print, label: u32, value: u32, left: Keys) {
     let n = result_len(label, value, left);
     let mut out = [0u8; 128];
     put_result(&mut out, 0, label, value, left);
-    send(rt, &out, n);
+    let _ = rt.write_all(&out[..n]);
 }
 
 fn show_node(rt: &impl Print, key: u32, value: u32, links: Keys) {
     let n = node_len(key, value, links);
     let mut out = [0u8; 128];
     put_node(&mut out, 0, key, value, links);
-    send(rt, &out, n);
+    let _ = rt.write_all(&out[..n]);
 }
 
 fn show_head(rt: &impl Print, nodes: u32, results: u32, pending: u32) {
     let n = head_len(nodes, results, pending);
     let mut out = [0u8; 128];
     put_head(&mut out, 0, nodes, results, pending);
-    send(rt, &out, n);
+    let _ = rt.write_all(&out[..n]);
 }
 
 fn call_number(kind: CallKind) -> u32 {
@@ -115,52 +108,19 @@ fn show_claim(rt: &impl Print, line: &[u8], number: u32) {
 }
 
 fn show(rt: &impl Print, line: &[u8], number: u32) {
-    if starts_with(line, b"step=") {
+    if line.starts_with(b"step=") {
         show_step(rt, line, number);
-        return;
-    }
-    if starts_with(line, b"claim=") {
+    } else if line.starts_with(b"claim=") {
         show_claim(rt, line, number);
-        return;
+    } else {
+        show_call(rt, line, number);
     }
-    show_call(rt, line, number);
 }
 
 fn show_all(rt: &impl Print, frame: &[u8]) {
-    let mut at = 0;
-    let mut number: u32 = 1;
-    while at < frame.len() {
-        let line = part_to(frame, at, b'\n');
-        show(rt, line, number);
-        let end = at + line.len();
-        if frame.len() <= end {
-            return;
-        }
-        at = end + 1;
-        number = std::num::wrapping_add_u32(number, 1);
+    for (line, number) in frame.split_inclusive(|&c| c == b'\n').zip(1..) {
+        show(rt, line.strip_suffix(b"\n").unwrap_or(line), number);
     }
-}
-
-// What one read puts at the start of a buffer. A read that fails ends the input.
-fn read_some(input: &mut impl Read, buffer: &mut [u8]) -> usize
-    ensures { result ≤ length buffer.new }
-{
-    input.read(buffer).unwrap_or(0)
-}
-
-// Reads until the buffer is full or the input ends.
-fn read_full(input: &mut impl Read, buffer: &mut [u8]) -> usize
-    ensures { result ≤ length buffer.new }
-{
-    let mut filled = 0;
-    while filled < buffer.len() {
-        let got = read_some(input, &mut buffer[filled..]);
-        if got == 0 {
-            return filled;
-        }
-        filled += got;
-    }
-    filled
 }
 
 fn main(rt: HostRuntime) {

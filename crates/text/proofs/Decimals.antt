@@ -10,6 +10,10 @@ use lib.Dec.{ltb}
 use native.Mathlib.Numerals.{add-one, unary_clauses}
 use lib.Seq.{drop-cons}
 use lib.ListN.{length, drop, get_or, length-append, get_or-append, drop_of_length-le}
+use Rattle.std.proofs.Common.{inl, inr}
+use Rattle.std.specs.Bool.{MatchBool}
+use Rattle.std.specs.Char.{IsAsciiDigit, IsNotAsciiDigit}
+use Rattle.std.proofs.lemmas.Bool.Decides.{when_false}
 use Rattle.graph.specs.Words.{modulus}
 use Rattle.text.specs.Text.{digits, decimal}
 
@@ -144,9 +148,6 @@ pub record Reading (s : List ℕ) (v i : ℕ) : Type 0 where
   pub worth : value_from 0 s ≡ value_from v (drop i s)
   pub figures : Figures (drop i s) → Figures s
 
-pub reading_none : (s : List ℕ) → Reading s 0 0
-reading_none s = record { within = omega arith; small = omega arith; worth = refl; figures = λ d. d }
-
 module _ (s : List ℕ) (v i x : ℕ) (r : Reading s v i) (h : i < length s) (e : x ≡ get_or s i 0) where
   worth_more : value_from 0 s ≡ value_from (v * 10 + (x - 48)) (drop (i + 1) s)
   worth_more = r.worth ∙ rw (add-one, drop-cons s i 0, e)
@@ -168,6 +169,14 @@ module _ (s : List ℕ) (v i x : ℕ) (r : Reading s v i) (h : i < length s) (e 
   refute_digit bad w hw ew =
       let d = digit_at s i (text_is s w ew).figures h in
       bad (omega (arith, d)) (omega (arith, d))
+
+-- what `is_ascii_digit` says of another byte
+pub outside : {b : Bool} {x : ℕ} → b ≡ false → MatchBool b (IsAsciiDigit x) (IsNotAsciiDigit x) → 48 ≤ x → x ≤ 57 → ⊥
+outside {b} {x} e m lo hi = go (when_false _ _ e m)
+  where
+    go : IsNotAsciiDigit x → ⊥
+    go (inl h) = omega arith
+    go (inr h) = omega arith
 
 pub refute_empty : (s : List ℕ) → length s ≡ 0 → (w : ℕ) → w < modulus → s ≡ decimal w → ⊥
 refute_empty s h w hw e = omega (arith, (text_is s w e).some)

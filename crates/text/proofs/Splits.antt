@@ -1,19 +1,21 @@
 -- Laws of `up_to`: the search for the next stop byte, a literal at a place, and the part before a stop.
 -- Assumes nothing.
-use Prim.Native.Nat.{ℕ, suc, ◌+◌, ◌-◌, ◌<◌, ◌≤◌}
+use Prim.Native.Nat.{ℕ, zero, suc, ◌+◌, ◌-◌, ◌<◌, ◌≤◌}
 use mathlib.Core.Bool.{Bool, true, false, cond, false≢true}
 use mathlib.Core.Path.{◌≡◌, refl, sym, ap, ◌∙◌}
-use mathlib.Core.List.{List, [], ◌∷◌, ◌++◌, append-nil}
-use native.Mathlib.Nat.{le_of_eq, le_of_lt, add-sub_cancel_left}
-use native.Mathlib.Numerals.{add-one}
+use mathlib.Core.List.{List, [], ◌∷◌, ◌++◌}
+use native.Mathlib.Nat.{le_of_eq, le_of_lt}
 use native.Mathlib.Omega.{arith}
 use borrow.Author.Tests.{eq-eqb, ne_eqb, eqb-true, eqb-false}
 use lib.Dec.{eqb}
-use lib.ListN.{length, take, drop, get_or, length-drop, drop_of_length-le, length-append, take-append-drop}
-use lib.Seq.{take-suc, drop-cons, append_snoc, take_all, take-append_seam, drop-append_seam, drop-drop}
+use lib.ListN.{length, take, drop, get_or, length-drop, drop_of_length-le, length-append}
+use lib.Seq.{take_all, drop-append_seam, drop-drop}
+use Rattle.std.specs.List.{starts_with}
+use Rattle.std.proofs.Common.{Some, None}
+use Rattle.std.proofs.lemmas.Slice.Eq.{starts_is}
+use Rattle.std.proofs.lemmas.Bool.Decides.{Decides-eqb}
 use Rattle.text.specs.Text.{up_to, decimal}
 use Rattle.text.specs.Inner.PartsRead.{LiteralAt, Gap}
-use Rattle.text.specs.declared.cut.Place.TheVariants.{At, Missing}
 use Rattle.text.proofs.Decimals.{Figures, decimal_is, decimal_inj}
 
 -- what `&s[a..]` holds
@@ -45,28 +47,17 @@ up_to_past : (stop x : ℕ) (xs : List ℕ) → (x ≡ stop → ⊥) → up_to s
 unfolding up_to
 up_to_past stop x xs e = rw (ne_eqb x stop e, up_to)
 
--- the first k bytes hold no stop: what is to be found lies after them
-abbrev pub Passed : ℕ → List ℕ → ℕ → Type 0
-Passed stop l k = up_to stop l ≡ take k l ++ up_to stop (drop k l)
+-- the first stop stands at i
+pub first_stop : (stop : ℕ) (l : List ℕ) (i : ℕ) → i < length l → get_or l i 0 ≡ stop → ((k : ℕ) → k < i → get_or l k 0 ≡ stop → ⊥) → take i l ≡ up_to stop l
+first_stop stop [] i h e n = absurd (omega arith)
+first_stop stop (x ∷ xs) zero h e n = sym (up_to_here stop x xs e)
+first_stop stop (x ∷ xs) (suc i) h e n =
+    ap (λ (r : List ℕ). x ∷ r) (first_stop stop xs i (omega arith) e (λ k b. n (suc k) (omega arith))) ∙ sym (up_to_past stop x xs (n zero (omega arith)))
 
-module _ (stop : ℕ) (l : List ℕ) (k : ℕ) (p : Passed stop l k) where
-  pub passed_more : k < length l → (get_or l k 0 ≡ stop → ⊥) → Passed stop l (k + 1)
-  passed_more h ne =
-      rw (add-one, take-suc l k 0)
-      (p ∙ ap (λ (r : List ℕ). take k l ++ up_to stop r) (drop-cons l k 0 h)
-      ∙ ap (λ (r : List ℕ). take k l ++ r) (up_to_past stop (get_or l k 0) (drop (suc k) l) ne)
-      ∙ sym (append_snoc (take k l) (get_or l k 0) (up_to stop (drop (suc k) l))))
-
-  pub stop_found : k < length l → get_or l k 0 ≡ stop → take k l ≡ up_to stop l
-  stop_found h e =
-      sym (p ∙ ap (λ (r : List ℕ). take k l ++ up_to stop r) (drop-cons l k 0 h)
-      ∙ ap (λ (r : List ℕ). take k l ++ r) (up_to_here stop (get_or l k 0) (drop (suc k) l) e)
-      ∙ append-nil (take k l))
-
-  pub none_found : length l ≤ k → l ≡ up_to stop l
-  unfolding up_to
-  none_found h =
-      sym (p ∙ ap (λ (r : List ℕ). take k l ++ up_to stop r) (drop_of_length-le l h) ∙ append-nil (take k l) ∙ take_all k l h)
+pub no_stop : (stop : ℕ) (l : List ℕ) → ((k : ℕ) → k < length l → get_or l k 0 ≡ stop → ⊥) → l ≡ up_to stop l
+no_stop stop [] n = sym (up_to_nil stop)
+no_stop stop (x ∷ xs) n =
+    ap (λ (r : List ℕ). x ∷ r) (no_stop stop xs (λ k b. n (suc k) (omega arith))) ∙ sym (up_to_past stop x xs (n zero (omega arith)))
 
 -- ---- the part before a stop, and what is left
 
@@ -138,22 +129,18 @@ same_number stop h v w x y e gx gy =
     let d : decimal v ≡ decimal w = sym (up_to_clean stop (decimal v) x (decimal_clean stop h v) gx) ∙ ap (up_to stop) e ∙ up_to_clean stop (decimal w) y (decimal_clean stop h w) gy in
     (decimal_inj v w d, cancel (decimal w) x y (ap (λ (r : List ℕ). r ++ x) (sym d) ∙ e))
 
--- ---- a literal at a place
+-- ---- a literal at a place, by what `starts_with` says of `&s[at..]`
 
-module _ (s : List ℕ) (at : ℕ) (literal : List ℕ) where
-  pub too_short : length s - at < length literal → LiteralAt s at literal Missing
-  too_short h x e = omega (arith, length-append literal x, ap length e, length-drop at s)
+module _ (s : List ℕ) (at : ℕ) (literal : List ℕ) (r : Bool) (e : r ≡ starts_with eqb (take (length s - at) (drop at s)) literal) where
+  begins : (r ≡ true → drop at s ≡ literal ++ drop (length literal) (drop at s)) × ((rest : List ℕ) → drop at s ≡ literal ++ rest → r ≡ true)
+  begins = rw from_eq at (starts_is Decides-eqb (take (length s - at) (drop at s)) literal r e)
 
-  front : take (at + length literal - at) (drop at s) ≡ take (length literal) (drop at s)
-  front = rw add-sub_cancel_left
+  pub stands : at ≤ length s → r ≡ true → LiteralAt s at literal (Some (at + length literal))
+  stands h t =
+      let d : drop at s ≡ literal ++ drop (length literal) (drop at s) = begins.0 t in (
+        omega (arith, length-drop at s, ap length d, length-append literal (drop (length literal) (drop at s))),
+        d ∙ ap (λ (x : List ℕ). literal ++ x) (drop-drop (length literal) at s),
+      )
 
-  pub stands : at ≤ length s → length literal ≤ length s - at → take (at + length literal - at) (drop at s) ≡ literal → LiteralAt s at literal (At (at + length literal))
-  stands h h' e = (
-    omega arith,
-    sym (take-append-drop (length literal) (drop at s))
-        ∙ ap (λ (r : List ℕ). r ++ drop (length literal) (drop at s)) (sym front ∙ e)
-        ∙ ap (λ (r : List ℕ). literal ++ r) (drop-drop (length literal) at s),
-  )
-
-  pub differs : (take (at + length literal - at) (drop at s) ≡ literal → ⊥) → LiteralAt s at literal Missing
-  differs ne x e = ne (front ∙ ap (take (length literal)) e ∙ take-append_seam literal x)
+  pub differs : r ≡ false → LiteralAt s at literal None
+  differs f x q = false≢true (sym f ∙ begins.1 x q)

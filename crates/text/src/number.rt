@@ -4,48 +4,24 @@ ghost use Rattle.text.specs.Text.{decimal};
 ghost use Rattle.text.specs.Inner.Put.{TextPut};
 ghost use Rattle.text.specs.Inner.PartsRead.{DecimalOf, LengthOf};
 
-#[derive(Clone, Copy)]
-pub enum Number {
-    Is(u32),
-    Not,
-}
-
-fn wide(x: u8) -> u64
-    ensures { result ≡ x }
-{
-    x as u64
-}
-
 // The number whose decimal is the whole of `s`: no leading zeros, at most 4,294,967,295.
-pub fn read_number(s: &[u8]) -> Number
+pub fn read_number(s: &[u8]) -> Option<u32>
     ensures { DecimalOf s.now result }
 {
-    if s.len() == 0 {
-        return Number::Not;
+    if s.is_empty() {
+        return None;
     }
-    if s[0] == 48 {
-        if s.len() == 1 {
-            return Number::Is(0);
-        }
-        return Number::Not;
+    if s[0] == b'0' {
+        return if s.len() == 1 { Some(0) } else { None };
     }
-    let mut v: u64 = 0;
-    let mut i = 0;
-    while i < s.len() {
-        let b = s[i];
-        if b < 48 {
-            return Number::Not;
+    let mut v: u32 = 0;
+    for &b in s {
+        if !b.is_ascii_digit() {
+            return None;
         }
-        if 57 < b {
-            return Number::Not;
-        }
-        v = v * 10 + (wide(b) - 48);
-        if 4294967295 < v {
-            return Number::Not;
-        }
-        i += 1;
+        v = v.checked_mul(10)?.checked_add(u32::from(b - b'0'))?;
     }
-    Number::Is(v as u32)
+    Some(v)
 }
 
 // How many digits `v` has.
@@ -77,5 +53,5 @@ pub fn put_decimal(out: &mut [u8], at: usize, v: u32) -> usize
     requires { at + length (decimal v) ≤ length out.old }
     ensures { TextPut out.old at (decimal v) out.new result }
 {
-    put_wide(out, at, v as u64)
+    put_wide(out, at, u64::from(v))
 }

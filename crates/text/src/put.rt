@@ -7,10 +7,7 @@ pub fn put_bytes(out: &mut [u8], at: usize, literal: &[u8]) -> usize
     requires { at + length literal.now ≤ length out.old }
     ensures { TextPut out.old at literal.now out.new result }
 {
-    let mut i = 0;
-    while i < literal.len() {
-        out[at + i] = literal[i];
-        i += 1;
-    }
-    at + i
+    let end = at + literal.len();
+    out[at..end].copy_from_slice(literal);
+    end
 }

@@ -7,7 +7,7 @@ use mathlib.Core.Bool.{Bool, true, false, cond, true≢false, ◌&&◌}
 use mathlib.Core.List.{List}
 use lib.Dec.{eqb, ltb}
 use lib.ListN.{length, get_or, drop, length-drop}
-use borrow.Author.Tests.{ltb-true, ltb-false, eq-eqb, ne_eqb}
+use borrow.Author.Tests.{ltb-true, ltb-false}
 use Rattle.graph.specs.Refusals.{Answer, refused, done, map_done, and_then}
 use Rattle.graph.proofs.Answers.{Holds, refuses, holds, holds_cond, holds_at, by_bool}
 use Rattle.flat.specs.Flat.{Tagged, Flat}
@@ -38,22 +38,6 @@ module _ (k : ℕ) (q : List Tagged) where
 
   pub end_within : (p : ℕ) → p < length q → end_of k p q ≤ length q
   end_within p h = omega (arith, find_within (breaks k) (drop (suc p) q), length-drop (suc p) q)
-
-  -- two neighbours, each alone in its unit: one test after the other
-  module _ (s : Span) where
-    pub alone_past : is_at k s.end q ≡ false → alone k q s ≡ refused 21
-    alone_past t = rw t refl
-
-    module _ (t : is_at k s.end q ≡ true) where
-      pub alone_first : (s.start + 1 ≡ s.end → ⊥) → alone k q s ≡ refused 22
-      alone_first n = rw (t, ne_eqb s.end (suc s.start) (λ e. n (omega arith))) refl
-
-      module _ (d : s.start + 1 ≡ s.end) where
-        pub alone_second : (s.end + 1 ≡ end_of k s.end q → ⊥) → alone k q s ≡ refused 22
-        alone_second n = rw (t, eq-eqb s.end (suc s.start) (omega arith), ne_eqb (end_of k s.end q) (suc s.end) (λ e. n (omega arith))) refl
-
-        pub alone_both : s.end + 1 ≡ end_of k s.end q → alone k q s ≡ done s
-        alone_both e = rw (t, eq-eqb s.end (suc s.start) (omega arith), eq-eqb (end_of k s.end q) (suc s.end) (omega arith)) refl
 
 -- THE STEPS, where the unit, or the two, are found
 module _ (k i : ℕ) (f : Flat) where

@@ -9,14 +9,15 @@ ghost use Rattle.state.specs.Inner.Operations.{Bounded};
 ghost use Rattle.state.specs.Inner.State.{flat_in, Proper};
 ghost use Rattle.units.specs.Inner.Numbered.{locate, locate_two, spotted};
 
+use graph::refusal::Refusal;
 use state::nodes::is_known;
 use state::ops;
 
-// The number of a refusal; or where a unit starts and ends, in the queue.
-#[derive(Clone, Copy)]
-pub enum Spot {
-    Refused(u32),
-    At(usize, usize),
+// Where a unit starts and ends, in the queue.
+#[derive(Clone, Copy, Debug, PartialEq, Eq)]
+pub struct UnitPlace {
+    pub start: usize,
+    pub end: usize,
 }
 
 // An operation of station k stands at p.
@@ -24,10 +25,7 @@ pub fn is_at(image: &[u8], k: u8, p: usize) -> bool
     requires { Proper image.now }
     ensures { result ≡ is_at k p (flat_in image.now).queue }
 {
-    if ops::total(image) <= p {
-        return false;
-    }
-    ops::place_at(image, p) == k
+    p < ops::total(image) && ops::place_at(image, p) == k
 }
 
 // Where that unit starts, or the queue's end. It goes from unit to unit, and stops after the last.
@@ -40,51 +38,47 @@ fn unit_start(image: &[u8], k: u8, unit: u32) -> usize
         return n;
     }
     let mut p = ops::first_at(image, k);
-    let mut i = unit;
-    while 1 < i {
+    for _ in 1..unit {
         if !is_at(image, k, p) {
             return n;
         }
         p = ops::unit_end(image, k, p);
-        i -= 1;
     }
     p
 }
 
 // The unit with that number.
-pub fn unit_at(image: &[u8], k: u8, unit: u32) -> Spot
+pub fn unit_at(image: &[u8], k: u8, unit: u32) -> Result<UnitPlace, Refusal>
     requires { Proper image.now }
     ensures { locate k unit (flat_in image.now) ≡ spotted result }
 {
     if !is_known(image, k) {
-        return Spot::Refused(20);
+        return Err(Refusal::NoNode);
     }
-    let p = unit_start(image, k, unit);
-    if !is_at(image, k, p) {
-        return Spot::Refused(21);
+    let start = unit_start(image, k, unit);
+    if !is_at(image, k, start) {
+        return Err(Refusal::NoUnit);
     }
-    Spot::At(p, ops::unit_end(image, k, p))
+    let end = ops::unit_end(image, k, start);
+    Ok(UnitPlace { start, end })
 }
 
 // The same where that unit and the next have one operation each: the one at the start, the other at the end.
-pub fn two_at(image: &[u8], k: u8, unit: u32) -> Spot
+pub fn two_at(image: &[u8], k: u8, unit: u32) -> Result<UnitPlace, Refusal>
     requires { Proper image.now }
     ensures { locate_two k unit (flat_in image.now) ≡ spotted result }
 {
-    match unit_at(image, k, unit) {
-        Spot::Refused(n) => Spot::Refused(n),
-        Spot::At(p, e) => {
-            if !is_at(image, k, e) {
-                return Spot::Refused(21);
-            }
-            if p + 1 != e {
-                return Spot::Refused(22);
-            }
-            let end = ops::unit_end(image, k, e);
-            if e + 1 != end {
-                return Spot::Refused(22);
-            }
-            Spot::At(p, e)
-        }
+    let place = unit_at(image, k, unit)?;
+    let next = place.end;
+    if !is_at(image, k, next) {
+        return Err(Refusal::NoUnit);
     }
+    if place.start + 1 != next {
+        return Err(Refusal::NotAllowed);
+    }
+    let end = ops::unit_end(image, k, next);
+    if next + 1 != end {
+        return Err(Refusal::NotAllowed);
+    }
+    Ok(place)
 }

@@ -12,6 +12,7 @@ use Rattle.graph.specs.Words.{modulus}
 use Rattle.graph.specs.declared.act.Act.{Act}
 use Rattle.graph.specs.declared.act.Act.TheVariants.{Map, Link, Unlink, Sum, Top, Pick, Near}
 use Rattle.graph.specs.declared.remaining.Remaining.{Remaining}
+use Rattle.graph.specs.declared.remaining.Remaining.TheVariants.{All, Listed}
 use Rattle.graph.specs.Packed.{listed, packed, targets_in, packed_targets}
 use Rattle.graph.specs.Targets.{Targets, these, all, is_marked, left_of}
 use Rattle.graph.specs.Nodes.{Node, Result}
@@ -19,14 +20,14 @@ use Rattle.graph.specs.OneAtATime.{Labelled, add_of, op_of}
 use Rattle.graph.specs.Valid.{Each, ValidKeys, ValidTargets, ValidNode, ValidAct, ValidHeld, most_labels, ValidOp, ValidResult}
 use Rattle.graph.proofs.Answers.{and_left, and_right, by_bool}
 use Rattle.graph.proofs.KeyLaws.{listed_packed}
-use Rattle.graph.proofs.PackedTargets.{packed_left, targets_packed}
+use Rattle.graph.proofs.PackedTargets.{targets_packed}
 use Rattle.flat.specs.Inner.Queues.{placed, follows, labels_in}
 use Rattle.records.specs.declared.node.NodeRecord.{NodeRecord}
 use Rattle.records.specs.declared.op.OpRecord.{OpRecord}
 use Rattle.records.specs.declared.result.ResultRecord.{ResultRecord}
 use Rattle.records.proofs.Codecs.{FitKeys, FitLabels, FitNode, FitOp, FitResult}
-use Rattle.valid.specs.Inner.Decoded.{decoded_node, decoded_result, labels_of, act_of, held_of, remaining_of, decoded_call, tagged_of}
-use Rattle.valid.specs.Values.{node_record, result_record, packed_labels, Fields, fields, fields_of, op_record, call_record, tagged_record}
+use Rattle.valid.specs.Inner.Decoded.{decoded_node, decoded_result, labels_of, act_of, held_of, read_targets, remaining_of, decoded_call, tagged_of}
+use Rattle.valid.specs.Values.{node_record, result_record, packed_labels, Fields, fields, fields_of, written_keys, all_byte, mark_byte, op_record, call_record, tagged_record}
 use Rattle.valid.specs.Inner.Tests.{keys_ok, labels_ok, node_ok, operand_ok, multiplier_ok, most_of, targets_ok, all_ok, mark_ok, op_ok, result_ok}
 use Rattle.valid.proofs.Facts.{ValidPlaced}
 use Rattle.valid.proofs.Packing.{KeysGood, keys_good, keys_packed, packed_ok, packed_fit, LabelsGood, labels_length, labels_good, labels_packed, packed_labels_ok, labels_of_packed}
@@ -239,10 +240,25 @@ module _ (n prev : ℕ) (o : OpRecord) (fit : FitOp o) (e : op_ok n prev o ≡ t
   unlisted : o.targets.count ≡ 0 → packed [] ≡ o.targets
   unlisted z = ap packed (no_keys o.targets.key o.targets.count z) ∙ keys_packed true o.targets fit.targets facts.targets
 
-  remaining_there : packed_targets (targets_in (remaining_of o)) ≡ remaining_of o
+  -- what is written of some targets is what o has
+  record Written (t : Targets) : Type 0 where
+    keys : written_keys (packed_targets t) ≡ o.targets
+    all : all_byte (packed_targets t) ≡ o.all
+    mark : mark_byte (packed_targets t) ≡ o.mark
+
+  all_kept : cond (eqb o.all 1) 1 0 ≡ o.all
+  all_kept = flag_kept o.all afacts.small
+
+  mark_kept : cond (eqb o.mark 1) 1 0 ≡ o.mark
+  mark_kept = flag_kept o.mark mfacts.small
+
+  not_marked : eqb o.all 1 ≡ false → 0 ≡ o.mark
+  not_marked q = sym (ap (λ (b : Bool). cond b 1 0) (mfacts.listed q)) ∙ mark_kept
+
+  remaining_there : Written (targets_in (remaining_of o))
   remaining_there = by_bool (eqb o.all 1)
-      (λ q. rw q (λ i. record { all = true; mark = eqb o.mark 1; keys = unlisted (afacts.none q) i }))
-      (λ q. rw q (λ i. record { all = false; mark = sym (mfacts.listed q) i; keys = keys_packed true o.targets fit.targets facts.targets i }))
+      (λ q. rw q (record { keys = unlisted (afacts.none q); all = sym (ap (λ (b : Bool). cond b 1 0) q) ∙ all_kept; mark = mark_kept }))
+      (λ q. rw q (record { keys = keys_packed true o.targets fit.targets facts.targets; all = sym (ap (λ (b : Bool). cond b 1 0) q) ∙ all_kept; mark = not_marked q }))
 
   remaining_valid : ValidTargets (targets_in (remaining_of o))
   remaining_valid = by_bool (eqb o.all 1) (λ q. rw q tt) (λ q. rw q (record { few = tgood.few; keys = tgood.keys; rise = tgood.rises refl }))
@@ -264,7 +280,7 @@ module _ (n prev : ℕ) (o : OpRecord) (fit : FitOp o) (e : op_ok n prev o ≡ t
           }
 
   -- a record whose parts are those of o is o
-  made : (f : Fields) (t : Targets) (ls : List ℕ) → f ≡ fields o.kind o.key o.a o.b → packed_targets t ≡ remaining_of o → packed_labels ls ≡ o.labels → op_record o.station (eqb o.opens 1) f t ls ≡ o
+  made : (f : Fields) (t : Targets) (ls : List ℕ) → f ≡ fields o.kind o.key o.a o.b → Written t → packed_labels ls ≡ o.labels → op_record o.station (eqb o.opens 1) f t ls ≡ o
   made f t ls p q r =
       λ i.
       record {
@@ -274,10 +290,10 @@ module _ (n prev : ℕ) (o : OpRecord) (fit : FitOp o) (e : op_ok n prev o ≡ t
         key = (p i).key;
         a = (p i).a;
         b = (p i).b;
-        targets = (q i).keys;
+        targets = q.keys i;
         labels = r i;
-        all = (ap (λ (x : Remaining). cond x.all 1 0) q ∙ flag_kept o.all afacts.small) i;
-        mark = (ap (λ (x : Remaining). cond x.mark 1 0) q ∙ flag_kept o.mark mfacts.small) i;
+        all = q.all i;
+        mark = q.mark i;
       }
 
   -- an add has one label
@@ -295,7 +311,7 @@ module _ (n prev : ℕ) (o : OpRecord) (fit : FitOp o) (e : op_ok n prev o ≡ t
       let listed_none : eqb o.all 1 ≡ false = ap (λ (x : ℕ). eqb x 1) (afacts.add kind) in
       made (fields 0 0 0 o.b) (these []) (get_or o.labels.label 0 0 ∷ [])
       (λ i. fields (sym kind i) (sym (eqb-true o.key 0 op) i) (sym (eqb-true o.a 0 multiplier) i) o.b)
-      (λ i. record { all = sym listed_none i; mark = sym (mfacts.listed listed_none) i; keys = unlisted (eqb-true o.targets.count 0 none) i })
+      (record { keys = unlisted (eqb-true o.targets.count 0 none); all = sym (afacts.add kind); mark = not_marked listed_none })
       (ap packed_labels (one_label o.labels.label o.labels.count (one_count q) (omega (arith, fit.labels.places)))
       ∙ labels_packed (most_of o.kind) (most_four o.kind) o.labels fit.labels facts.labels)
 
@@ -358,8 +374,13 @@ flag_back true = refl
 flag_back false = refl
 
 -- the bytes for all and for the mark, written and read
-pub flags_back : (r : Remaining) → record { all = eqb (cond r.all 1 0) 1; mark = eqb (cond r.mark 1 0) 1; keys = r.keys } ≡ r
-flags_back r = λ i. record { all = flag_back r.all i; mark = flag_back r.mark i; keys = r.keys }
+pub flags_back : (r : Remaining) → read_targets (written_keys r) (all_byte r) (mark_byte r) ≡ r
+flags_back (All done) = ap All (flag_back done)
+flags_back (Listed keys) = refl
+
+written_left : (t : Targets) → written_keys (packed_targets t) ≡ packed (left_of t)
+written_left (these ts) = refl
+written_left (all mark) = refl
 
 flag_small : (b : Bool) → leb (cond b 1 0) 1 ≡ true
 flag_small true = refl
@@ -374,8 +395,8 @@ one_good l = record { named = omega arith; few = omega arith }
 -- the targets of a valid call, in a record at p of a kind that is no add's
 record RemainingGood (p kind : ℕ) (t : Targets) : Type 0 where
   keys : KeysGood true (left_of t)
-  all : all_ok kind (packed_targets t).keys.count (cond (packed_targets t).all 1 0) ≡ true
-  mark : mark_ok p (cond (packed_targets t).all 1 0) (cond (packed_targets t).mark 1 0) ≡ true
+  all : all_ok kind (written_keys (packed_targets t)).count (all_byte (packed_targets t)) ≡ true
+  mark : mark_ok p (all_byte (packed_targets t)) (mark_byte (packed_targets t)) ≡ true
 
 remaining_good : (p kind : ℕ) (t : Targets) → eqb kind 0 ≡ false → ValidTargets t → (p ≡ 65 → is_marked t ≡ false) → RemainingGood p kind t
 unfolding packed
@@ -426,7 +447,7 @@ record_good p b (op_of o) (h, m) = made (fields_good o.act o.held h.act h.held)
                 operand = g.operand;
                 multiplier = g.multiplier;
                 none = rw g.other;
-                targets = ap (keys_ok true) (packed_left o.targets) ∙ packed_ok true (left_of o.targets) r.keys;
+                targets = ap (keys_ok true) (written_left o.targets) ∙ packed_ok true (left_of o.targets) r.keys;
                 labels = packed_labels_ok (most_of f.kind) (most_four f.kind) o.labels lg;
                 opens = flag_small b;
                 all = r.all;
@@ -436,7 +457,7 @@ record_good p b (op_of o) (h, m) = made (fields_good o.act o.held h.act h.held)
               record {
                 a = g.small_a;
                 b = g.small_b;
-                targets = subst FitKeys (sym (packed_left o.targets)) (packed_fit true (left_of o.targets) r.keys);
+                targets = subst FitKeys (sym (written_left o.targets)) (packed_fit true (left_of o.targets) r.keys);
                 labels = labels_fit o.labels (omega (arith, few, most_four f.kind)) s;
               };
         }

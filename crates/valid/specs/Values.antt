@@ -3,6 +3,9 @@
 use Rattle.std.specs.Prelude.{ℕ, ◌-◌, Bool, cond, List, [], ◌∷◌, ◌++◌, map, length, replicate}
 use Rattle.graph.specs.declared.act.Act.{Act}
 use Rattle.graph.specs.declared.act.Act.TheVariants.{Map, Link, Unlink, Sum, Top, Pick, Near}
+use Rattle.graph.specs.declared.keys.Keys.{Keys}
+use Rattle.graph.specs.declared.remaining.Remaining.{Remaining}
+use Rattle.graph.specs.declared.remaining.Remaining.TheVariants.{All, Listed}
 use Rattle.graph.specs.Packed.{packed, packed_targets}
 use Rattle.graph.specs.Targets.{Targets, these}
 use Rattle.graph.specs.Nodes.{Node, Result}
@@ -44,7 +47,19 @@ fields_of Top h = fields 5 0 0 h
 fields_of Pick h = fields 6 0 0 h
 fields_of (Near k) h = fields 7 k 0 h
 
--- the targets that remain: the keys listed, and a byte each for all and for its mark (S-3)
+-- what is written of the targets that remain: the keys listed, and a byte each for all and for its mark (S-3)
+abbrev pub written_keys : Remaining → Keys
+written_keys (All done) = packed []
+written_keys (Listed keys) = keys
+
+abbrev pub all_byte : Remaining → ℕ
+all_byte (All done) = 1
+all_byte (Listed keys) = 0
+
+abbrev pub mark_byte : Remaining → ℕ
+mark_byte (All done) = cond done 1 0
+mark_byte (Listed keys) = 0
+
 abbrev pub op_record : ℕ → Bool → Fields → Targets → List ℕ → OpRecord
 op_record p opens f t ls =
     record {
@@ -54,10 +69,10 @@ op_record p opens f t ls =
       key = f.key;
       a = f.a;
       b = f.b;
-      targets = (packed_targets t).keys;
+      targets = written_keys (packed_targets t);
       labels = packed_labels ls;
-      all = cond (packed_targets t).all 1 0;
-      mark = cond (packed_targets t).mark 1 0;
+      all = all_byte (packed_targets t);
+      mark = mark_byte (packed_targets t);
     }
 
 abbrev pub call_record : ℕ → Bool → Labelled → OpRecord

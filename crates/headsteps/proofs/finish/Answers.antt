@@ -1,42 +1,23 @@
 -- The one found goes.
 -- Assumes nothing.
-use mathlib.Core.Path.{◌≡◌, refl, sym, ap, ◌∙◌}
-use Rattle.graph.specs.Refusals.{done}
+use Rattle.std.proofs.Common.{refl}
 use Rattle.graph.specs.declared.task.Sought.TheVariants.{Finishes}
 use Rattle.flat.specs.Inner.FlatSteps.{leave_flat}
 use Rattle.state.specs.Inner.State.{flat_in}
-use Rattle.state.proofs.Working.{works_refused, works_done}
-use Rattle.units.specs.Inner.Numbered.{Span, spotted}
-use Rattle.headsteps.specs.Inner.Heads.{locate_first}
+use Rattle.state.proofs.Working.{works_handed, works_done}
+use Rattle.units.specs.Inner.Numbered.{span_of}
 use Rattle.headsteps.proofs.Heads.{first_no, first_yes, found_op}
 use Rattle.headsteps.proofs.finish.Goals as goal
-use Rattle.headsteps.proofs.finish.Goals.{In-At, Start}
 
-pub first_in_head-requires : goal.first_in_head-requires
-first_in_head-requires c = c.requires
-
--- what was found
-module _ (a : In-At) where
-  abbrev span : Span
-  span = record { start = a.in-At.p; end = a.in-At.e }
-
-  there : locate_first Finishes a.args.k (flat_in a.args.image.now) ≡ done span
-  there = a.first_in_head.ensures ∙ ap spotted a.in-At.is
+pub returns-in_err-place : goal.returns-in_err-place
+returns-in_err-place c =
+    works_handed c.from_residual.result _ c.from_residual.ensures.1 (first_no Finishes c.args.k (flat_in c.args.image.now) leave_flat c.in_err-place.ensures) refl
 
 pub finish_at-requires : goal.finish_at-requires
 finish_at-requires c =
-    let s = (goal.at.finish_at-requires c).In-At in
-    let w = found_op s.args.image.now s.requires Finishes s.args.k (span (goal.at.finish_at-requires c).In-At) (there (goal.at.finish_at-requires c).In-At) in
-    (s.requires, w.inside, w.fits, w.op)
+    let w = found_op c.args.image.now c.requires Finishes c.args.k (span_of c.in_ok-place.place) c.in_ok-place.ensures in
+    (c.requires, w.inside, w.fits, w.op)
 
-pub returns-in-Refused : goal.returns-in-Refused
-returns-in-Refused c =
-    works_refused (first_no Finishes c.args.k (flat_in c.args.image.now) leave_flat (c.first_in_head.ensures ∙ ap spotted c.in-Refused.is)) refl
-
-pub shape_of-image-in-At : goal.shape_of-image-in-At
-shape_of-image-in-At c = c.finish_at.ensures.proper.sound.size ∙ sym (goal.at.shape_of-image-in-At c).In-At.requires.proper.sound.size
-
-pub returns-in-At : goal.returns-in-At
-returns-in-At c =
-    let s = (goal.at.returns-in-At c).In-At in
-    works_done (first_yes Finishes s.args.k (flat_in s.args.image.now) leave_flat (there (goal.at.returns-in-At c).In-At)) c.finish_at.ensures
+pub returns : goal.returns
+returns c =
+    works_done (first_yes Finishes c.args.k (flat_in c.args.image.now) leave_flat c.in_ok-place.ensures) c.finish_at.ensures

@@ -1,22 +1,18 @@
 -- What the readers of parts and numbers answer.
 -- Assumes nothing.
-use Rattle.std.specs.Prelude.{ℕ, ◌<◌, ◌≤◌, List, [], ◌∷◌, ◌++◌, ◌≡◌, length, drop}
+use Rattle.std.specs.Prelude.{ℕ, ◌<◌, ◌≤◌, List, [], ◌∷◌, ◌++◌, ◌≡◌, length, drop, Option, Some, None}
 use Rattle.graph.specs.Words.{modulus}
 use Rattle.text.specs.Text.{decimal}
-use Rattle.text.specs.declared.number.Number.{Number}
-use Rattle.text.specs.declared.number.Number.TheVariants.{Is, Not}
-use Rattle.text.specs.declared.cut.Place.{Place}
-use Rattle.text.specs.declared.cut.Place.TheVariants.{At, Missing}
 
--- `Is v`: the bytes are v's decimal. `Not`: they are no 32-bit number's decimal.
-abbrev pub DecimalOf : List ℕ → Number → Type 0
-DecimalOf s (Is v) = s ≡ decimal v
-DecimalOf s Not = (v : ℕ) → v < modulus → s ≡ decimal v → ⊥
+-- `Some v`: the bytes are v's decimal. `None`: they are no 32-bit number's decimal.
+abbrev pub DecimalOf : List ℕ → Option ℕ → Type 0
+DecimalOf s (Some v) = s ≡ decimal v
+DecimalOf s None = (v : ℕ) → v < modulus → s ≡ decimal v → ⊥
 
--- `At n`: the literal stands at `at`, and n is the place after it. `Missing`: it does not stand there.
-abbrev pub LiteralAt : List ℕ → ℕ → List ℕ → Place → Type 0
-LiteralAt s at literal (At n) = (n ≤ length s) × (drop at s ≡ literal ++ drop n s)
-LiteralAt s at literal Missing = (x : List ℕ) → drop at s ≡ literal ++ x → ⊥
+-- `Some n`: the literal stands at `at`, and n is the place after it. `None`: it does not stand there.
+abbrev pub LiteralAt : List ℕ → ℕ → List ℕ → Option ℕ → Type 0
+LiteralAt s at literal (Some n) = (n ≤ length s) × (drop at s ≡ literal ++ drop n s)
+LiteralAt s at literal None = (x : List ℕ) → drop at s ≡ literal ++ x → ⊥
 
 -- nothing, or what begins with the byte stop
 abbrev pub Gap : ℕ → List ℕ → Type 0

@@ -1,13 +1,14 @@
 -- Units by number: where one starts and ends, and two neighbours that are alone in their units.
 -- Assumes nothing.
-use Rattle.std.specs.Prelude.{ℕ, suc, cond, ◌&&◌, List, eqb}
+use Rattle.std.specs.Prelude.{ℕ, suc, cond, ◌&&◌, List, eqb, Result}
+use Rattle.graph.specs.Refused.{answered}
+use Rattle.graph.specs.declared.refusal.Refusal.{Refusal}
 use Rattle.graph.specs.Refusals.{Answer, refused, done, and_then}
 use Rattle.flat.specs.Flat.{Tagged, Flat}
 use Rattle.flat.specs.Inner.Queues.{first_index, is_at, end_of}
 use Rattle.flat.specs.Inner.Nested.{at_place}
 use Rattle.flat.specs.Inner.FlatSteps.{unit_start, known}
-use Rattle.units.specs.declared.Spot.{Spot}
-use Rattle.units.specs.declared.Spot.TheVariants.{Refused, At}
+use Rattle.units.specs.declared.UnitPlace.{UnitPlace}
 
 -- where a unit starts, and where it ends: where the next one starts, if there is one
 pub record Span : Type 0 where
@@ -28,7 +29,9 @@ alone k q s = cond (is_at k s.end q) (cond (eqb s.end (suc s.start) && eqb (end_
 abbrev pub locate_two : ℕ → ℕ → Flat → Answer Span
 locate_two k i f = and_then (locate k i f) (alone k f.queue)
 
--- what the enum of src/lib.rt says
-abbrev pub spotted : Spot → Answer Span
-spotted (Refused n) = refused n
-spotted (At p e) = done (record { start = p; end = e })
+-- what the functions of src/lib.rt answer
+abbrev pub span_of : UnitPlace → Span
+span_of u = record { start = u.start; end = u.end }
+
+abbrev pub spotted : Result UnitPlace Refusal → Answer Span
+spotted = answered span_of

@@ -3,7 +3,9 @@
 use Rattle.std.specs.Prelude.{ℕ, cond, List, [], ◌∷◌, map, eqb, get_or, take}
 use Rattle.graph.specs.declared.act.Act.{Act}
 use Rattle.graph.specs.declared.act.Act.TheVariants.{Map, Link, Unlink, Sum, Top, Pick, Near}
+use Rattle.graph.specs.declared.keys.Keys.{Keys}
 use Rattle.graph.specs.declared.remaining.Remaining.{Remaining}
+use Rattle.graph.specs.declared.remaining.Remaining.TheVariants.{All, Listed}
 use Rattle.graph.specs.Packed.{listed, targets_in}
 use Rattle.graph.specs.Nodes.{Node, Result}
 use Rattle.graph.specs.OneAtATime.{Labelled, add_of, op_of}
@@ -35,9 +37,12 @@ act_of kind key a b = get_or (Sum ∷ Map (record { a = a; b = b }) ∷ Link key
 abbrev pub held_of : ℕ → ℕ → ℕ
 held_of kind b = cond (eqb kind 1) 0 b
 
--- the targets that remain, as the struct of graph/src/remaining.rt holds them
+-- the targets that remain, as the enum of graph/src/remaining.rt holds them
+abbrev pub read_targets : Keys → ℕ → ℕ → Remaining
+read_targets keys all mark = cond (eqb all 1) (All (eqb mark 1)) (Listed keys)
+
 abbrev pub remaining_of : OpRecord → Remaining
-remaining_of o = record { all = eqb o.all 1; mark = eqb o.mark 1; keys = o.targets }
+remaining_of o = read_targets o.targets o.all o.mark
 
 abbrev pub decoded_call : OpRecord → Labelled
 decoded_call o =

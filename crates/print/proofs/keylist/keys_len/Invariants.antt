@@ -3,9 +3,8 @@
 use Prim.Native.Nat.{◌*◌, ◌≤◌}
 use mathlib.Core.Path.{◌≡◌}
 use lib.ListN.{length, take}
-use Rattle.graph.specs.Packed.{listed}
 use Rattle.text.specs.Text.{commas}
 use Rattle.print.proofs.keylist.keys_len.Given as goal
 
 abbrev pub invariant-loop-i : goal.invariant-loop-i
-invariant-loop-i l = (l.sum ≡ length (commas (take l.i (listed l.keys)))) × (l.sum ≤ 11 * l.i)
+invariant-loop-i l = (l.sum ≡ length (commas (take l.i l.key-items))) × (l.sum ≤ 11 * l.i)

@@ -4,13 +4,10 @@ use Rattle.std.proofs.Common.{◌≤◌, ◌≡◌, length}
 use Rattle.script.specs.Inner.Running.{LinesRun}
 use Rattle.script.proofs.input.serve_input.Given as goal
 
-abbrev pub invariant-loop-turns : goal.invariant-loop-turns
-invariant-loop-turns g l =
+abbrev pub invariant-loop : goal.invariant-loop
+invariant-loop g l =
     (l.s.kept ≤ length l.buffer)
     × (length l.image ≡ length l.initial.image)
     × (length l.buffer ≡ length l.initial.buffer)
     × (length l.out ≡ length l.initial.out)
     × LinesRun l.initial.image 1 l.image l.s.line
-
-abbrev pub decreases-loop-turns : goal.decreases-loop-turns
-decreases-loop-turns g l = l.turns

@@ -1,38 +1,41 @@
 -- `text::number::read_number` meets its contract. The loop's invariant: v is what the digits passed make.
 -- Assumes nothing.
 use mathlib.Core.Path.{refl}
-use Rattle.text.proofs.Decimals.{reading_none, reading_more, refute_large, refute_digit, refute_empty, is_zero, refute_zero, read_whole}
+use Rattle.text.proofs.Decimals.{reading_more, outside, refute_large, refute_digit, refute_empty, is_zero, refute_zero, read_whole}
 use native.Mathlib.Omega.{arith}
+use Rattle.std.proofs.Common.{rules, ℕ, ◌≤◌, ◌≡◌, ◌+◌, ◌*◌, ◌-◌, Bool, false, get_or, inl, inr}
+use Rattle.std.specs.Bool.{MatchBool}
+use Rattle.std.specs.Char.{IsAsciiDigit, IsNotAsciiDigit}
+use Rattle.std.proofs.lemmas.Bool.Decides.{when_true, when_false}
 use Rattle.text.proofs.number.read_number.Goals as goal
 
-pub returns-then-s-eq0 : goal.returns-then-s-eq0
-returns-then-s-eq0 c = refute_empty _ c.if-s-eq0.true
+pub returns-then-is_empty : goal.returns-then-is_empty
+returns-then-is_empty c = refute_empty _ (search rules)
 
 pub returns-then-s-eq1 : goal.returns-then-s-eq1
 returns-then-s-eq1 c = is_zero _ c.if-s-eq48.true c.if-s-eq1.true
 
-pub returns-then-s-eq48 : goal.returns-then-s-eq48
-returns-then-s-eq48 c = refute_zero _ c.if-s-eq48.true c.if-s-eq1.false
+pub returns-else-s-eq1 : goal.returns-else-s-eq1
+returns-else-s-eq1 c = refute_zero _ c.if-s-eq48.true c.if-s-eq1.false
 
-pub loop-i-init : goal.loop-i-init
-loop-i-init c = reading_none _
+pub returns-then-not-is_ascii_digit : goal.returns-then-not-is_ascii_digit
+returns-then-not-is_ascii_digit c =
+    refute_digit _ _ _ _ c.loop-b.invariant c.loop-b-test.true refl (outside c.if-not-is_ascii_digit.true c.is_ascii_digit.ensures.cases)
 
-pub returns-then-b-lt48 : goal.returns-then-b-lt48
-returns-then-b-lt48 c =
-    refute_digit _ _ _ _ c.loop-i.invariant c.loop-i-test.true refl (λ lo hi. omega arith)
+pub returns-in_err-checked_mul : goal.returns-in_err-checked_mul
+returns-in_err-checked_mul c =
+    rw c.from_residual.ensures (refute_large _ _ _ _ c.loop-b.invariant c.loop-b-test.true refl (omega (arith, c.in_err-checked_mul.ensures)))
 
-pub returns-then-b-gt57 : goal.returns-then-b-gt57
-returns-then-b-gt57 c =
-    refute_digit _ _ _ _ c.loop-i.invariant c.loop-i-test.true refl (λ lo hi. omega arith)
+pub returns-in_err-v : goal.returns-in_err-v
+returns-in_err-v c =
+    rw c.from_residual-in_err-v.ensures (refute_large _ _ _ _ c.loop-b.invariant c.loop-b-test.true refl (omega (arith, c.in_err-v.ensures)))
 
-pub returns-then-v-gt4294967295 : goal.returns-then-v-gt4294967295
-returns-then-v-gt4294967295 c =
-    refute_large _ _ _ _ c.loop-i.invariant c.loop-i-test.true c.wide.ensures c.if-v-gt4294967295.true
-
-pub loop-i-preserved : goal.loop-i-preserved
-loop-i-preserved c =
-    reading_more _ _ _ _ c.loop-i.invariant c.loop-i-test.true c.wide.ensures (omega arith) (omega arith) c.if-v-gt4294967295.false
+pub loop-b-preserved : goal.loop-b-preserved
+loop-b-preserved c =
+    let d = when_true _ _ c.if-not-is_ascii_digit.false c.is_ascii_digit.ensures.cases in
+    let e : c.in_ok-v.v ≡ c.loop-b.v * 10 + (get_or c.args.s.now c.loop-b.b-index 0 - 48) = omega (arith, c.in_ok-v.ensures, c.in_ok-checked_mul.ensures) in
+    rw e (reading_more _ _ _ _ c.loop-b.invariant c.loop-b-test.true refl d.0 d.1 (omega (arith, c.in_ok-v.ensures)))
 
 pub returns : goal.returns
 returns c =
-    read_whole _ _ _ c.loop-i.invariant c.loop-i-test.false c.if-s-eq0.false c.if-s-eq48.false
+    read_whole _ _ _ c.loop-b.invariant c.loop-b-test.false (search rules) c.if-s-eq48.false

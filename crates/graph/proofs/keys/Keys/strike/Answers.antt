@@ -1,50 +1,34 @@
 -- The loop's invariant: what is kept is the struct of the keys passed, without the key.
 -- Assumes nothing.
 use mathlib.Core.Path.{◌≡◌, sym, ap, ◌∙◌}
-use mathlib.Core.List.{List}
-use Prim.Native.Nat.{ℕ, ◌<◌}
-use lib.ListN.{length, take}
-use lib.Seq.{take_all}
+use Prim.Native.Nat.{◌≤◌}
+use lib.ListN.{length, take, get_or}
 use Rattle.graph.specs.KeyLists.{strike}
-use Rattle.graph.specs.Packed.{listed, packed}
+use Rattle.graph.specs.Packed.{packed}
 use Rattle.graph.proofs.KeyLaws.{strike_hit, strike_miss, strike_few, length_listed, normal, linked_next}
 use native.Mathlib.Omega.{arith}
 use borrow.Author.Rules.{rules}
 use Rattle.graph.proofs.keys.Keys.strike.Goals as goal
-use Rattle.graph.proofs.keys.Keys.strike.Goals.{At-loop-i, Start}
+use Rattle.graph.proofs.keys.Keys.strike.Goals.{then-key-k, else-key-k, Start}
 
 eight : (s : Start) → length s.args.self.key ≡ 8
 eight s = search rules
 
-here : (l : At-loop-i) → l.loop-i.i < l.len-n.result → l.loop-i.i < length (listed l.args.self)
-here l h = omega (arith, l.len-n.ensures)
-
-pub loop-i-init : goal.loop-i-init
-loop-i-init c = (omega arith, c.none-kept.ensures)
-
-pub loop-i-preserved-then-k-t : goal.loop-i-preserved-then-k-t
-loop-i-preserved-then-k-t c =
-    let a = c.args in
-    (omega arith, c.loop-i.invariant.1 ∙ ap packed (strike_hit (listed a.self) c.loop-i.i (here (goal.at.loop-i-preserved-then-k-t c).At-loop-i (omega arith)) a.k (c.if-k-t.true ∙ c.at-t.ensures)))
-
 pub linked-kept-requires : goal.linked-kept-requires
-linked-kept-requires c =
-    normal (strike c.args.k (take c.loop-i.i (listed c.args.self))) c.loop-i.invariant.1
+linked-kept-requires c = normal (strike c.args.k (take c.loop-key.key-index c.as_slice-key-items.result.now)) c.loop-key.invariant
 
-pub loop-i-preserved : goal.loop-i-preserved
-loop-i-preserved c =
+pub loop-key-preserved : goal.loop-key-preserved
+loop-key-preserved c =
     let a = c.args in
-    let h = here (goal.at.loop-i-preserved c).At-loop-i (omega arith) in
-    let old = strike a.k (take c.loop-i.i (listed a.self)) in
-    let few : length old < 8 =
-    omega (arith, strike_few (listed a.self) c.loop-i.i h a.k, length_listed a.self (eight (goal.at.loop-i-preserved c).Start)) in (
-      omega arith,
-      c.linked-kept.ensures
-          ∙ linked_next old c.loop-i.invariant.1 c.at-t.ensures few
-          ∙ ap packed (strike_miss (listed a.self) c.loop-i.i h a.k (λ e. c.if-k-t.false (e ∙ sym c.at-t.ensures))),
-    )
-
-pub returns : goal.returns
-returns c =
-    let a = c.args in
-    c.loop-i.invariant.1 ∙ ap (λ (ts : List ℕ). packed (strike a.k ts)) (take_all c.loop-i.i (listed a.self) (omega (arith, c.len-n.ensures)))
+    let keys = c.as_slice-key-items.result.now in
+    let i = c.loop-key.key-index in
+    let old = strike a.k (take i keys) in
+    let most : length keys ≤ 8 = rw c.as_slice-key-items.ensures (length_listed a.self (eight (goal.at.loop-key-preserved c).Start)) in
+    elim c.if-key-k.branch [
+      | then-key-k w ↦
+          w.kept-is
+          ∙ w.linked-kept.ensures
+          ∙ linked_next old c.loop-key.invariant (λ i. get_or keys c.loop-key.key-index 0) (omega (arith, strike_few keys i c.loop-key-test.true a.k))
+          ∙ ap packed (strike_miss keys i c.loop-key-test.true a.k (λ e. w.if-key-k.true (sym e)))
+      | else-key-k w ↦ w.kept-is ∙ c.loop-key.invariant ∙ ap packed (strike_hit keys i c.loop-key-test.true a.k (sym w.if-key-k.false))
+    ]

@@ -1,28 +1,13 @@
 -- `keylists::sofar::ListSoFar::with_comma` meets its contract: the number that has begun is read, and there must be one.
 -- Assumes nothing.
-use mathlib.Core.Bool.{true, false, false≢true}
-use mathlib.Core.List.{[], ◌∷◌, ◌++◌}
-use mathlib.Core.Path.{◌≡◌, refl, ◌∙◌}
 use native.Mathlib.Omega.{arith}
-use borrow.Author.Tests.{not-true, not-false}
-use Rattle.keylists.specs.Inner.ListsRead.{begins}
-use Rattle.keylists.proofs.KeyLists.{held_more, below_snoc}
-use Rattle.keylists.proofs.ListsBegun.{has_begun, text_then, breaks_at_law, no_digit, passed_next}
-use borrow.Author.Rules.{rules}
+use Rattle.std.proofs.Common.{rules, None}
+use Rattle.keylists.proofs.ListsBegun.{breaks_at_law, no_digit, list_more}
 use Rattle.keylists.proofs.sofar.ListSoFar.with_comma.Goals as goal
 
-pub returns-then-not-self : goal.returns-then-not-self
-returns-then-not-self c = λ s p.
-    let f = c.args.self in
-    let off : f.going ≡ false = not-true f.going c.if-not-self.true in
-    breaks_at_law s f (has_begun s f c.requires p) false off 44 _ c.broken.ensures (no_digit false f.value 44 (λ lo hi. omega arith) (λ e h. false≢true e))
+pub returns-in_err-self : goal.returns-in_err-self
+returns-in_err-self c = λ s g.
+    rw c.from_residual.ensures (breaks_at_law s c.args.self g None c.in_err-self.was 44 (no_digit None 44 (λ lo hi. omega arith) (λ v e h. cc)))
 
 pub returns : goal.returns
-returns c = λ s p.
-    let f = c.args.self in
-    let g = has_begun s f c.requires p in
-    let on : f.going ≡ true = not-false f.going c.if-not-self.false in
-    begins refl (g.read ++ f.value ∷ []) (below_snoc g.read f.value g.below (search rules))
-    (text_then s f g true on (44 ∷ []) ∙ passed_next g.read f.value [])
-    (c.with.ensures g.read g.known)
-    (held_more g.read f.value f.list f.key _ g.known g.stored c.store-stored.ensures)
+returns c = λ s g. list_more s c.args.self g _ c.in_ok-self.was (search rules) _ (c.with.ensures g.read g.known)
