@@ -22,9 +22,6 @@ use Rattle.listing.specs.Listed.{listing_of}
 use Rattle.listing.specs.Inner.Rows.{head_line, rows_of, joined}
 use Rattle.listing.proofs.Joined.{joined_append, joined_map}
 
-pub head_counted : (f : Flat) {n m k : ℕ} → n ≡ length f.nodes → m ≡ length f.results → k ≡ length (queued f.queue) → head_text n m k ≡ head_line f
-head_counted f a b c i = head_text (a i) (b i) (c i)
-
 -- the flat session's listing
 abbrev pub flat_listing : Flat → List ℕ
 flat_listing f = head_line f ++ joined (rows_of f)

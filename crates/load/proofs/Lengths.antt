@@ -7,7 +7,7 @@ use native.Mathlib.Omega.{arith}
 use lib.ListN.{length, length-append}
 use Rattle.text.specs.Text.{ascii, decimal, commas}
 use Rattle.text.proofs.Decimals.{len_two, len_five}
-use Rattle.lines.proofs.Lengths.{commas_short}
+use Rattle.text.proofs.CommaLists.{commas_short}
 use Rattle.load.specs.declared.kind.Kind.{Kind}
 use Rattle.load.specs.declared.kind.Kind.TheVariants.{Add, Map, Link, Unlink, Sum, Top, Pick, Near}
 use Rattle.load.specs.Load.{next, after, drawn, key_drawn, keys_drawn, list_length, targets_drawn, call_of, call_drawn, kind_of, line_text, load_text}
