@@ -1,3 +1,2 @@
 pub mod KeyLists
-pub mod Lengths
 pub mod ListsBegun

@@ -2,34 +2,41 @@
 -- Assumes nothing.
 use Prim.Native.Nat.{ℕ, ◌<◌, ◌≤◌}
 use mathlib.Core.Path.{◌≡◌, refl, sym, ap, subst, ◌∙◌}
-use mathlib.Core.Bool.{Bool, true, false, cond, not, false≢true, ◌&&◌}
-use mathlib.Core.List.{List, [], ◌∷◌, ◌++◌}
-use mathlib.Core.Logic.{inl, inr}
+use mathlib.Core.Bool.{Bool, true, false, cond, not, ◌&&◌}
+use mathlib.Core.List.{List, [], ◌++◌}
 use native.Mathlib.Omega.{arith}
-use borrow.Author.Tests.{le-leb, lt-leb}
 use lib.Dec.{eqb, leb}
 use lib.ListN.{length, get_or}
 use Rattle.graph.specs.Calls.{Call, add, map, link, unlink, sum, top, pick, near, unmap, operands_of, listed_of, lacks_inverse}
-use Rattle.graph.specs.Words.{modulus, are_words}
-use Rattle.graph.specs.Affine.{is_odd}
+use Rattle.graph.specs.Words.{modulus}
 use Rattle.graph.specs.Refusals.{refused, done}
 use Rattle.graph.specs.declared.keys.Keys.{Keys}
 use Rattle.graph.specs.declared.remaining.Remaining.{Remaining}
-use Rattle.graph.specs.KeyLists.{is_key, are_keys, rising}
+use Rattle.graph.specs.KeyLists.{are_keys, rising}
 use Rattle.graph.specs.Packed.{packed, packed_targets}
-use Rattle.graph.specs.Targets.{To, named, whole, keys_listed, these, untouched}
+use Rattle.graph.specs.Targets.{To, named, whole, keys_listed, untouched}
 use Rattle.text.specs.Text.{ascii}
 use Rattle.text.proofs.Splits.{clean_test, clean_by}
 use Rattle.lines.specs.Forms.{call_text, call_numbers}
-use Rattle.lines.specs.Inner.Answers.{ReadAs, form, other, settled, call_line, refused_call, call_parts, call_read, call_answer, call_form}
-use Rattle.lines.specs.Inner.LineParts.{Below, is_whole, ToRead, ValuesOf, call_word, call_literals, call_listed, CallAfter, Links, Starts, call_made, unmap_made}
-use Rattle.lines.specs.declared.call.CallAnswer.{CallAnswer}
-use Rattle.lines.specs.declared.call.CallAnswer.TheVariants.{Refused, Is}
+use Rattle.keylists.specs.Inner.ListsRead.{Below}
+use Rattle.keylists.proofs.KeyLists.{below_words}
+use Rattle.graph.specs.Refusals.{Answer, and_then, map_done}
+use Rattle.lines.specs.Inner.Answers.{call_parts, call_read, call_answer, call_form}
+use Rattle.lines.specs.Inner.LineParts.{Tailed, call_word, call_literals, first_literals, second_literals, call_listed, key_fits, lacks_inverse_of, call_made}
+use Rattle.lines.specs.Inner.Answers.{ReadAs}
+use Rattle.lines.specs.Inner.LineParts.{FieldIf, TailOf, ToRead, Values, ValuesOf, targets_named}
+use Rattle.lines.specs.declared.fields.TargetsRead.{TargetsRead}
+use Rattle.lines.specs.declared.fields.TargetsRead.TheVariants.{Listed as Read}
+use Rattle.graph.specs.declared.remaining.Remaining.TheVariants.{Listed}
+use Rattle.graph.specs.Refused.{answered}
+use Rattle.graph.specs.declared.refusal.Refusal.{Refusal}
+use Rattle.keylists.specs.Inner.ListsRead.{KeysOf, keys_named}
+use Rattle.keylists.specs.declared.keylist.KeyList.{KeyList}
+use Rattle.std.proofs.Common.{Some, None, Result, Ok, Err, drop}
+use Rattle.lines.proofs.Chains.{Literals, One, before_if, only, zero_if, if_not, if_then, tail_not, tail_is}
+use Rattle.lines.specs.declared.call.Call.{Call as Asked}
 use Rattle.lines.specs.declared.call.CallKind.{CallKind}
 use Rattle.lines.specs.declared.call.CallKind.TheVariants.{Add, Map, Link, Unlink, Sum, Top, Pick, Near, Unmap}
-use Rattle.lines.specs.declared.call.CallLine.{CallLine}
-use Rattle.lines.specs.declared.keylist.KeyList.{KeyList}
-use Rattle.lines.proofs.KeyLists.{rising_keys, below_words}
 use Rattle.lines.proofs.Words.{KindOf, Grammar, Parts, PartsOf, Made, Forms, unique}
 
 -- ---- the grammar
@@ -70,19 +77,6 @@ calls =
       named = kind_named;
       kinds = call_kinds;
     }
-
-pub no_call_word : (w : List ℕ) → (w ≡ ascii "add" → ⊥) → (w ≡ ascii "map" → ⊥) → (w ≡ ascii "link" → ⊥) → (w ≡ ascii "unlink" → ⊥)
-    → (w ≡ ascii "sum" → ⊥) → (w ≡ ascii "top" → ⊥) → (w ≡ ascii "pick" → ⊥) → (w ≡ ascii "near" → ⊥) → (w ≡ ascii "unmap" → ⊥)
-    → (k : CallKind) → w ≡ call_word k → ⊥
-no_call_word w a m l u s t p n v Add = a
-no_call_word w a m l u s t p n v Map = m
-no_call_word w a m l u s t p n v Link = l
-no_call_word w a m l u s t p n v Unlink = u
-no_call_word w a m l u s t p n v Sum = s
-no_call_word w a m l u s t p n v Top = t
-no_call_word w a m l u s t p n v Pick = p
-no_call_word w a m l u s t p n v Near = n
-no_call_word w a m l u s t p n v Unmap = v
 
 -- ---- the forms
 
@@ -129,167 +123,142 @@ call_unique = unique call_forms
 
 -- ---- the answer
 
--- the form's own tests, in their order
-by_tests : (f : Call) (a b : Bool) → lacks_inverse f ≡ false → are_words (call_numbers f) ≡ true → are_keys (operands_of f ++ listed_of f) ≡ a → leb (length (listed_of f)) 8 && rising (listed_of f) ≡ b
-    → call_answer f ≡ cond a (cond b (call_read f) (refused_call 12)) (refused_call 11)
-by_tests f true true i w ea eb = rw (w, ea, eb, i)
-by_tests f true false i w ea eb = rw (w, ea, eb)
-by_tests f false b i w ea eb = rw (w, ea)
+-- the literals after a word
+pub literals_parted : (k : CallKind) → call_literals k ≡ first_literals k ++ (second_literals k ++ [])
+literals_parted Add = refl
+literals_parted Map = refl
+literals_parted Link = refl
+literals_parted Unlink = refl
+literals_parted Sum = refl
+literals_parted Top = refl
+literals_parted Pick = refl
+literals_parted Near = refl
+literals_parted Unmap = refl
 
--- the answer to a call of 32-bit numbers, but for an unmap of an even a
-answered : (f : Call) → lacks_inverse f ≡ false → Below (call_numbers f) → call_answer f ≡ cond (are_keys (operands_of f ++ listed_of f)) (cond (leb (length (listed_of f)) 8 && rising (listed_of f)) (call_read f) (refused_call 12)) (refused_call 11)
-answered f i w = by_tests f (are_keys (operands_of f ++ listed_of f)) (leb (length (listed_of f)) 8 && rising (listed_of f)) i (below_words (call_numbers f) w) refl refl
+pub first_one : (k : CallKind) → One (first_literals k)
+first_one Add = tt
+first_one Map = tt
+first_one Link = tt
+first_one Unlink = tt
+first_one Sum = tt
+first_one Top = tt
+first_one Pick = tt
+first_one Near = tt
+first_one Unmap = tt
 
--- what an answer by targets is, where there is a key before them
-abbrev keyed : Bool → CallKind → ℕ → ℕ → To → CallLine
-keyed b k x y to =
-    cond (b && are_keys (keys_listed to)) (cond (leb (length (keys_listed to)) 8 && rising (keys_listed to)) (call_line k x y to) (refused_call 12)) (refused_call 11)
+-- what holds of the literal of a second number, if there is one
+pub record Second (literals : List (List ℕ)) : Type 0 where
+  pub one : One literals
+  pub gaps : Literals (literals ++ [])
+  pub few : length (literals ++ []) ≤ 2
 
--- of a line without targets
-pub none_listed : {t : Remaining} {keys : Keys} → t ≡ record { all = false; mark = false; keys = keys } → keys ≡ packed [] → t ≡ packed_targets (these [])
-none_listed e k = e ∙ ap (λ (q : Keys). record { all = false; mark = false; keys = q }) k
+pub second : (k : CallKind) → Second (second_literals k)
+unfolding ascii
+second Add = record { one = tt; gaps = tt; few = omega arith }
+second Map = record { one = tt; gaps = (refl, tt); few = omega arith }
+second Link = record { one = tt; gaps = tt; few = omega arith }
+second Unlink = record { one = tt; gaps = tt; few = omega arith }
+second Sum = record { one = tt; gaps = tt; few = omega arith }
+second Top = record { one = tt; gaps = tt; few = omega arith }
+second Pick = record { one = tt; gaps = tt; few = omega arith }
+second Near = record { one = tt; gaps = (refl, tt); few = omega arith }
+second Unmap = record { one = tt; gaps = (refl, tt); few = omega arith }
 
-pub add_answer : (value : ℕ) → value < modulus → call_line Add value 0 (named []) ≡ call_answer (add value)
-add_answer value h = sym (answered (add value) refl (h, tt))
+-- the tests, in their order
+by_tests : (k a b l : Bool) (p : Remaining) (c : Remaining → Asked) (f : Call) → call_read f ≡ c p
+    → cond k (and_then (cond a (cond b (done p) (refused 12)) (refused 11)) (λ r. cond l (refused 40) (done (c r)))) (refused 11)
+    ≡ map_done call_read (cond (not (k && a)) (refused 11) (cond (not b) (refused 12) (cond l (refused 40) (done f))))
+by_tests false a b l p c f e = refl
+by_tests true false b l p c f e = refl
+by_tests true true false l p c f e = refl
+by_tests true true true true p c f e = refl
+by_tests true true true false p c f e = ap done (sym e)
 
-pub map_answer : (a b : ℕ) (to : To) → a < modulus → b < modulus → Below (keys_listed to) → call_made Map a b to ≡ call_answer (map a b to)
-map_answer a b to ha hb h = sym (answered (map a b to) refl (ha, (hb, h)))
+module _ (x y : ℕ) (to : To) (hx : x < modulus) (hy : y < modulus) (h : Below (keys_listed to)) where
+  abbrev made_of : CallKind → Remaining → Asked
+  made_of k r = record { kind = k; x = x; y = y; to = r }
 
-module _ (a b : ℕ) (to : Remaining) where
-  abbrev unmap_if : Bool → CallLine
-  unmap_if odd = cond odd (record { answer = Is Unmap a b; to = to }) (refused_call 40)
+  abbrev law : (k : CallKind) (f : Call) → Type 0
+  law k f = call_made k x y to ≡ call_answer f
 
-  pub unmap_even : {r : CallLine} → is_odd a ≡ false → r ≡ refused_call 40 → r ≡ unmap_made a b to
-  unmap_even e q = q ∙ sym (ap unmap_if e)
+  by_words : (k : CallKind) (f : Call) → Below (call_numbers f) → call_read f ≡ made_of k (packed_targets (untouched to))
+      → are_keys (operands_of f ++ listed_of f) ≡ key_fits k x && are_keys (keys_listed to) → listed_of f ≡ keys_listed to → lacks_inverse f ≡ lacks_inverse_of k x
+      → law k f
+  by_words k f w e a l i =
+      rw (below_words (call_numbers f) w, a, l, i)
+      (by_tests (key_fits k x) (are_keys (keys_listed to)) (leb (length (keys_listed to)) 8 && rising (keys_listed to)) (lacks_inverse_of k x) (packed_targets (untouched to)) (made_of k) f e)
 
-  pub unmap_odd : is_odd a ≡ true → record { answer = Is Unmap a b; to = to } ≡ unmap_made a b to
-  unmap_odd e = sym (ap unmap_if e)
+pub made_answer : (k : CallKind) (x y : ℕ) (to : To) → x < modulus → y < modulus → Below (keys_listed to) → (second_literals k ≡ [] → y ≡ 0) → Tailed (call_listed k) to
+    → call_made k x y to ≡ call_answer (call_form k x y to)
+made_answer Add x y to hx hy h z t = rw (z refl, t) (by_words x 0 (named []) hx (omega arith) tt Add (add x) (hx, tt) refl refl refl refl)
+made_answer Map x y to hx hy h z t = by_words x y to hx hy h Map (map x y to) (hx, (hy, h)) refl refl refl refl
+made_answer Link x y to hx hy h z t = rw (z refl) (by_words x 0 to hx (omega arith) h Link (link x to) (hx, h) refl refl refl refl)
+made_answer Unlink x y to hx hy h z t = rw (z refl) (by_words x 0 to hx (omega arith) h Unlink (unlink x to) (hx, h) refl refl refl refl)
+made_answer Sum x y to hx hy h z t = rw (z refl) (by_words x 0 to hx (omega arith) h Sum (sum x to) (hx, h) refl refl refl refl)
+made_answer Top x y to hx hy h z t = rw (z refl) (by_words x 0 to hx (omega arith) h Top (top x to) (hx, h) refl refl refl refl)
+made_answer Pick x y to hx hy h z t = rw (z refl) (by_words x 0 to hx (omega arith) h Pick (pick x to) (hx, h) refl refl refl refl)
+made_answer Near x y to hx hy h z t = by_words x y to hx hy h Near (near x y to) (hy, (hx, h)) refl refl refl refl
+made_answer Unmap x y to hx hy h z t = by_words x y to hx hy h Unmap (unmap x y to) (hx, (hy, h)) refl refl refl refl
 
--- an unmap is answered as the map that it undoes, but for 40
-abbrev unmap_answer : CallAnswer → Remaining → CallLine
-unmap_answer (Refused n) to = refused_call n
-unmap_answer (Is kind a b) to = unmap_made a b to
+-- ---- what follows a word
 
-unmap_answer_law : (a b : ℕ) (to : To) → unmap_answer (call_answer (map a b to)).answer (call_answer (map a b to)).to ≡ call_answer (unmap a b to)
-unmap_answer_law a b to = go (are_words (call_numbers (map a b to))) (are_keys (keys_listed to)) (leb (length (keys_listed to)) 8 && rising (keys_listed to)) (is_odd a) refl
+values_are : (k : CallKind) (x y : ℕ) (to : To) → (second_literals k ≡ [] → y ≡ 0) → record { x = x; y = y; z = 0; to = to } ≡ before_if (first_literals k) x (before_if (second_literals k) y (only to))
+values_are Add x y to z = rw (z refl) refl
+values_are Map x y to z = refl
+values_are Link x y to z = rw (z refl) refl
+values_are Unlink x y to z = rw (z refl) refl
+values_are Sum x y to z = rw (z refl) refl
+values_are Top x y to z = rw (z refl) refl
+values_are Pick x y to z = rw (z refl) refl
+values_are Near x y to z = refl
+values_are Unmap x y to z = refl
+
+module _ (k : CallKind) (line : List ℕ) (at : ℕ) (r : Answer Asked) where
+  abbrev answer : Values → Answer Asked
+  answer v = call_answer (call_form k v.x v.y v.to)
+
+  abbrev After : Type 0
+  After = ReadAs (ValuesOf (call_literals k) (call_listed k) (drop at line)) answer (refused 10) r
+
+  abbrev second_literal : List (List ℕ)
+  second_literal = second_literals k ++ []
+
+  parted : ReadAs (ValuesOf (first_literals k ++ second_literal) (call_listed k) (drop at line)) answer (refused 10) r → After
+  parted = subst (λ (l : List (List ℕ)). ReadAs (ValuesOf l (call_listed k) (drop at line)) answer (refused 10) r) (sym (literals_parted k))
+
+  pub no_first : FieldIf line at (first_literals k) None → r ≡ refused 10 → After
+  no_first f e = parted (if_not line at second_literal (second k).gaps (first_literals k) (first_one k) f e)
+
+  module _ (x n : ℕ) (f : FieldIf line at (first_literals k) (Some (x, n))) (hx : x < modulus) where
+    first_then : ReadAs (ValuesOf second_literal (call_listed k) (drop n line)) (λ v. answer (before_if (first_literals k) x v)) (refused 10) r → After
+    first_then t = parted (if_then line at second_literal (second k).gaps (first_literals k) (first_one k) x n f hx (second k).few t)
+
+    pub no_second : FieldIf line n (second_literals k) None → r ≡ refused 10 → After
+    no_second g e = first_then (if_not line n [] tt (second_literals k) (second k).one g e)
+
+    module _ (y m : ℕ) (g : FieldIf line n (second_literals k) (Some (y, m))) (hy : y < modulus) where
+      second_then : ReadAs (ValuesOf [] (call_listed k) (drop m line)) (λ v. answer (before_if (first_literals k) x (before_if (second_literals k) y v))) (refused 10) r → After
+      second_then t = first_then (if_then line n [] tt (second_literals k) (second k).one y m g hy (omega arith) t)
+
+      pub no_targets : TailOf (call_listed k) (drop m line) None → r ≡ refused 10 → After
+      no_targets t e = second_then (tail_not (drop m line) t e)
+
+      pub with_targets : {read : TargetsRead} → TailOf (call_listed k) (drop m line) (Some read) → ((to : To) → ToRead to read → r ≡ call_made k x y to) → After
+      with_targets t e =
+          let z : second_literals k ≡ [] → y ≡ 0 = zero_if line n y m (second_literals k) g in
+          second_then (tail_is (drop m line) t (λ to p d b. e to p ∙ made_answer k x y to hx hy b z d ∙ ap answer (values_are k x y to z)))
+
+-- ---- the targets by what is known of them
+
+pub targets_law : (to : To) (k : KeyList) (r : Result Keys Refusal) → ToRead to (Read k) → ((ts : List ℕ) → KeysOf ts k → answered (λ q. q) r ≡ keys_named ts) → answered Listed r ≡ targets_named to
+targets_law whole k r p e = absurd p
+targets_law (named ts) k r p e = answered_then Listed r ∙ ap (map_done Listed) (e ts p.1) ∙ go (are_keys ts) (leb (length ts) 8 && rising ts)
   where
-    formed : (p q r odd : Bool) → Call → CallLine
-    formed p q r odd f = settled refused_call call_read (cond (not p) (refused 10) (cond (not q) (refused 11) (cond (not r) (refused 12) (cond (not odd) (refused 40) (done f)))))
+    answered_then : (f : Keys → Remaining) (r : Result Keys Refusal) → answered f r ≡ map_done f (answered (λ q. q) r)
+    answered_then f (Ok q) = refl
+    answered_then f (Err n) = refl
 
-    go : (p q r odd : Bool) → is_odd a ≡ odd → unmap_answer (formed p q r true (map a b to)).answer (formed p q r true (map a b to)).to ≡ formed p q r odd (unmap a b to)
-    go false q r odd e = refl
-    go true false r odd e = refl
-    go true true false odd e = refl
-    go true true true true e = rw e
-    go true true true false e = rw e
-
-module _ {l : List ℕ} (read r : CallLine) (h : CallAfter Map l read) where
-  unmap_after : (a : CallAnswer) → read.answer ≡ a → r ≡ unmap_answer a read.to → CallAfter Unmap l r
-  unmap_after a is q = go h (q ∙ ap (λ (x : CallAnswer). unmap_answer x read.to) (sym is))
-    where
-      go : CallAfter Map l read → r ≡ unmap_answer read.answer read.to → CallAfter Unmap l r
-      go (form v i e) q = form v i (q ∙ ap (λ (c : CallLine). unmap_answer c.answer c.to) e ∙ unmap_answer_law v.x v.y v.to)
-      go (other never e) q = other never (q ∙ ap (λ (c : CallLine). unmap_answer c.answer c.to) e)
-
-  pub unmap_refused : {n : ℕ} → read.answer ≡ Refused n → r ≡ refused_call n → CallAfter Unmap l r
-  unmap_refused {n} = unmap_after (Refused n)
-
-  pub unmap_read : {kind : CallKind} {a b : ℕ} → read.answer ≡ Is kind a b → r ≡ unmap_made a b read.to → CallAfter Unmap l r
-  unmap_read {kind} {a} {b} = unmap_after (Is kind a b)
-
-module _ (key start : ℕ) (to : To) (hk : key < modulus) (hs : start < modulus) (h : Below (keys_listed to)) where
-  near_by : (b : Bool) → is_key key ≡ b → keyed b Near key start to ≡ call_answer (near key start to)
-  near_by b e = ap (λ (x : Bool). keyed x Near key start to) (sym e) ∙ sym (answered (near key start to) refl (hs, (hk, h)))
-
-  pub near_answer : is_key key ≡ true → call_made Near key start to ≡ call_answer (near key start to)
-  near_answer = near_by true
-
-  pub near_refused : is_key key ≡ false → refused_call 11 ≡ call_answer (near key start to)
-  near_refused = near_by false
-
--- what holds of each of the kinds with a key, or with a start, holds of such a kind
-links : (P : CallKind → Type 0) → P Link → P Unlink → (k : CallKind) → Links k → P k
-links P l u k (inl e) = subst P (sym e) l
-links P l u k (inr e) = subst P (sym e) u
-
-starts : (P : CallKind → Type 0) → P Sum → P Top → P Pick → (k : CallKind) → Starts k → P k
-starts P s t p k (inl e) = subst P (sym e) s
-starts P s t p k (inr (inl e)) = subst P (sym e) t
-starts P s t p k (inr (inr e)) = subst P (sym e) p
-
--- after a word, by the one literal of these kinds
-abbrev OneField : List ℕ → List ℕ → CallLine → CallKind → Type 0
-OneField literal l r k = ReadAs (ValuesOf (literal ∷ []) true l) (λ v. call_answer (call_form k v.x v.y v.to)) (refused_call 10) r → CallAfter k l r
-
-module _ (k : CallKind) (is : Links k) where
-  pub link_after : {l : List ℕ} {r : CallLine} → OneField (ascii " key=") l r k
-  link_after {l} {r} = links (OneField (ascii " key=") l r) (λ h. h) (λ h. h) k is
-
-  module _ (key : ℕ) (to : To) (hk : key < modulus) (h : Below (keys_listed to)) where
-    link_by : (b : Bool) → is_key key ≡ b → keyed b k key 0 to ≡ call_answer (call_form k key 0 to)
-    link_by b e =
-        ap (λ (x : Bool). keyed x k key 0 to) (sym e)
-        ∙ links (λ (j : CallKind). keyed (is_key key) j key 0 to ≡ call_answer (call_form j key 0 to)) (sym (answered (link key to) refl (hk, h))) (sym (answered (unlink key to) refl (hk, h))) k is
-
-    pub link_answer : is_key key ≡ true → call_made k key 0 to ≡ call_answer (call_form k key 0 to)
-    link_answer = link_by true
-
-    pub link_refused : is_key key ≡ false → refused_call 11 ≡ call_answer (call_form k key 0 to)
-    link_refused = link_by false
-
-module _ (k : CallKind) (is : Starts k) where
-  pub start_after : {l : List ℕ} {r : CallLine} → OneField (ascii " start=") l r k
-  start_after {l} {r} = starts (OneField (ascii " start=") l r) (λ h. h) (λ h. h) (λ h. h) k is
-
-  pub start_answer : (start : ℕ) (to : To) → start < modulus → Below (keys_listed to) → call_made k start 0 to ≡ call_answer (call_form k start 0 to)
-  start_answer start to hs h =
-      starts (λ (j : CallKind). call_made j start 0 to ≡ call_answer (call_form j start 0 to))
-      (sym (answered (sum start to) refl (hs, h))) (sym (answered (top start to) refl (hs, h))) (sym (answered (pick start to) refl (hs, h))) k is
-
--- ---- the answer by the targets
-
--- the targets as `unmarked` makes them
-as_packed : (to : To) → record { all = is_whole to; mark = false; keys = packed (keys_listed to) } ≡ packed_targets (untouched to)
-as_packed (named ts) = refl
-as_packed whole = refl
-
-module _ (k : CallKind) (x y : ℕ) (list : KeyList) (all : Bool) (key : List ℕ) (to : To) (p : ToRead to list all key) where
-  abbrev ts : List ℕ
-  ts = keys_listed to
-
-  by_keys : (a b : Bool) {r : CallLine} → list.keys ≡ a → (a ≡ true → leb (length ts) 8 && rising ts ≡ b)
-      → r ≡ cond a (cond b (call_line k x y to) (refused_call 12)) (refused_call 11) → r ≡ call_made k x y to
-  by_keys true b e f q = q ∙ sym (rw (← p.known.keys, e, f refl))
-  by_keys false b e f q = q ∙ sym (rw (← p.known.keys, e))
-
-  pub made_targets : {r : CallLine} → list.keys ≡ false → r ≡ refused_call 11 → r ≡ call_made k x y to
-  made_targets e = by_keys false false e (λ z. absurd (false≢true z))
-
-  module _ (keys : list.keys ≡ true) where
-    unsorted : {r : CallLine} → leb (length ts) 8 && rising ts ≡ false → r ≡ refused_call 12 → r ≡ call_made k x y to
-    unsorted e = by_keys true false keys (λ z. e)
-
-    pub made_many : {r : CallLine} → 8 < list.count → r ≡ refused_call 12 → r ≡ call_made k x y to
-    made_many e = unsorted (rw (lt-leb (length ts) 8 (omega (arith, p.known.count))))
-
-    rising_is : rising ts ≡ list.rising
-    rising_is = rising_keys ts (sym p.known.keys ∙ keys) ∙ sym p.known.rising
-
-    module _ (few : list.count ≤ 8) where
-      short : leb (length ts) 8 ≡ true
-      short = le-leb (length ts) 8 (omega (arith, p.known.count))
-
-      pub made_unsorted : {r : CallLine} → list.rising ≡ false → r ≡ refused_call 12 → r ≡ call_made k x y to
-      made_unsorted e = unsorted (rw (short, rising_is, e))
-
-      held : record { all = all; mark = false; keys = record { count = list.count; key = key } } ≡ packed_targets (untouched to)
-      unfolding packed
-      held =
-          let n : list.count ≡ length ts = omega (arith, p.known.count) in
-          let l = p.stored (sym p.known.keys ∙ keys) (omega arith) in
-          (λ i. record { all = p.wholly i; mark = false; keys = record { count = n i; key = l i } }) ∙ as_packed to
-
-      pub made_call : {t : Remaining} → list.rising ≡ true → t ≡ record { all = all; mark = false; keys = record { count = list.count; key = key } } → record { answer = Is k x y; to = t } ≡ call_made k x y to
-      made_call e u =
-          let q = u ∙ held in
-          by_keys true true keys (λ z. rw (short, rising_is, e)) (λ i. record { answer = Is k x y; to = q i })
+    go : (a b : Bool) → map_done Listed (cond a (cond b (done (packed ts)) (refused 12)) (refused 11)) ≡ cond a (cond b (done (Listed (packed ts))) (refused 12)) (refused 11)
+    go true true = refl
+    go true false = refl
+    go false b = refl

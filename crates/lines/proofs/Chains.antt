@@ -3,43 +3,41 @@
 use Prim.Native.Nat.{ℕ, ◌+◌, ◌<◌, ◌≤◌}
 use mathlib.Core.Path.{◌≡◌, refl, sym, ap, subst, ◌∙◌}
 use mathlib.Core.Bool.{Bool, true, false}
-use mathlib.Core.List.{List, [], ◌∷◌, ◌++◌, append-nil}
+use mathlib.Core.List.{List, [], ◌∷◌, ◌++◌}
 use native.Mathlib.Omega.{arith}
 use lib.ListN.{length, drop, length-drop, drop_of_length-le}
 use Rattle.graph.specs.Targets.{To, named, whole, keys_listed}
 use Rattle.graph.specs.Words.{modulus}
 use Rattle.text.specs.Text.{up_to, decimal, ascii}
 use Rattle.text.specs.Inner.PartsRead.{LiteralAt, DecimalOf, Gap}
-use Rattle.text.specs.declared.cut.Place.TheVariants.{At, Missing}
-use Rattle.text.specs.declared.number.Number.TheVariants.{Is as NumberIs, Not as NumberNot}
+use Rattle.std.proofs.Common.{Some, None}
 use Rattle.text.proofs.Splits.{Part, part, part_is, cancel, decimal_clean, same_number}
 use Rattle.lines.specs.Forms.{to_text, targets}
 use Rattle.lines.specs.Inner.Answers.{ReadAs, form, other}
-use Rattle.lines.specs.Inner.LineParts.{Below, ToRead, KeysRead, TargetsOf, FieldOf, tail_text, fields_text, Spare, Values, ValuesOf}
-use Rattle.lines.specs.declared.fields.Field.TheVariants.{Is, Not}
-use Rattle.lines.specs.declared.keylist.KeyList.{KeyList}
-use Rattle.lines.specs.declared.keylist.TargetsAnswer.{TargetsAnswer}
-use Rattle.lines.specs.declared.keylist.TargetsAnswer.TheVariants.{Are, Not as AreNot}
-use Rattle.lines.proofs.ToTexts.{to_clean}
+use Rattle.lines.specs.Inner.LineParts.{FieldOf, FieldIf, tail_text, Tailed, fields_text, Spare, ToRead, TailOf, Values, ValuesOf}
+use Rattle.lines.specs.declared.fields.TargetsRead.{TargetsRead}
+use Rattle.lines.specs.declared.fields.TargetsRead.TheVariants.{All, Listed}
+use Rattle.keylists.specs.declared.keylist.KeyList.{KeyList}
+use Rattle.keylists.specs.Inner.ListsRead.{Below, KeysRead}
 
 -- ---- a number after a literal
 
 module _ (s : List ℕ) (at : ℕ) (literal : List ℕ) where
-  pub no_literal : LiteralAt s at literal Missing → FieldOf s at literal Not
+  pub no_literal : LiteralAt s at literal None → FieldOf s at literal None
   no_literal p v x hv g e = p (decimal v ++ x) e
 
-  module _ (n : ℕ) (p : LiteralAt s at literal (At n)) where
+  module _ (n : ℕ) (p : LiteralAt s at literal (Some n)) where
     value : Part 32 s n
     value = part 32 s n p.0
 
     pub value_within : n + length (up_to 32 (drop n s)) ≤ length s
     value_within = value.within
 
-    pub no_number : DecimalOf (up_to 32 (drop n s)) NumberNot → FieldOf s at literal Not
+    pub no_number : DecimalOf (up_to 32 (drop n s)) None → FieldOf s at literal None
     no_number q v x hv g e =
         q v hv (part_is 32 (drop n s) (decimal v) x (cancel literal (drop n s) (decimal v ++ x) (sym p.1 ∙ e)) (decimal_clean 32 (omega arith) v) g)
 
-    pub is_field : (v : ℕ) → DecimalOf (up_to 32 (drop n s)) (NumberIs v) → FieldOf s at literal (Is v (n + length (up_to 32 (drop n s))))
+    pub is_field : (v : ℕ) → DecimalOf (up_to 32 (drop n s)) (Some v) → FieldOf s at literal (Some (v, n + length (up_to 32 (drop n s))))
     is_field v q = (
       value.within,
       p.1 ∙ ap (λ (r : List ℕ). literal ++ r) (value.text ∙ ap (λ (r : List ℕ). r ++ drop (n + length (up_to 32 (drop n s))) s) q),
@@ -49,31 +47,27 @@ module _ (s : List ℕ) (at : ℕ) (literal : List ℕ) where
 -- ---- the targets
 
 module _ (s : List ℕ) (at : ℕ) where
-  pub targets_missing : LiteralAt s at (ascii " to=") Missing → (to : To) → Below (keys_listed to) → drop at s ≡ targets to → ⊥
-  targets_missing p to b eq = p (to_text to) eq
+  pub targets_missing : LiteralAt s at (ascii " to=") None → TailOf true (drop at s) None
+  targets_missing p to b t e = p (to_text to) e
 
-  module _ (n : ℕ) (p : LiteralAt s at (ascii " to=") (At n)) where
-    -- the targets are the whole value: they hold no space
-    value_is : (to : To) → drop at s ≡ targets to → up_to 32 (drop n s) ≡ to_text to
-    value_is to e = part_is 32 (drop n s) (to_text to) [] (cancel (ascii " to=") (drop n s) (to_text to) (sym p.1 ∙ e) ∙ sym (append-nil (to_text to))) (to_clean 32 (omega arith) to) tt
+  module _ (n : ℕ) (p : LiteralAt s at (ascii " to=") (Some n)) where
+    -- the targets are all that follows
+    text_is : (to : To) → drop at s ≡ targets to → drop n s ≡ to_text to
+    text_is to e = cancel (ascii " to=") (drop n s) (to_text to) (sym p.1 ∙ e)
 
-    pub targets_parted : n + length (up_to 32 (drop n s)) < length s → (to : To) → Below (keys_listed to) → drop at s ≡ targets to → ⊥
-    targets_parted h to b eq = omega (arith, p.0, length-drop n s, ap length (value_is to eq), ap length (cancel (ascii " to=") (drop n s) (to_text to) (sym p.1 ∙ eq)))
+    is_text : (to : To) → drop n s ≡ to_text to → drop at s ≡ targets to
+    is_text to e = p.1 ∙ ap (λ (r : List ℕ). ascii " to=" ++ r) e
 
-    module _ (end : length s ≤ n + length (up_to 32 (drop n s))) where
-      pub to_end : (to : To) → up_to 32 (drop n s) ≡ to_text to → drop at s ≡ targets to
-      to_end to e =
-          let all : drop n s ≡ up_to 32 (drop n s) = (part 32 s n p.0).text ∙ ap (λ (r : List ℕ). up_to 32 (drop n s) ++ r) (drop_of_length-le s end) ∙ append-nil (up_to 32 (drop n s)) in
-          p.1 ∙ ap (λ (r : List ℕ). ascii " to=" ++ r) (all ∙ e)
+    pub targets_all : drop n s ≡ ascii "all" → TailOf true (drop at s) (Some All)
+    targets_all e = (whole, tt, is_text whole e, tt)
 
-      -- where the value is not `all`, it is read as a list
-      pub targets_list : (up_to 32 (drop n s) ≡ ascii "all" → ⊥) → (answer : TargetsAnswer) (all : Bool) (key : List ℕ) → KeysRead (up_to 32 (drop n s)) answer all key → TargetsOf (drop at s) answer all key
-      targets_list ne (Are k) all key t = (named t.0, to_end (named t.0) t.1, t.2)
-      targets_list ne AreNot all key never = neither
-        where
-          neither : (to : To) → Below (keys_listed to) → drop at s ≡ targets to → ⊥
-          neither (named ts) b eq = never ts b (value_is (named ts) eq)
-          neither whole b eq = ne (value_is whole eq)
+    -- what is not `all` is read as a list
+    pub targets_none : (drop n s ≡ ascii "all" → ⊥) → KeysRead (drop n s) None → TailOf true (drop at s) None
+    targets_none ne never (named ts) b t e = never ts b (text_is (named ts) e)
+    targets_none ne never whole b t e = ne (text_is whole e)
+
+    pub targets_list : (k : KeyList) → KeysRead (drop n s) (Some k) → TailOf true (drop at s) (Some (Listed k))
+    targets_list k t = (named t.0, tt, is_text (named t.0) t.2, (t.1, t.3))
 
 -- ---- numbers one after another
 
@@ -100,28 +94,21 @@ literals_after (c ∷ cs) others h = h.1
 -- ---- the answer, by what was read of the fields: each law goes from the fields after one to the fields with it
 
 -- a number before the others
-abbrev before : ℕ → Values → Values
+abbrev pub before : ℕ → Values → Values
 before x v = record { x = x; y = v.x; z = v.y; to = v.to }
 
-abbrev only : To → Values
+abbrev pub only : To → Values
 only to = record { x = 0; y = 0; z = 0; to = to }
 
 module _ {R : Type 0} {ten r : R} {answer : Values → R} (s : List ℕ) (at : ℕ) where
-  -- the line's end
-  pub end_not : at < length s → r ≡ ten → ReadAs (ValuesOf [] false (drop at s)) answer ten r
-  end_not h = other (λ v i. omega (arith, ap length i.same, length-drop at s))
-
-  pub end_is : length s ≤ at → r ≡ answer (only (named [])) → ReadAs (ValuesOf [] false (drop at s)) answer ten r
-  end_is h = form (only (named [])) (record { small = (omega arith, omega arith, omega arith, tt); spare = (refl, refl, refl); tailed = refl; same = drop_of_length-le s h })
-
   -- a field that is not read
-  pub field_not : {listed : Bool} (a : List ℕ) (more : List (List ℕ)) → Literals more → FieldOf s at a Not → r ≡ ten → ReadAs (ValuesOf (a ∷ more) listed (drop at s)) answer ten r
+  field_not : {listed : Bool} (a : List ℕ) (more : List (List ℕ)) → Literals more → FieldOf s at a None → r ≡ ten → ReadAs (ValuesOf (a ∷ more) listed (drop at s)) answer ten r
   field_not {listed} a more gaps f = other (λ v i. f v.x (fields_text more listed v.y v.z 0 v.to) i.small.0 (fields_gap more gaps listed v.y v.z 0 v.to) i.same)
 
 -- x is read at `at`, and ends at n
-pub record NumberAt (s : List ℕ) (at : ℕ) (literal : List ℕ) (x n : ℕ) : Type 0 where
-  pub field : FieldOf s at literal (Is x n)
-  pub small : x < modulus
+record NumberAt (s : List ℕ) (at : ℕ) (literal : List ℕ) (x n : ℕ) : Type 0 where
+  field : FieldOf s at literal (Some (x, n))
+  small : x < modulus
 
 -- where at most two numbers may follow, the last is spare
 spare_last : (more : List (List ℕ)) → length more ≤ 2 → (x y z : ℕ) → Spare more x y z → z ≡ 0
@@ -132,7 +119,7 @@ spare_last (a ∷ b ∷ c ∷ others) h x y z s = absurd (omega arith)
 
 module _ {R : Type 0} {ten r : R} {answer : Values → R} {s : List ℕ} {at x n : ℕ} {a : List ℕ} (p : NumberAt s at a x n) where
   -- a number that is read, and the fields after it
-  pub number_then : {listed : Bool} (more : List (List ℕ)) → Literals more → length more ≤ 2 → ReadAs (ValuesOf more listed (drop n s)) (λ v. answer (before x v)) ten r
+  number_then : {listed : Bool} (more : List (List ℕ)) → Literals more → length more ≤ 2 → ReadAs (ValuesOf more listed (drop n s)) (λ v. answer (before x v)) ten r
       → ReadAs (ValuesOf (a ∷ more) listed (drop at s)) answer ten r
   number_then {listed} more gaps few (form v i e) =
       let z : v.z ≡ 0 = spare_last more few v.x v.y v.z i.spare in
@@ -156,24 +143,61 @@ module _ {R : Type 0} {ten r : R} {answer : Values → R} {s : List ℕ} {at x n
       }))
       e
 
-  -- a number, and another that is not read
-  pub next_not : {listed : Bool} (b : List ℕ) (more : List (List ℕ)) → Literals (b ∷ more) → length more ≤ 1 → FieldOf s n b Not → r ≡ ten
-      → ReadAs (ValuesOf (a ∷ b ∷ more) listed (drop at s)) answer ten r
-  next_not b more gaps few f e = number_then (b ∷ more) gaps (omega arith) (field_not s n b more (literals_after b more gaps) f e)
+-- ---- the same, where a kind may have no such field
 
-  -- the last number, and the line's end
-  pub last_not : n < length s → r ≡ ten → ReadAs (ValuesOf (a ∷ []) false (drop at s)) answer ten r
-  last_not h e = number_then [] tt (omega arith) (end_not s n h e)
+-- at most one literal
+abbrev pub One : List (List ℕ) → Type 0
+One [] = Unit {0}
+One (a ∷ []) = Unit {0}
+One (a ∷ b ∷ others) = ⊥
 
-  pub last_is : length s ≤ n → r ≡ answer (before x (only (named []))) → ReadAs (ValuesOf (a ∷ []) false (drop at s)) answer ten r
-  last_is h e = number_then [] tt (omega arith) (end_is s n h e)
+-- its number before the others, if there is one
+abbrev pub before_if : List (List ℕ) → ℕ → Values → Values
+before_if [] x v = v
+before_if (a ∷ others) x v = before x v
 
-  -- the last number, and the targets
-  pub targets_not : ((to : To) → Below (keys_listed to) → drop n s ≡ targets to → ⊥) → r ≡ ten → ReadAs (ValuesOf (a ∷ []) true (drop at s)) answer ten r
-  targets_not never e = number_then [] tt (omega arith) (other (λ v i. never v.to i.small.3 i.same) e)
+module _ (s : List ℕ) (at : ℕ) where
+  pub within_if : (literals : List (List ℕ)) (x n : ℕ) → at ≤ length s → FieldIf s at literals (Some (x, n)) → n ≤ length s
+  within_if [] x n h f = omega arith
+  within_if (a ∷ others) x n h f = f.0
 
-  pub targets_are : {k : KeyList} {all : Bool} {key : List ℕ} → TargetsOf (drop n s) (Are k) all key → ((to : To) → ToRead to k all key → r ≡ answer (before x (only to)))
-      → ReadAs (ValuesOf (a ∷ []) true (drop at s)) answer ten r
-  targets_are t made =
-      number_then [] tt (omega arith)
-      (form (only t.0) (record { small = (omega arith, omega arith, omega arith, t.2.below); spare = (refl, refl, refl); tailed = tt; same = t.1 }) (made t.0 t.2))
+  module _ {R : Type 0} {ten r : R} {answer : Values → R} {listed : Bool} (more : List (List ℕ)) (gaps : Literals more) where
+    pub if_not : (literals : List (List ℕ)) → One literals → FieldIf s at literals None → r ≡ ten → ReadAs (ValuesOf (literals ++ more) listed (drop at s)) answer ten r
+    if_not [] o f e = absurd f
+    if_not (a ∷ []) o f e = field_not s at a more gaps f e
+    if_not (a ∷ b ∷ others) o f e = absurd o
+
+    pub if_then : (literals : List (List ℕ)) → One literals → (x n : ℕ) → FieldIf s at literals (Some (x, n)) → x < modulus → length more ≤ 2
+        → ReadAs (ValuesOf more listed (drop n s)) (λ v. answer (before_if literals x v)) ten r → ReadAs (ValuesOf (literals ++ more) listed (drop at s)) answer ten r
+    if_then [] o x n f h few t = subst (λ (k : ℕ). ReadAs (ValuesOf more listed (drop k s)) answer ten r) f.1 t
+    if_then (a ∷ []) o x n f h few t = number_then (record { field = f; small = h }) more gaps few t
+    if_then (a ∷ b ∷ others) o x n f h few t = absurd o
+
+pub zero_if : (s : List ℕ) (at x n : ℕ) (literals : List (List ℕ)) → FieldIf s at literals (Some (x, n)) → literals ≡ [] → x ≡ 0
+zero_if s at x n [] f e = f.0
+zero_if s at x n (a ∷ others) f e = absurd (omega (arith, ap length e))
+
+-- ---- the line's end
+
+module _ {R : Type 0} {ten r : R} {answer : Values → R} {listed : Bool} (l : List ℕ) where
+  pub tail_not : TailOf listed l None → r ≡ ten → ReadAs (ValuesOf [] listed l) answer ten r
+  tail_not never = other (λ v i. never v.to i.small.3 i.tailed i.same)
+
+  pub tail_is : {read : TargetsRead} → TailOf listed l (Some read) → ((to : To) → ToRead to read → Tailed listed to → Below (keys_listed to) → r ≡ answer (only to)) → ReadAs (ValuesOf [] listed l) answer ten r
+  tail_is {read} t made =
+      let b : Below (keys_listed t.0) = read_below t.0 read t.3 in
+      form (only t.0) (record { small = (omega arith, omega arith, omega arith, b); spare = (refl, refl, refl); tailed = t.1; same = t.2 }) (made t.0 t.3 t.1 b)
+    where
+      read_below : (to : To) (read : TargetsRead) → ToRead to read → Below (keys_listed to)
+      read_below (named ts) (Listed k) p = p.0
+      read_below (named ts) All p = absurd p
+      read_below whole (Listed k) p = absurd p
+      read_below whole All p = tt
+
+-- of a line without targets
+module _ {R : Type 0} {ten r : R} {answer : Values → R} (s : List ℕ) (at : ℕ) where
+  pub end_not : at < length s → r ≡ ten → ReadAs (ValuesOf [] false (drop at s)) answer ten r
+  end_not h = tail_not (drop at s) (λ to b t e. omega (arith, ap length e, length-drop at s))
+
+  pub end_is : length s ≤ at → r ≡ answer (only (named [])) → ReadAs (ValuesOf [] false (drop at s)) answer ten r
+  end_is h = form (only (named [])) (record { small = (omega arith, omega arith, omega arith, tt); spare = (refl, refl, refl); tailed = refl; same = drop_of_length-le s h })

@@ -1,7 +1,7 @@
--- The lengths of key lists, and of the text of a call whose form passes its tests: at most 63 bytes.
+-- The length of the text of a call whose form passes its tests: at most 63 bytes.
 -- Assumes nothing.
 use mathlib.Core.Path.{◌≡◌}
-use Prim.Native.Nat.{ℕ, ◌*◌, ◌≤◌}
+use Prim.Native.Nat.{ℕ, ◌≤◌}
 use native.Mathlib.Omega.{arith}
 use mathlib.Core.Bool.{true}
 use mathlib.Core.List.{List, [], ◌∷◌}
@@ -13,25 +13,11 @@ use Rattle.graph.specs.KeyLists.{is_key, are_keys}
 use Rattle.graph.specs.Targets.{To, named, whole, keys_listed}
 use Rattle.graph.specs.Calls.{Call, add, map, link, unlink, sum, top, pick, near, unmap}
 use Rattle.graph.proofs.Answers.{and_left, and_right}
-use Rattle.graph.proofs.KeyLaws.{key_high}
 use Rattle.graph.proofs.Validity.{FormFits}
-use Rattle.text.specs.Text.{ascii, decimal, further, commas}
-use Rattle.text.proofs.Decimals.{len_two, len_ten}
+use Rattle.text.specs.Text.{ascii, decimal}
+use Rattle.text.proofs.Decimals.{len_ten}
+use Rattle.text.proofs.CommaLists.{key_short, commas_short}
 use Rattle.lines.specs.Forms.{to_text, call_text}
-
-key_short : (t : ℕ) → is_key t ≡ true → length (decimal t) ≤ 2
-key_short t h = len_two t (omega (arith, key_high t h))
-
-further_short : (ts : List ℕ) → are_keys ts ≡ true → length (further ts) ≤ 3 * length ts
-unfolding further
-further_short [] h = omega arith
-further_short (t ∷ ts) h = omega (arith, further_short ts (and_right (is_key t) _ h), length-append (decimal t) (further ts), key_short t (and_left _ _ h))
-
--- eight keys of two digits and seven commas
-pub commas_short : (ts : List ℕ) → are_keys ts ≡ true → length ts ≤ 8 → length (commas ts) ≤ 23
-unfolding commas
-commas_short [] h n = omega arith
-commas_short (t ∷ ts) h n = omega (arith, n, further_short ts (and_right (is_key t) _ h), length-append (decimal t) (further ts), key_short t (and_left _ _ h))
 
 word_short : (v : ℕ) (vs : List ℕ) → are_words (v ∷ vs) ≡ true → length (decimal v) ≤ 10
 word_short v vs h = len_ten v (ltb-true v modulus (and_left _ _ h))

@@ -1,5 +1,4 @@
 pub mod ToTexts
-pub mod KeyLists
 pub mod Chains
 pub mod Words
 pub mod Calls

@@ -2,22 +2,22 @@
 -- Assumes nothing.
 use Prim.Native.Nat.{ℕ, ◌+◌, ◌≤◌, ◌<◌}
 use mathlib.Core.Path.{◌≡◌, refl, sym, ap, subst}
-use mathlib.Core.Bool.{Bool, true, false, cond, and-true}
+use mathlib.Core.Bool.{Bool, true, false, cond}
 use mathlib.Core.List.{List, []}
 use native.Mathlib.Omega.{arith}
-use lib.Dec.{eqb, leb}
+use lib.Dec.{eqb}
 use lib.ListN.{length, get_or}
-use borrow.Author.Tests.{leb-true}
-use Rattle.graph.proofs.Answers.{and_right}
-use Rattle.graph.specs.Refusals.{Answer, refused, done}
+use Rattle.graph.specs.Refusals.{Answer, refused}
 use Rattle.graph.specs.Targets.{To, named}
 use Rattle.graph.specs.Steps.{admit, realise, move, finish, join, split, swap, fuse}
 use Rattle.text.specs.Text.{ascii}
 use Rattle.text.proofs.Splits.{clean_test, clean_by}
-use Rattle.graph.specs.KeyLists.{is_key, are_keys}
-use Rattle.lines.specs.Forms.{StepForm, work, drain_form, step_text, step_numbers, step_keys}
+use Rattle.lines.specs.Forms.{StepForm, work, drain_form, step_text, step_numbers}
 use Rattle.lines.specs.Inner.Answers.{ReadAs, step_answer}
-use Rattle.lines.specs.Inner.LineParts.{ValuesOf, step_word, step_literals, step_form, step_tested}
+use Rattle.lines.specs.Inner.LineParts.{FieldIf, ValuesOf, step_word, step_literals, step_form}
+use Rattle.lines.proofs.Chains.{Literals, One, before_if, only, if_not, if_then, end_not, end_is}
+use Rattle.graph.specs.Words.{modulus}
+use Rattle.std.proofs.Common.{Some, None, ltb, drop, ◌∷◌, ◌++◌, ◌∙◌}
 use Rattle.lines.specs.declared.step.StepKind.{StepKind}
 use Rattle.lines.specs.declared.step.StepKind.TheVariants.{Admit, Realise, Move, Finish, Join, Split, Swap, Fuse, Drain}
 use Rattle.lines.proofs.Words.{KindOf, Grammar, Parts, PartsOf, Made, Forms, unique}
@@ -64,19 +64,6 @@ steps =
       named = kind_named;
       kinds = step_kinds;
     }
-
-pub no_step_word : (w : List ℕ) → (w ≡ ascii "admit" → ⊥) → (w ≡ ascii "realise" → ⊥) → (w ≡ ascii "move" → ⊥) → (w ≡ ascii "finish" → ⊥)
-    → (w ≡ ascii "join" → ⊥) → (w ≡ ascii "split" → ⊥) → (w ≡ ascii "swap" → ⊥) → (w ≡ ascii "fuse" → ⊥) → (w ≡ ascii "drain" → ⊥)
-    → (k : StepKind) → w ≡ step_word k → ⊥
-no_step_word w a r m f j p s u d Admit = a
-no_step_word w a r m f j p s u d Realise = r
-no_step_word w a r m f j p s u d Move = m
-no_step_word w a r m f j p s u d Finish = f
-no_step_word w a r m f j p s u d Join = j
-no_step_word w a r m f j p s u d Split = p
-no_step_word w a r m f j p s u d Swap = s
-no_step_word w a r m f j p s u d Fuse = u
-no_step_word w a r m f j p s u d Drain = d
 
 -- ---- the forms
 
@@ -132,48 +119,111 @@ step_forms =
 pub step_unique : (f g : StepForm) → step_text f ≡ step_text g → f ≡ g
 step_unique = unique step_forms
 
--- ---- the answer
+-- ---- what follows a word
 
--- the form's own test
-tested : (f : StepForm) (a : Bool) → are_keys (step_keys f) ≡ a → step_answer f ≡ cond a (done f) (refused 11)
-tested f true e = rw e
-tested f false e = rw e
+-- the literals of n numbers
+abbrev pub place_literals : ℕ → List (List ℕ)
+place_literals n = cond (ltb 0 n) (ascii " at=" ∷ []) []
 
--- a key fits in a byte
-pub key_small : (k : ℕ) → is_key k ≡ true → k < 256
-key_small k e =
-    let high : k ≤ 64 = leb-true k 64 (and_right (leb 1 k) (leb k 64) e) in
-    omega arith
+abbrev pub unit_literals : ℕ → List (List ℕ)
+unit_literals n = cond (ltb 1 n) (ascii " unit=" ∷ []) []
 
--- the key of a step that names a node
-place_of : (k : StepKind) (x y z : ℕ) → 0 < length (step_literals k) → are_keys (step_keys (step_form k x y z)) ≡ is_key x
-place_of Admit x y z h = absurd (omega arith)
-place_of Realise x y z h = and-true (is_key x)
-place_of Move x y z h = and-true (is_key x)
-place_of Finish x y z h = and-true (is_key x)
-place_of Join x y z h = and-true (is_key x)
-place_of Split x y z h = and-true (is_key x)
-place_of Swap x y z h = and-true (is_key x)
-place_of Fuse x y z h = and-true (is_key x)
-place_of Drain x y z h = absurd (omega arith)
+abbrev pub after_literals : ℕ → List (List ℕ)
+after_literals n = cond (ltb 2 n) (ascii " after=" ∷ []) []
 
-pub place_answer : (k : StepKind) (literals : List (List ℕ)) (x y z : ℕ) → step_literals k ≡ literals → 0 < length literals → step_tested k x y z ≡ step_answer (step_form k x y z)
-place_answer k literals x y z e h = sym (tested (step_form k x y z) (is_key x) (place_of k x y z (omega (arith, ap length e))))
+literals_parted : (k : StepKind) → let n = length (step_literals k) in step_literals k ≡ place_literals n ++ (unit_literals n ++ (after_literals n ++ []))
+literals_parted Admit = refl
+literals_parted Realise = refl
+literals_parted Move = refl
+literals_parted Finish = refl
+literals_parted Join = refl
+literals_parted Split = refl
+literals_parted Swap = refl
+literals_parted Fuse = refl
+literals_parted Drain = refl
 
-pub word_answer : (k : StepKind) → step_literals k ≡ [] → done (step_form k 0 0 0) ≡ step_answer (step_form k 0 0 0)
-word_answer Admit e = refl
-word_answer Drain e = refl
-word_answer Realise e = absurd (omega (arith, ap length e))
-word_answer Move e = absurd (omega (arith, ap length e))
-word_answer Finish e = absurd (omega (arith, ap length e))
-word_answer Join e = absurd (omega (arith, ap length e))
-word_answer Split e = absurd (omega (arith, ap length e))
-word_answer Swap e = absurd (omega (arith, ap length e))
-word_answer Fuse e = absurd (omega (arith, ap length e))
+module _ (a : List ℕ) where
+  abbrev may : Bool → List (List ℕ)
+  may b = cond b (a ∷ []) []
 
--- after a word, by the literals of its kind
-pub by_literals : (k : StepKind) (literals : List (List ℕ)) (l : List ℕ) (r : Answer StepForm) → step_literals k ≡ literals
-    → ReadAs (ValuesOf literals false l) (λ v. step_answer (step_form k v.x v.y v.z)) (refused 10) r
-    → ReadAs (ValuesOf (step_literals k) false l) (λ v. step_answer (step_form k v.x v.y v.z)) (refused 10) r
-by_literals k literals l r e h =
-    subst (λ (x : List (List ℕ)). ReadAs (ValuesOf x false l) (λ v. step_answer (step_form k v.x v.y v.z)) (refused 10) r) (sym e) h
+  one : (b : Bool) → One (may b)
+  one true = tt
+  one false = tt
+
+  gaps : ((more : List (List ℕ)) → Literals more → Literals (a ∷ more)) → (more : List (List ℕ)) → Literals more → (b : Bool) → Literals (may b ++ more)
+  gaps g more h true = g more h
+  gaps g more h false = h
+
+  few : (more : List (List ℕ)) (b : Bool) → length (may b ++ more) ≤ 1 + length more
+  few more true = omega arith
+  few more false = omega arith
+
+values_are : (k : StepKind) (x y z : ℕ) → let n = length (step_literals k) in
+    let v = before_if (place_literals n) x (before_if (unit_literals n) y (before_if (after_literals n) z (only (named [])))) in
+    step_form k x y z ≡ step_form k v.x v.y v.z
+values_are Admit x y z = refl
+values_are Realise x y z = refl
+values_are Move x y z = refl
+values_are Finish x y z = refl
+values_are Join x y z = refl
+values_are Split x y z = refl
+values_are Swap x y z = refl
+values_are Fuse x y z = refl
+values_are Drain x y z = refl
+
+module _ (k : StepKind) (line : List ℕ) (at : ℕ) (r : Answer StepForm) where
+  abbrev number : ℕ
+  number = length (step_literals k)
+
+  abbrev after_literal : List (List ℕ)
+  after_literal = after_literals number ++ []
+
+  abbrev unit_literal : List (List ℕ)
+  unit_literal = unit_literals number ++ after_literal
+
+  abbrev After : Type 0
+  After = ReadAs (ValuesOf (step_literals k) false (drop at line)) (λ v. step_answer (step_form k v.x v.y v.z)) (refused 10) r
+
+  after_gaps : Literals after_literal
+  unfolding ascii
+  after_gaps = gaps (ascii " after=") (λ more h. (refl, h)) [] tt (ltb 2 number)
+
+  unit_gaps : Literals unit_literal
+  unfolding ascii
+  unit_gaps = gaps (ascii " unit=") (λ more h. (refl, h)) after_literal after_gaps (ltb 1 number)
+
+  after_few : length after_literal ≤ 1
+  after_few = few (ascii " after=") [] (ltb 2 number)
+
+  unit_few : length unit_literal ≤ 2
+  unit_few = omega (arith, few (ascii " unit=") after_literal (ltb 1 number), after_few)
+
+  parted : ReadAs (ValuesOf (place_literals number ++ unit_literal) false (drop at line)) (λ v. step_answer (step_form k v.x v.y v.z)) (refused 10) r → After
+  parted = subst (λ (l : List (List ℕ)). ReadAs (ValuesOf l false (drop at line)) (λ v. step_answer (step_form k v.x v.y v.z)) (refused 10) r) (sym (literals_parted k))
+
+  pub no_place : FieldIf line at (place_literals number) None → r ≡ refused 10 → After
+  no_place f e = parted (if_not line at unit_literal unit_gaps (place_literals number) (one (ascii " at=") (ltb 0 number)) f e)
+
+  module _ (x n : ℕ) (f : FieldIf line at (place_literals number) (Some (x, n))) (hx : x < modulus) where
+    pub place_then : ReadAs (ValuesOf unit_literal false (drop n line)) (λ v. let u = before_if (place_literals number) x v in step_answer (step_form k u.x u.y u.z)) (refused 10) r → After
+    place_then t = parted (if_then line at unit_literal unit_gaps (place_literals number) (one (ascii " at=") (ltb 0 number)) x n f hx unit_few t)
+
+    pub no_unit : FieldIf line n (unit_literals number) None → r ≡ refused 10 → After
+    no_unit g e = place_then (if_not line n after_literal after_gaps (unit_literals number) (one (ascii " unit=") (ltb 1 number)) g e)
+
+    module _ (y m : ℕ) (g : FieldIf line n (unit_literals number) (Some (y, m))) (hy : y < modulus) where
+      pub unit_then : ReadAs (ValuesOf after_literal false (drop m line)) (λ v. let u = before_if (place_literals number) x (before_if (unit_literals number) y v) in step_answer (step_form k u.x u.y u.z)) (refused 10) r → After
+      unit_then t = place_then (if_then line n after_literal after_gaps (unit_literals number) (one (ascii " unit=") (ltb 1 number)) y m g hy (omega (arith, after_few)) t)
+
+      pub no_after : FieldIf line m (after_literals number) None → r ≡ refused 10 → After
+      no_after h e = unit_then (if_not line m [] tt (after_literals number) (one (ascii " after=") (ltb 2 number)) h e)
+
+      module _ (z l : ℕ) (h : FieldIf line m (after_literals number) (Some (z, l))) (hz : z < modulus) where
+        after_then : ReadAs (ValuesOf [] false (drop l line)) (λ v. let u = before_if (place_literals number) x (before_if (unit_literals number) y (before_if (after_literals number) z v)) in step_answer (step_form k u.x u.y u.z)) (refused 10) r → After
+        after_then t = unit_then (if_then line m [] tt (after_literals number) (one (ascii " after=") (ltb 2 number)) z l h hz (omega arith) t)
+
+        pub no_end : l < length line → r ≡ refused 10 → After
+        no_end more e = after_then (end_not line l more e)
+
+        pub at_end : length line ≤ l → r ≡ step_answer (step_form k x y z) → After
+        at_end end e = after_then (end_is line l end (e ∙ ap step_answer (values_are k x y z)))

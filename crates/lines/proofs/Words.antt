@@ -10,13 +10,14 @@ use Rattle.graph.specs.Targets.{To, keys_listed}
 use Rattle.graph.specs.Words.{modulus}
 use Rattle.text.specs.Text.{up_to, decimal, ascii}
 use Rattle.text.specs.Inner.PartsRead.{LiteralAt, Gap}
-use Rattle.text.specs.declared.cut.Place.TheVariants.{At, Missing}
+use Rattle.std.proofs.Common.{Some, None}
 use Rattle.text.proofs.Splits.{Clean, part, part_is, cancel, same_number}
+use Rattle.keylists.specs.Inner.ListsRead.{Below}
 use Rattle.lines.specs.Forms.{to_text, TextOf}
 use Rattle.lines.specs.Inner.Answers.{ReadAs, form, other}
-use Rattle.lines.specs.Inner.LineParts.{Below, tail_text, Tailed, fields_text, Spare, Values, ValuesOf}
+use Rattle.lines.specs.Inner.LineParts.{tail_text, Tailed, fields_text, Spare, Values, ValuesOf}
 use Rattle.lines.proofs.ToTexts.{to_inj}
-use Rattle.lines.proofs.KeyLists.{words_below, below_words}
+use Rattle.keylists.proofs.KeyLists.{words_below, below_words}
 use Rattle.lines.proofs.Chains.{Literals, fields_gap}
 
 -- a test that is not true
@@ -80,7 +81,7 @@ module _ {K : Type 0} (G : Grammar K) where
   word_in p l e = part_is 32 l (G.word p.kind) (fields_in G p) e (G.kinds p.kind).clean (gap_in p)
 
   -- the line's word, and what stands after it
-  module _ (line : List ℕ) (n : ℕ) (h : LiteralAt line 0 G.head (At n)) (word : List ℕ) (v : word ≡ up_to 32 (drop n line)) where
+  module _ (line : List ℕ) (n : ℕ) (h : LiteralAt line 0 G.head (Some n)) (word : List ℕ) (v : word ≡ up_to 32 (drop n line)) where
     rest_in : (p : Parts K) → line ≡ text_in G p → drop n line ≡ G.word p.kind ++ fields_in G p
     rest_in p e = cancel G.head (drop n line) (G.word p.kind ++ fields_in G p) (sym h.1 ∙ e)
 
@@ -171,10 +172,10 @@ module _ {K F : Type 0} {G : Grammar K} {text numbers : F → List ℕ} {form_of
     pub reads_long : 255 < length line → r ≡ ten → Read
     reads_long l = other (λ f i. omega (arith, i.short))
 
-    pub reads_no_head : LiteralAt line 0 G.head Missing → r ≡ ten → Read
+    pub reads_no_head : LiteralAt line 0 G.head None → r ≡ ten → Read
     reads_no_head p = other (λ f i. p (G.word (parts_of f).kind ++ fields_in G (parts_of f)) (i.same ∙ text_of f))
 
-    module _ (short : length line < 256) (n : ℕ) (h : LiteralAt line 0 G.head (At n)) (word : List ℕ) (v : word ≡ up_to 32 (drop n line)) where
+    module _ (short : length line < 256) (n : ℕ) (h : LiteralAt line 0 G.head (Some n)) (word : List ℕ) (v : word ≡ up_to 32 (drop n line)) where
       pub reads_no_word : ((k : K) → word ≡ G.word k → ⊥) → r ≡ ten → Read
       reads_no_word never = other (λ f i. never (parts_of f).kind (word_is G line n h word v (parts_of f) (i.same ∙ text_of f)))
 

@@ -1,27 +1,21 @@
 // Claim lines.
 ghost use Rattle.lines.specs.Inner.Answers.{ClaimRead};
 
-use crate::fields::{Field, number_field, too_long};
-
-// A claim line as it was read: the refusal, or the label.
-#[derive(Clone, Copy)]
-pub enum ClaimLine {
-    Refused(u32),
-    Label(u32),
-}
+use crate::fields::{number_field, too_long};
+use graph::refusal::Refusal;
 
 // The label, and nothing after it.
-pub fn parse_claim(line: &[u8]) -> ClaimLine
+pub fn parse_claim(line: &[u8]) -> Result<u32, Refusal>
     ensures { ClaimRead line.now result }
 {
     if too_long(line) {
-        return ClaimLine::Refused(10);
+        return Err(Refusal::NotALine);
     }
-    let Field::Is(label, n) = number_field(line, 0, b"claim=") else {
-        return ClaimLine::Refused(10);
+    let Some((label, n)) = number_field(line, 0, b"claim=") else {
+        return Err(Refusal::NotALine);
     };
     if n < line.len() {
-        return ClaimLine::Refused(10);
+        return Err(Refusal::NotALine);
     }
-    ClaimLine::Label(label)
+    Ok(label)
 }

@@ -1,11 +1,12 @@
 // The fields that follow a line's first word: numbers, and the targets at the end.
-ghost use Rattle.std.specs.Prelude.{◌≡◌, ◌≤◌, ltb, length, drop};
+ghost use Rattle.std.specs.Prelude.{◌≡◌, true, ◌≤◌, ltb, length, drop};
 ghost use Rattle.text.specs.Text.{up_to};
-ghost use Rattle.lines.specs.Inner.LineParts.{FieldOf, TargetsOf};
+ghost use Rattle.lines.specs.Inner.LineParts.{FieldOf, TailOf};
 
-use crate::keylist::{KeyList, TargetsAnswer, TargetsRead, no_targets, read_keys};
-use text::cut::{Place, part_to, past};
-use text::number::{Number, read_number};
+use keylists::keylist::KeyList;
+use keylists::sofar::read_keys;
+use text::cut::{part_to, past};
+use text::number::read_number;
 
 // A line has at most 255 bytes.
 pub fn too_long(line: &[u8]) -> bool
@@ -21,46 +22,34 @@ pub fn value_at(line: &[u8], from: usize) -> &[u8]
     part_to(line, from, b' ')
 }
 
-// A field's number and the place after it.
-#[derive(Clone, Copy)]
-pub enum Field {
-    Is(u32, usize),
-    Not,
-}
-
-// The field that begins at `at` with `literal`, which ends in an equals sign.
-pub fn number_field(line: &[u8], at: usize, literal: &[u8]) -> Field
+// The number of the field that begins at `at` with `literal`, which ends in an equals sign, and the place after the field.
+pub fn number_field(line: &[u8], at: usize, literal: &[u8]) -> Option<(u32, usize)>
     requires { at ≤ length line.now }
     ensures { FieldOf line.now at literal.now result }
 {
-    let Place::At(from) = past(line, at, literal) else {
-        return Field::Not;
-    };
+    let from = past(line, at, literal)?;
     let value = value_at(line, from);
-    let Number::Is(v) = read_number(value) else {
-        return Field::Not;
-    };
-    Field::Is(v, from + value.len())
+    let v = read_number(value)?;
+    Some((v, from + value.len()))
+}
+
+// What a line says after ` to=`: `all`, or what is known of a list of numbers.
+#[derive(Clone, Copy)]
+pub enum TargetsRead {
+    All,
+    Listed(KeyList),
 }
 
 // The targets from `at` to the line's end: ` to=`, and `all` or a list of numbers.
-pub fn targets_field(line: &[u8], at: usize) -> TargetsRead
+pub fn targets_field(line: &[u8], at: usize) -> Option<TargetsRead>
     requires { at ≤ length line.now }
-    ensures { TargetsOf (drop at line.now) result.answer result.all result.key }
+    ensures { TailOf true (drop at line.now) result }
 {
-    let Place::At(from) = past(line, at, b" to=") else {
-        return no_targets();
-    };
-    let value = value_at(line, from);
-    if from + value.len() < line.len() {
-        return no_targets();
+    let from = past(line, at, b" to=")?;
+    let value = &line[from..];
+    if value == b"all".as_slice() {
+        return Some(TargetsRead::All);
     }
-    if check::same(value, b"all") {
-        return TargetsRead {
-            answer: TargetsAnswer::Are(KeyList::none()),
-            all: true,
-            key: [0u8; 8],
-        };
-    }
-    read_keys(value)
+    let list = read_keys(value)?;
+    Some(TargetsRead::Listed(list))
 }

@@ -4,5 +4,4 @@
 pub mod call;
 pub mod claim;
 pub mod fields;
-pub mod keylist;
 pub mod step;

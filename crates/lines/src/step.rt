@@ -1,17 +1,15 @@
 // Step lines.
-ghost use Rattle.std.specs.Prelude.{◌≡◌, [], ◌∷◌, ◌≤◌, length, drop};
-ghost use Rattle.graph.specs.Refusals.{done};
+ghost use Rattle.std.specs.Prelude.{◌≡◌, [], ◌∷◌, ◌≤◌, cond, Bool, length, drop};
 ghost use Rattle.graph.specs.Counts.{tally_place};
-ghost use Rattle.text.specs.Text.{ascii};
-ghost use Rattle.lines.specs.Inner.Answers.{step_named, step_answered, StepRead};
-ghost use Rattle.lines.specs.Inner.LineParts.{StepWordOf, step_literals, step_form, step_tested, StepAfter};
-ghost use Rattle.lines.specs.declared.step.StepKind.TheVariants.{Split};
+ghost use Rattle.lines.specs.Inner.Answers.{step_named, step_asked, step_answered, step_answer, StepRead};
+ghost use Rattle.lines.specs.Inner.LineParts.{FieldIf, StepWordOf, step_literals, step_form, StepAfter};
 
-use crate::fields::{Field, number_field, too_long, value_at};
-use crate::keylist::is_key;
-use text::cut::{Place, past};
+use crate::fields::{number_field, too_long, value_at};
+use graph::refusal::Refusal;
+use keylists::keylist::is_key;
+use text::cut::past;
 
-#[derive(Clone, Copy)]
+#[derive(Clone, Copy, Debug, PartialEq, Eq)]
 pub enum StepKind {
     Admit,
     Realise,
@@ -25,7 +23,7 @@ pub enum StepKind {
 }
 
 // A work step, and the station, unit and place in the unit that it names.
-#[derive(Clone, Copy)]
+#[derive(Clone, Copy, Debug, PartialEq, Eq)]
 pub enum WorkStep {
     Admit,
     Realise(u8),
@@ -37,10 +35,9 @@ pub enum WorkStep {
     Fuse(u8, u32),
 }
 
-// A step line as it was read: the refusal, or a work step, or drain.
-#[derive(Clone, Copy)]
-pub enum StepLine {
-    Refused(u32),
+// What a step line asks for.
+#[derive(Clone, Copy, Debug, PartialEq, Eq)]
+pub enum StepRequest {
     Work(WorkStep),
     Drain,
 }
@@ -62,165 +59,112 @@ pub fn tally_place(w: WorkStep) -> u8
 }
 
 // The kind that the word after `step=` names.
-#[derive(Clone, Copy)]
-pub enum StepWord {
-    Is(StepKind),
-    Not,
-}
-
-fn step_word(word: &[u8]) -> StepWord
+#[tactic(auto, unfolding(text::specs::Text::ascii))]
+fn step_word(word: &[u8]) -> Option<StepKind>
     ensures { StepWordOf word.now result }
 {
-    if check::same(word, b"admit") {
-        return StepWord::Is(StepKind::Admit);
+    match word {
+        b"admit" => Some(StepKind::Admit),
+        b"realise" => Some(StepKind::Realise),
+        b"move" => Some(StepKind::Move),
+        b"finish" => Some(StepKind::Finish),
+        b"join" => Some(StepKind::Join),
+        b"split" => Some(StepKind::Split),
+        b"swap" => Some(StepKind::Swap),
+        b"fuse" => Some(StepKind::Fuse),
+        b"drain" => Some(StepKind::Drain),
+        _ => None,
     }
-    if check::same(word, b"realise") {
-        return StepWord::Is(StepKind::Realise);
+}
+
+// How many numbers a line of this kind has: ` at=`, ` unit=` and ` after=`, in this order.
+fn numbers(kind: StepKind) -> u8
+    ensures { result ≡ length (step_literals kind) }
+{
+    match kind {
+        StepKind::Admit | StepKind::Drain => 0,
+        StepKind::Realise | StepKind::Move | StepKind::Finish => 1,
+        StepKind::Join | StepKind::Swap | StepKind::Fuse => 2,
+        StepKind::Split => 3,
     }
-    if check::same(word, b"move") {
-        return StepWord::Is(StepKind::Move);
-    }
-    if check::same(word, b"finish") {
-        return StepWord::Is(StepKind::Finish);
-    }
-    if check::same(word, b"join") {
-        return StepWord::Is(StepKind::Join);
-    }
-    if check::same(word, b"split") {
-        return StepWord::Is(StepKind::Split);
-    }
-    if check::same(word, b"swap") {
-        return StepWord::Is(StepKind::Swap);
-    }
-    if check::same(word, b"fuse") {
-        return StepWord::Is(StepKind::Fuse);
-    }
-    if check::same(word, b"drain") {
-        return StepWord::Is(StepKind::Drain);
-    }
-    StepWord::Not
 }
 
 // The step of this kind, with those of the numbers that its kind names.
-fn step_with(kind: StepKind, at: u8, unit: u32, after: u32) -> StepLine
-    ensures { step_answered result ≡ done (step_form kind at unit after) }
+fn step_with(kind: StepKind, at: u8, unit: u32, after: u32) -> StepRequest
+    ensures { step_asked result ≡ step_form kind at unit after }
 {
     match kind {
-        StepKind::Admit => StepLine::Work(WorkStep::Admit),
-        StepKind::Realise => StepLine::Work(WorkStep::Realise(at)),
-        StepKind::Move => StepLine::Work(WorkStep::Move(at)),
-        StepKind::Finish => StepLine::Work(WorkStep::Finish(at)),
-        StepKind::Join => StepLine::Work(WorkStep::Join(at, unit)),
-        StepKind::Split => StepLine::Work(WorkStep::Split(at, unit, after)),
-        StepKind::Swap => StepLine::Work(WorkStep::Swap(at, unit)),
-        StepKind::Fuse => StepLine::Work(WorkStep::Fuse(at, unit)),
-        StepKind::Drain => StepLine::Drain,
+        StepKind::Admit => StepRequest::Work(WorkStep::Admit),
+        StepKind::Realise => StepRequest::Work(WorkStep::Realise(at)),
+        StepKind::Move => StepRequest::Work(WorkStep::Move(at)),
+        StepKind::Finish => StepRequest::Work(WorkStep::Finish(at)),
+        StepKind::Join => StepRequest::Work(WorkStep::Join(at, unit)),
+        StepKind::Split => StepRequest::Work(WorkStep::Split(at, unit, after)),
+        StepKind::Swap => StepRequest::Work(WorkStep::Swap(at, unit)),
+        StepKind::Fuse => StepRequest::Work(WorkStep::Fuse(at, unit)),
+        StepKind::Drain => StepRequest::Drain,
     }
 }
 
-// The answer to a step that came apart and names a node: refusal 11, else the step.
-fn step_made(kind: StepKind, at: u32, unit: u32, after: u32) -> StepLine
-    ensures { step_answered result ≡ step_tested kind at unit after }
+// The answer to a step that came apart: refusal 11 where it names a node by no key, else the step.
+fn step_made(kind: StepKind, at: u32, unit: u32, after: u32) -> Result<StepRequest, Refusal>
+    ensures { step_answered result ≡ step_answer (step_form kind at unit after) }
 {
+    if numbers(kind) == 0 {
+        return Ok(step_with(kind, 0, 0, 0));
+    }
     if !is_key(at) {
-        return StepLine::Refused(11);
+        return Err(Refusal::NotAKey);
     }
-    step_with(kind, at as u8, unit, after)
+    Ok(step_with(kind, at as u8, unit, after))
 }
 
-// Nothing after the word: admit and drain.
-fn word_step(kind: StepKind, line: &[u8], at: usize) -> StepLine
-    requires { (at ≤ length line.now) × (step_literals kind ≡ []) }
-    ensures { StepAfter kind (drop at line.now) result }
-{
-    if at < line.len() {
-        return StepLine::Refused(10);
-    }
-    step_with(kind, 0, 0, 0)
-}
-
-// ` at=`: realise, move and finish.
-fn place_step(kind: StepKind, line: &[u8], at: usize) -> StepLine
-    requires { (at ≤ length line.now) × (step_literals kind ≡ ascii " at=" ∷ []) }
-    ensures { StepAfter kind (drop at line.now) result }
-{
-    let Field::Is(place, n) = number_field(line, at, b" at=") else {
-        return StepLine::Refused(10);
-    };
-    if n < line.len() {
-        return StepLine::Refused(10);
-    }
-    step_made(kind, place, 0, 0)
-}
-
-// ` at=` and ` unit=`: join, swap and fuse.
-fn unit_step(kind: StepKind, line: &[u8], at: usize) -> StepLine
-    requires { (at ≤ length line.now) × (step_literals kind ≡ ascii " at=" ∷ ascii " unit=" ∷ []) }
-    ensures { StepAfter kind (drop at line.now) result }
-{
-    let Field::Is(place, n) = number_field(line, at, b" at=") else {
-        return StepLine::Refused(10);
-    };
-    let Field::Is(unit, m) = number_field(line, n, b" unit=") else {
-        return StepLine::Refused(10);
-    };
-    if m < line.len() {
-        return StepLine::Refused(10);
-    }
-    step_made(kind, place, unit, 0)
-}
-
-// ` at=`, ` unit=` and ` after=`.
-fn split_step(line: &[u8], at: usize) -> StepLine
+// The number after `literal`, where the line has that field: else 0, and the same place.
+fn field_if(has: bool, line: &[u8], at: usize, literal: &[u8]) -> Option<(u32, usize)>
     requires { at ≤ length line.now }
-    ensures { StepAfter Split (drop at line.now) result }
+    ensures { FieldIf line.now at (cond has (literal.now ∷ []) []) result }
 {
-    let Field::Is(place, n) = number_field(line, at, b" at=") else {
-        return StepLine::Refused(10);
-    };
-    let Field::Is(unit, m) = number_field(line, n, b" unit=") else {
-        return StepLine::Refused(10);
-    };
-    let Field::Is(after, k) = number_field(line, m, b" after=") else {
-        return StepLine::Refused(10);
-    };
-    if k < line.len() {
-        return StepLine::Refused(10);
+    if has {
+        number_field(line, at, literal)
+    } else {
+        Some((0, at))
     }
-    step_made(StepKind::Split, place, unit, after)
 }
 
 // What follows the word of a step of this kind.
-fn step_after(kind: StepKind, line: &[u8], at: usize) -> StepLine
+fn step_after(kind: StepKind, line: &[u8], at: usize) -> Result<StepRequest, Refusal>
     requires { at ≤ length line.now }
     ensures { StepAfter kind (drop at line.now) result }
 {
-    match kind {
-        StepKind::Admit => word_step(kind, line, at),
-        StepKind::Realise => place_step(kind, line, at),
-        StepKind::Move => place_step(kind, line, at),
-        StepKind::Finish => place_step(kind, line, at),
-        StepKind::Join => unit_step(kind, line, at),
-        StepKind::Split => split_step(line, at),
-        StepKind::Swap => unit_step(kind, line, at),
-        StepKind::Fuse => unit_step(kind, line, at),
-        StepKind::Drain => word_step(kind, line, at),
+    let count = numbers(kind);
+    let Some((place, n)) = field_if(0 < count, line, at, b" at=") else {
+        return Err(Refusal::NotALine);
+    };
+    let Some((unit, m)) = field_if(1 < count, line, n, b" unit=") else {
+        return Err(Refusal::NotALine);
+    };
+    let Some((after, k)) = field_if(2 < count, line, m, b" after=") else {
+        return Err(Refusal::NotALine);
+    };
+    if k < line.len() {
+        return Err(Refusal::NotALine);
     }
+    step_made(kind, place, unit, after)
 }
 
 // The kind is decided once, by the word after `step=`.
-pub fn parse_step(line: &[u8]) -> StepLine
+pub fn parse_step(line: &[u8]) -> Result<StepRequest, Refusal>
     ensures { StepRead line.now result }
 {
     if too_long(line) {
-        return StepLine::Refused(10);
+        return Err(Refusal::NotALine);
     }
-    let Place::At(from) = past(line, 0, b"step=") else {
-        return StepLine::Refused(10);
+    let Some(from) = past(line, 0, b"step=") else {
+        return Err(Refusal::NotALine);
     };
     let word = value_at(line, from);
-    let StepWord::Is(kind) = step_word(word) else {
-        return StepLine::Refused(10);
+    let Some(kind) = step_word(word) else {
+        return Err(Refusal::NotALine);
     };
     step_after(kind, line, from + word.len())
 }

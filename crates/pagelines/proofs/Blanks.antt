@@ -1,29 +1,17 @@
--- Blanks written one by one, a field with blanks beside it, and fields one after another.
+-- A field with blanks beside it, and fields one after another.
 -- Assumes nothing.
-use Prim.Native.Nat.{ℕ, ◌+◌, ◌-◌, ◌<◌, ◌≤◌}
-use mathlib.Core.Path.{◌≡◌, sym, subst}
-use mathlib.Core.List.{List, [], ◌∷◌, ◌++◌}
+use Prim.Native.Nat.{ℕ, ◌+◌, ◌-◌, ◌≤◌}
+use mathlib.Core.Path.{◌≡◌, sym}
+use mathlib.Core.List.{List, ◌++◌}
 use native.Mathlib.Omega.{arith}
-use lib.ListN.{length, replicate, set, length-append, length-replicate, replicate-append-replicate}
+use lib.ListN.{length, replicate, length-append, length-replicate}
 use Rattle.text.specs.Text.{ascii, decimal, commas}
 use Rattle.text.specs.Inner.Put.{TextPut}
-use Rattle.text.proofs.Pasting.{written_one, written_then, written_room, front_fits}
+use Rattle.text.proofs.Pasting.{written_then, front_fits}
 use Rattle.graph.specs.Nodes.{Node}
 use Rattle.print.specs.Printed.{newline}
 use Rattle.pagelines.specs.Page.{set_right, set_left, blank, page_head, page_line, PageNode}
 use Rattle.pagelines.proofs.Widths.{head_length, line_length}
-
--- one blank more, at most n
-module _ (s : List ℕ) (at n i : ℕ) (out : List ℕ) (fits : at + n ≤ length s) (w : TextPut s at (replicate i 32) out (at + i)) where
-  pub blank_more : i < n → length out ≡ length s → TextPut s at (replicate (i + 1) 32) (set out (at + i) 32) (at + (i + 1))
-  blank_more h e =
-      let one : List ℕ = 32 ∷ [] in
-      let next : replicate (i + 1) 32 ≡ replicate i 32 ++ one = sym (replicate-append-replicate i 1 32) in
-      let r = written_then w (written_one out (at + i) 32 (omega arith)) (omega (arith, length-append (replicate i 32) one, length-replicate {A = ℕ} i 32)) in
-      rw next (record { place = omega (arith, r.place); bytes = r.bytes })
-
-  pub blank_all : i ≡ n → TextPut s at (replicate n 32) out (at + i)
-  blank_all e = subst (λ (k : ℕ). TextPut s at (replicate k 32) out (at + i)) e w
 
 -- a field of k bytes in its columns, with these beside it
 abbrev blanks : ℕ → ℕ → List ℕ
@@ -38,9 +26,6 @@ module _ (s : List ℕ) (at columns k : ℕ) (text : List ℕ) (is : k ≡ lengt
 
   left_fits : at + length (text ++ blanks columns k) ≤ length s
   left_fits = omega (arith, length-append text (blanks columns k), beside)
-
-  pub right_room : {o : List ℕ} {p : ℕ} → TextPut s at (blanks columns k) o p → p + length text ≤ length o
-  right_room w = written_room w text right_fits
 
   pub right_put : {o o' : List ℕ} {p p' : ℕ} → TextPut s at (blanks columns k) o p → TextPut o p text o' p' → TextPut s at (set_right columns text) o' p'
   unfolding set_right

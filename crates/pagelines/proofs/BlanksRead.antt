@@ -1,18 +1,15 @@
 -- Laws of `past_blanks`: what stands before and after, byte by byte, and fields set right or left.
 -- Assumes nothing.
-use Prim.Native.Nat.{ℕ, zero, suc, ◌+◌, ◌-◌, ◌<◌, ◌≤◌}
+use Prim.Native.Nat.{ℕ, zero, suc, ◌-◌, ◌<◌}
 use mathlib.Core.Bool.{Bool, true, false}
 use mathlib.Core.Path.{◌≡◌, refl, sym, ap, ◌∙◌}
-use mathlib.Core.List.{List, [], ◌∷◌, ◌++◌, append-nil}
+use mathlib.Core.List.{List, [], ◌∷◌, ◌++◌}
 use native.Mathlib.Omega.{arith}
-use native.Mathlib.Numerals.{add-one}
 use borrow.Author.Tests.{eq-eqb, ne_eqb, eqb-true, eqb-false}
 use lib.Dec.{eqb}
-use lib.ListN.{length, take, drop, get_or, replicate, length-append, length-replicate, drop_of_length-le}
-use lib.Seq.{drop-cons}
+use lib.ListN.{length, drop, get_or, replicate, length-append, length-replicate}
 use Rattle.text.specs.Text.{decimal}
 use Rattle.text.proofs.Decimals.{Figures, decimal_is}
-use Rattle.text.proofs.Splits.{from_eq}
 use Rattle.pagelines.specs.Page.{set_right}
 use Rattle.pagelines.specs.Inner.Columns.{past_blanks}
 
@@ -30,20 +27,16 @@ past_other c cs e = rw (ne_eqb c 32 e, past_blanks)
 
 -- ---- the search
 
--- the first k bytes are blanks
-abbrev pub Blanked : List ℕ → ℕ → Type 0
-Blanked s k = past_blanks s ≡ past_blanks (drop k s)
+-- from the first byte that is no blank on
+pub past_first : (s : List ℕ) (m : ℕ) → m < length s → (get_or s m 0 ≡ 32 → ⊥) → ((k : ℕ) → k < m → get_or s k 0 ≡ 32) → drop m s ≡ past_blanks s
+past_first [] m h ne blank = absurd (omega arith)
+past_first (c ∷ cs) zero h ne blank = sym (past_other c cs ne)
+past_first (c ∷ cs) (suc m) h ne blank =
+    past_first cs m (omega arith) ne (λ k l. blank (suc k) (omega arith)) ∙ sym (past_blank c cs (blank 0 (omega arith)))
 
-module _ (s : List ℕ) (k : ℕ) (p : Blanked s k) where
-  pub blanked_more : k < length s → get_or s k 0 ≡ 32 → Blanked s (k + 1)
-  blanked_more h e = rw add-one (p ∙ ap past_blanks (drop-cons s k 0 h) ∙ past_blank (get_or s k 0) (drop (suc k) s) e)
-
-  pub blanked_ends : k < length s → (get_or s k 0 ≡ 32 → ⊥) → take (length s - k) (drop k s) ≡ past_blanks s
-  blanked_ends h ne =
-      from_eq s k ∙ sym (p ∙ ap past_blanks (drop-cons s k 0 h) ∙ past_other (get_or s k 0) (drop (suc k) s) ne ∙ sym (drop-cons s k 0 h))
-
-  pub blanked_all : length s ≤ k → take (length s - k) (drop k s) ≡ past_blanks s
-  blanked_all h = from_eq s k ∙ drop_of_length-le s h ∙ sym (p ∙ ap past_blanks (drop_of_length-le s h) ∙ past_nil)
+pub past_none : (s : List ℕ) → ((k : ℕ) → k < length s → get_or s k 0 ≡ 32) → [] ≡ past_blanks s
+past_none [] blank = sym past_nil
+past_none (c ∷ cs) blank = past_none cs (λ k l. blank (suc k) (omega arith)) ∙ sym (past_blank c cs (blank 0 (omega arith)))
 
 -- ---- what stands before and after
 
@@ -66,9 +59,6 @@ past_over : (k : ℕ) (t : List ℕ) → past_blanks (replicate k 32 ++ t) ≡ p
 past_over zero t = refl
 past_over (suc k) t = past_blank 32 (replicate k 32 ++ t) refl ∙ past_over k t
 
-pub past_all : (k : ℕ) → past_blanks (replicate k 32) ≡ []
-past_all k = ap past_blanks (sym (append-nil (replicate k 32))) ∙ past_over k [] ∙ past_nil
-
 past_figures : (l : List ℕ) → Figures l → past_blanks l ≡ l
 past_figures [] d = past_nil
 past_figures (c ∷ cs) d = past_other c cs (λ e. omega (arith, d.0))
@@ -89,14 +79,7 @@ is_right s t columns n e =
     let k : p.blanks ≡ columns - length t = omega (arith, n, ap length q, length-append (replicate p.blanks 32) t, length-replicate {A = ℕ} p.blanks 32) in
     q ∙ ap (λ (j : ℕ). replicate j 32 ++ t) k
 
--- blanks and nothing past them
-pub only_blanks : (s : List ℕ) → length (past_blanks s) ≡ 0 → s ≡ replicate (length s) 32
-unfolding set_right
-only_blanks s e =
-    let all : List ℕ = replicate (length s - 0) 32 in
-    let k : length s - 0 ≡ length s = omega arith in
-    is_right s [] (length s) refl (empty (past_blanks s) e) ∙ append-nil all ∙ ap (λ (j : ℕ). replicate j 32) k
-  where
-    empty : (l : List ℕ) → length l ≡ 0 → l ≡ []
-    empty [] h = refl
-    empty (x ∷ xs) h = absurd (omega arith)
+-- blanks and nothing else
+pub only_blanks : (s : List ℕ) → ((k : ℕ) → k < length s → get_or s k 0 ≡ 32) → s ≡ replicate (length s) 32
+only_blanks [] blank = refl
+only_blanks (c ∷ cs) blank = λ i. blank 0 (omega arith) i ∷ only_blanks cs (λ k l. blank (suc k) (omega arith)) i

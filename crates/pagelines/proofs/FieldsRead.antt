@@ -1,14 +1,15 @@
 -- What stands in so many bytes at a place: numbers set right, and links set left.
 -- Assumes nothing.
 use Prim.Native.Nat.{ℕ, zero, suc, ◌+◌, ◌-◌, ◌<◌, ◌≤◌}
-use mathlib.Core.Bool.{Bool, true, false, false≢true, ◌&&◌}
+use mathlib.Core.Bool.{true, false, false≢true, ◌&&◌}
 use mathlib.Core.Path.{◌≡◌, refl, sym, ap, subst, ◌∙◌}
 use mathlib.Core.List.{List, [], ◌∷◌, ◌++◌}
+use Rattle.std.specs.Prelude.{Some, None}
 use native.Mathlib.Omega.{arith}
 use native.Mathlib.Nat.{add-sub_cancel_left}
 use borrow.Author.Tests.{le-leb, leb-true}
 use lib.Dec.{leb}
-use lib.ListN.{length, take, drop, replicate, length-append, length-drop, take-append-drop}
+use lib.ListN.{length, take, drop, get_or, get_or-replicate, replicate, length-append, length-drop, length-replicate, take-append-drop}
 use lib.Seq.{take_at, drop_at, drop-drop, length-take-le}
 use Rattle.graph.specs.Words.{modulus}
 use Rattle.graph.specs.KeyLists.{is_key, are_keys}
@@ -17,26 +18,16 @@ use Rattle.graph.proofs.Answers.{and_left, and_right, and_both}
 use Rattle.graph.proofs.KeyLaws.{key_high, listed_packed}
 use Rattle.text.specs.Text.{up_to, decimal, commas}
 use Rattle.text.specs.Inner.PartsRead.{Gap}
-use Rattle.text.specs.declared.number.Number.TheVariants.{Is, Not}
 use Rattle.text.proofs.Decimals.{decimal_inj}
 use Rattle.text.proofs.Splits.{split, part_is, from_eq}
 use Rattle.text.proofs.CommaLists.{commas_inj, commas_clean}
-use Rattle.lines.specs.Inner.LineParts.{Below, KeysOf, KeysStored}
-use Rattle.lines.specs.declared.keylist.KeyList.{KeyList}
-use Rattle.lines.proofs.Lengths.{commas_short}
+use Rattle.keylists.specs.Inner.ListsRead.{Below, KeysOf}
+use Rattle.keylists.specs.declared.keylist.KeyList.{KeyList}
+use Rattle.text.proofs.CommaLists.{commas_short}
 use Rattle.pagelines.specs.Page.{set_right, set_left}
-use Rattle.pagelines.specs.Inner.Columns.{past_blanks, Stands, Missing, ReadAt, InColumns, number_text, NumberRight, LinkList, links_text}
+use Rattle.pagelines.specs.Inner.Columns.{past_blanks, Stands, Missing, InColumns, number_text, NumberRight, LinkList, links_text}
 use Rattle.pagelines.proofs.Widths.{length_right, length_left}
-use Rattle.pagelines.proofs.BlanksRead.{parted, past_right, is_right, past_all, only_blanks}
-
--- ---- read, or not
-
-module _ {A : Type 0} (Fits : A → Type 0) (text : A → List ℕ) (s : List ℕ) (at width : ℕ) {is : Bool} (v : A) where
-  pub not_read : is ≡ false → Missing Fits text s at → ReadAt Fits text s at width is v
-  not_read e m = record { found = λ t. absurd (false≢true (sym e ∙ t)); none = λ f. m }
-
-  pub is_read : is ≡ true → Stands Fits text s at width v → ReadAt Fits text s at width is v
-  is_read e h = record { found = λ t. h; none = λ f. absurd (false≢true (sym f ∙ e)) }
+use Rattle.pagelines.proofs.BlanksRead.{parted, past_right, is_right, only_blanks}
 
 -- ---- parts
 
@@ -70,16 +61,16 @@ module _ (s : List ℕ) (at columns : ℕ) (room : at + columns ≤ length s) wh
     stands_right v fits x e =
         ap past_blanks (field_text (set_right columns (decimal v)) x (length_right columns (decimal v) fits.short) e) ∙ past_right columns v
 
-    pub number_missing : most < modulus → ((v : ℕ) → v < modulus → past_blanks field ≡ decimal v → ⊥) → NumberRight s at columns least most Not
+    pub number_missing : most < modulus → ((v : ℕ) → v < modulus → past_blanks field ≡ decimal v → ⊥) → NumberRight s at columns least most None
     number_missing h never v fits x e = never v (omega (arith, fits.high)) (stands_right v fits x e)
 
     module _ (v : ℕ) (q : past_blanks field ≡ decimal v) where
-      pub number_outside : (least ≤ v → v ≤ most → ⊥) → NumberRight s at columns least most Not
+      pub number_outside : (least ≤ v → v ≤ most → ⊥) → NumberRight s at columns least most None
       number_outside ne u fits x e =
           let same : u ≡ v = decimal_inj u v (sym (stands_right u fits x e) ∙ q) in
           ne (omega (arith, fits.low)) (omega (arith, fits.high))
 
-      pub number_stands : least ≤ v → v ≤ most → NumberRight s at columns least most (Is v)
+      pub number_stands : least ≤ v → v ≤ most → NumberRight s at columns least most (Some v)
       number_stands lo hi =
           let p = parted field in
           record {
@@ -118,7 +109,7 @@ module _ (s : List ℕ) (at : ℕ) (room : at + 23 ≤ length s) where
   -- the text of a link list stands there: so the columns hold it, and blanks after it
   record Holds (ks : List ℕ) : Type 0 where
     keys : text ≡ commas ks
-    blanks : length (past_blanks after) ≡ 0
+    blanks : (k : ℕ) → k < length after → get_or after k 0 ≡ 32
 
   holds : (ks : List ℕ) → LinkList ks → (x : List ℕ) → drop at s ≡ links_text ks ++ x → Holds ks
   unfolding set_left
@@ -128,10 +119,10 @@ module _ (s : List ℕ) (at : ℕ) (room : at + 23 ≤ length s) where
       let is : text ≡ commas ks = part_is 32 part (commas ks) (replicate (23 - length (commas ks)) 32) same (commas_clean 32 (omega arith) ks) (blanks_gap (23 - length (commas ks))) in
       let rest : after ≡ replicate (23 - length (commas ks)) 32 =
       from_eq part (length text) ∙ (λ i. drop (length (is i)) (same i)) ∙ drop_at (commas ks) (replicate (23 - length (commas ks)) 32) (length (commas ks)) refl in
-      record { keys = is; blanks = ap (λ (r : List ℕ). length (past_blanks r)) rest ∙ ap length (past_all (23 - length (commas ks))) }
+      record { keys = is; blanks = λ k h. ap (λ (r : List ℕ). get_or r k 0) rest ∙ get_or-replicate _ k 32 0 (omega (arith, ap length rest, length-replicate {A = ℕ} (23 - length (commas ks)) 32)) }
 
-  pub links_untidy : 0 < length (past_blanks after) → Missing LinkList links_text s at
-  links_untidy h ks l x e = omega (arith, (holds ks l x e).blanks)
+  pub links_untidy : (((k : ℕ) → k < length after → get_or after k 0 ≡ 32) → ⊥) → Missing LinkList links_text s at
+  links_untidy ne ks l x e = ne (holds ks l x e).blanks
 
   pub links_unread : ((ts : List ℕ) → Below ts → text ≡ commas ts → ⊥) → Missing LinkList links_text s at
   links_unread never ks l x e = never ks (keys_below ks l.keys) (holds ks l x e).keys
@@ -147,9 +138,9 @@ module _ (s : List ℕ) (at : ℕ) (room : at + 23 ≤ length s) where
         let few : leb k.count 8 ≡ true = le-leb k.count 8 (omega (arith, known.count, l.few, ap length (same_list ks l x e))) in
         false≢true (sym other ∙ and_both all few)
 
-    pub links_stand : (key : List ℕ) → KeysStored ts key → (k.keys && leb k.count 8) ≡ true → length (past_blanks after) ≡ 0 → Stands LinkList links_text s at 23 (listed (record { count = k.count; key = key }))
+    pub links_stand : (k.keys && leb k.count 8) ≡ true → ((k : ℕ) → k < length after → get_or after k 0 ≡ 32) → Stands LinkList links_text s at 23 (listed (record { count = k.count; key = k.key }))
     unfolding set_left packed
-    links_stand key stored links blanks =
+    links_stand links blanks =
         let all : k.keys ≡ true = and_left k.keys (leb k.count 8) links in
         let few : k.count ≤ 8 = leb-true k.count 8 (and_right k.keys (leb k.count 8) links) in
         let some : are_keys ts ≡ true = sym known.keys ∙ all in
@@ -159,6 +150,6 @@ module _ (s : List ℕ) (at : ℕ) (room : at + 23 ≤ length s) where
         let rest : drop (length text) part ≡ replicate (length (drop (length text) part)) 32 = sym (from_eq part (length text)) ∙ only_blanks after blanks ∙ ap (λ (r : List ℕ). replicate (length r) 32) (from_eq part (length text)) in
         let width : length (drop (length text) part) ≡ 23 - length (commas ts) = omega (arith, length-drop (length text) part, field_length s at 23 room, ap length q) in
         let columns : part ≡ links_text ts = (split 32 part).0 ∙ (λ i. q i ++ rest i) ∙ ap (λ (j : ℕ). commas ts ++ replicate j 32) width in
-        let keys : ts ≡ listed (record { count = k.count; key = key }) = sym (listed_packed ts) ∙ (λ i. take (sym n i) (sym (stored some (omega arith)) i)) in
+        let keys : ts ≡ listed (record { count = k.count; key = k.key }) = sym (listed_packed ts) ∙ (λ i. take (sym n i) (sym (known.stored some (omega arith)) i)) in
         subst (Stands LinkList links_text s at 23) keys
         (record { fits = l; same = field_same s at 23 room ∙ ap (λ (r : List ℕ). r ++ drop (at + 23) s) columns })

@@ -14,8 +14,7 @@ use Rattle.graph.proofs.Answers.{and_both}
 use Rattle.graph.proofs.KeyLaws.{key_low, key_high}
 use Rattle.text.specs.Text.{ascii, decimal, commas}
 use Rattle.text.specs.Inner.PartsRead.{LiteralAt}
-use Rattle.text.specs.declared.cut.Place.TheVariants.{At, Missing as NoPlace}
-use Rattle.text.specs.declared.number.Number.TheVariants.{Is, Not}
+use Rattle.std.specs.Prelude.{Some, None}
 use Rattle.print.specs.Printed.{newline}
 use Rattle.print.specs.Inner.Values.{node_by_value}
 use Rattle.pagelines.specs.Page.{blank, page_head, page_line, PageNode}
@@ -78,14 +77,14 @@ line s at n p x e =
     }
 
 module _ (s : List ℕ) (at : ℕ) where
-  pub no_key : NumberRight s at 2 1 64 Not → Missing PageNode page_line s at
+  pub no_key : NumberRight s at 2 1 64 None → Missing PageNode page_line s at
   no_key never n p x e =
       never n.key (record { low = key_low n.key p.key; high = key_high n.key p.key; short = key_columns n p }) _ (line s at n p x e).key
 
   pub no_third : (get_or s (at + 2) 0 ≡ 32 → ⊥) → Missing PageNode page_line s at
   no_third ne n p x e = ne (line s at n p x e).third
 
-  pub no_value : NumberRight s (at + 3) 10 0 4294967295 Not → Missing PageNode page_line s at
+  pub no_value : NumberRight s (at + 3) 10 0 4294967295 None → Missing PageNode page_line s at
   no_value never n p x e =
       never n.value (record { low = omega arith; high = omega (arith, p.node.value); short = value_columns n p }) _ (line s at n p x e).value
 
@@ -99,9 +98,9 @@ module _ (s : List ℕ) (at : ℕ) where
   no_newline ne n p x e = ne (line s at n p x e).newlines
 
   pub line_stands : (room : at + 38 ≤ length s) (key value : ℕ) (links : Keys)
-      → NumberRight s at 2 1 64 (Is key)
+      → NumberRight s at 2 1 64 (Some key)
       → get_or s (at + 2) 0 ≡ 32
-      → NumberRight s (at + 3) 10 0 4294967295 (Is value)
+      → NumberRight s (at + 3) 10 0 4294967295 (Some value)
       → get_or s (at + 13) 0 ≡ 32
       → Stands LinkList links_text s (at + 14) 23 (listed links)
       → get_or s (at + 37) 0 ≡ 10
@@ -148,19 +147,19 @@ head s n h x e =
     record { ends = newline ++ x; others = c ++ (newline ++ x); word = e0; count = e1; newlines = byte_at s 37 10 x e2 }
 
 module _ (s : List ℕ) where
-  pub no_word : LiteralAt s 0 (ascii "nodes") NoPlace → HeadRead s Not
+  pub no_word : LiteralAt s 0 (ascii "nodes") None → HeadRead s None
   no_word never n h x e = never _ (head s n h x e).word
 
-  module _ (from : ℕ) (word : LiteralAt s 0 (ascii "nodes") (At from)) where
+  module _ (from : ℕ) (word : LiteralAt s 0 (ascii "nodes") (Some from)) where
     pub from_five : from ≡ 5
     unfolding ascii
     from_five = omega (arith, word.0, ap length word.1, length-append (ascii "nodes") (drop from s), length-drop from s)
 
-    pub no_count : NumberRight s from 32 0 64 Not → HeadRead s Not
+    pub no_count : NumberRight s from 32 0 64 None → HeadRead s None
     no_count never n h x e =
         never n (record { low = omega arith; high = h; short = count_columns n h }) _ (ap (λ (j : ℕ). drop j s) from_five ∙ (head s n h x e).count)
 
-    pub head_stands : (room : 38 ≤ length s) (n : ℕ) → NumberRight s from 32 0 64 (Is n) → get_or s 37 0 ≡ 10 → HeadRead s (Is n)
+    pub head_stands : (room : 38 ≤ length s) (n : ℕ) → NumberRight s from 32 0 64 (Some n) → get_or s 37 0 ≡ 10 → HeadRead s (Some n)
     head_stands room n c end =
         let j : from + 32 ≡ 37 = omega (arith, from_five) in
         let e2 : drop 37 s ≡ newline ++ drop 38 s = past_byte s 37 38 10 (omega arith) end refl in
@@ -171,5 +170,5 @@ module _ (s : List ℕ) where
               ∙ sym (head_parts (ascii "nodes") (number_text 32 n) newline (drop 38 s));
         }
 
-  pub no_head_newline : (get_or s 37 0 ≡ 10 → ⊥) → HeadRead s Not
+  pub no_head_newline : (get_or s 37 0 ≡ 10 → ⊥) → HeadRead s None
   no_head_newline ne n h x e = ne (head s n h x e).newlines

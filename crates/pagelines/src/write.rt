@@ -15,12 +15,8 @@ fn put_blanks(out: &mut [u8], at: usize, n: usize) -> usize
     requires { at + n ≤ length out.old }
     ensures { TextPut out.old at (replicate n 32) out.new result }
 {
-    let mut i: usize = 0;
-    while i < n {
-        out[at + i] = b' ';
-        i += 1;
-    }
-    at + i
+    out[at..at + n].fill(b' ');
+    at + n
 }
 
 // Writes a number, set right, and returns the place after its columns.

@@ -23,8 +23,8 @@ use Rattle.flat.specs.Inner.Nested.{of_op}
 use Rattle.flat.specs.Inner.FlatSteps.{move_to, move_on, open_as}
 use Rattle.records.specs.declared.labels.Labels.{Labels}
 use Rattle.records.specs.declared.op.OpRecord.{OpRecord}
-use Rattle.valid.specs.Values.{Fields, fields_of, op_record, call_record, tagged_record}
-use Rattle.valid.specs.Inner.Decoded.{act_of, held_of, remaining_of, decoded_call, tagged_of, labels_of}
+use Rattle.valid.specs.Values.{Fields, fields_of, written_keys, all_byte, mark_byte, op_record, call_record, tagged_record}
+use Rattle.valid.specs.Inner.Decoded.{act_of, held_of, read_targets, remaining_of, decoded_call, tagged_of, labels_of}
 use Rattle.valid.proofs.Decoding.{flag_kept, flag_back, flags_back}
 use Rattle.state.specs.declared.operation.Operation.{Operation}
 use Rattle.state.specs.Inner.Operations.{op_value, Normal, Carries, TargetsHeld, RecordFor}
@@ -107,10 +107,10 @@ record_with p opens f t ls =
       key = f.key;
       a = f.a;
       b = f.b;
-      targets = t.keys;
+      targets = written_keys t;
       labels = ls;
-      all = cond t.all 1 0;
-      mark = cond t.mark 1 0;
+      all = all_byte t;
+      mark = mark_byte t;
     }
 
 call_of_law : (act : Act) (h p opens : ℕ) (t : Remaining) (ls : Labels) → (is_map act ≡ true → h ≡ 0)
@@ -140,10 +140,10 @@ reads_operation p opens o f e h n =
       key = (fields_of o.act o.held).key;
       a = (fields_of o.act o.held).a;
       b = (fields_of o.act o.held).b;
-      targets = (sym n.targets i).keys;
+      targets = written_keys (sym n.targets i);
       labels = sym n.names i;
-      all = cond (sym n.targets i).all 1 0;
-      mark = cond (sym n.targets i).mark 1 0;
+      all = all_byte (sym n.targets i);
+      mark = mark_byte (sym n.targets i);
     }))
 
 -- a record with another station, one that moves there, and one that opens its unit or no longer does
@@ -177,7 +177,7 @@ call_moved : (k p : ℕ) (b : Bool) (c : Labelled) → call_record k b (of_op c 
 call_moved k p b (add_of l v) = refl
 call_moved k p b (op_of o) = record_moved k p b (fields_of o.act o.held) o.targets o.labels
 
-without_read : (r : OpRecord) → without_mark (targets_in (remaining_of r)) ≡ targets_in (record { all = eqb r.all 1; mark = false; keys = r.targets })
+without_read : (r : OpRecord) → without_mark (targets_in (remaining_of r)) ≡ targets_in (read_targets r.targets r.all 0)
 without_read r = by_bool (eqb r.all 1) (λ e. rw e refl) (λ e. rw e refl)
 
 moved_read : (r : OpRecord) (k : ℕ) → of_op (decoded_call r) (λ o. op_of (onward o)) (decoded_call r) ≡ decoded_call (moved_on k r)

@@ -1,8 +1,8 @@
 // An operation of the queue by value, and the record that it has.
-ghost use Rattle.std.specs.Prelude.{◌≡◌, true, false, cond, ◌≤◌, eqb};
+ghost use Rattle.std.specs.Prelude.{◌≡◌, true, false, ◌≤◌, eqb};
 ghost use Rattle.graph.specs.OneAtATime.{add_of, op_of};
 ghost use Rattle.valid.specs.Inner.Decoded.{act_of, held_of, remaining_of, decoded_call, tagged_of};
-ghost use Rattle.valid.specs.Values.{fields, fields_of, tagged_record};
+ghost use Rattle.valid.specs.Values.{fields, fields_of, written_keys, all_byte, mark_byte, tagged_record};
 ghost use Rattle.state.specs.Inner.Operations.{op_value, fields_value, Normal, Carries, RecordFor};
 
 use graph::act::Act;
@@ -55,10 +55,7 @@ pub fn act_of(kind: u8, key: u8, a: u32, b: u32) -> Act
 pub fn held_of(kind: u8, b: u32) -> u32
     ensures { result ≡ held_of kind b }
 {
-    if kind == 1 {
-        return 0;
-    }
-    b
+    if kind == 1 { 0 } else { b }
 }
 
 // The fields of an act other than a map.
@@ -92,24 +89,24 @@ pub fn fields_of(act: Act, held: u32) -> ActFields
     }
 }
 
-pub fn flag(b: bool) -> u8
-    ensures { result ≡ cond b 1 0 }
-{
-    if b {
-        return 1;
-    }
-    0
-}
-
-// The targets that remain: all where the byte for it is 1, and marked where the mark's is.
+// The targets that remain: all where the byte for it is 1, and done where the mark's is.
 pub fn remaining_of(r: OpRecord) -> Remaining
     ensures { result ≡ remaining_of r }
 {
-    let keys = r.targets;
-    Remaining {
-        all: r.all == 1,
-        mark: r.mark == 1,
-        keys: keys,
+    if r.all == 1 {
+        Remaining::All { done: r.mark == 1 }
+    } else {
+        Remaining::Listed(r.targets)
+    }
+}
+
+// What is written of the targets that remain: the keys listed, and a byte each for all and for the mark.
+fn written(targets: Remaining) -> (Keys, u8, u8)
+    ensures { result ≡ (written_keys targets, all_byte targets, mark_byte targets) }
+{
+    match targets {
+        Remaining::All { done } => (Keys::none(), 1, u8::from(done)),
+        Remaining::Listed(keys) => (keys, 0, 0),
     }
 }
 
@@ -118,12 +115,11 @@ pub fn operation_of(r: OpRecord) -> Operation
     requires { (eqb r.kind 0 ≡ false) × (tagged_record (tagged_of r) ≡ r) }
     ensures { Carries (decoded_call r) result }
 {
-    let labels = r.labels;
     Operation {
         act: act_of(r.kind, r.key, r.a, r.b),
         held: held_of(r.kind, r.b),
         targets: remaining_of(r),
-        labels: labels,
+        labels: r.labels,
     }
 }
 
@@ -132,22 +128,19 @@ pub fn record_of(station: u8, opens: u8, o: Operation) -> OpRecord
     requires { (opens ≤ 1) × (Normal o) }
     ensures { RecordFor (record { place = station; opens = eqb opens 1; call = op_of (op_value o) }) result }
 {
-    let act = o.act;
-    let f = fields_of(act, o.held);
-    let targets = o.targets;
-    let keys = targets.keys;
-    let labels = o.labels;
+    let f = fields_of(o.act, o.held);
+    let (targets, all, mark) = written(o.targets);
     OpRecord {
-        station: station,
-        opens: opens,
+        station,
+        opens,
         kind: f.kind,
         key: f.key,
         a: f.a,
         b: f.b,
-        targets: keys,
-        labels: labels,
-        all: flag(targets.all),
-        mark: flag(targets.mark),
+        targets,
+        labels: o.labels,
+        all,
+        mark,
     }
 }
 
@@ -162,10 +155,7 @@ pub fn add_record(label: u16, value: u32) -> OpRecord
         key: 0,
         a: 0,
         b: value,
-        targets: Keys {
-            count: 0,
-            key: [0u8; 8],
-        },
+        targets: Keys::none(),
         labels: Labels {
             count: 1,
             label: [label, 0, 0, 0],

@@ -11,7 +11,7 @@ ghost use Rattle.valid.specs.Values.{tagged_record};
 ghost use Rattle.state.specs.Inner.Operations.{op_value, add_value, Normal, Carries, TargetsHeld, RecordFor, Bounded};
 ghost use Rattle.state.specs.Inner.State.{flat_in, Proper, Shows};
 
-use crate::operation::{Added, Operation, add_record, flag, operation_of, record_of, remaining_of};
+use crate::operation::{Added, Operation, add_record, operation_of, record_of, remaining_of};
 use graph::remaining::Remaining;
 use image::read::{op_at, op_count};
 use image::write::{append_op, put_op, remove_op};
@@ -152,7 +152,7 @@ pub fn set_opens(image: &mut [u8], i: usize, b: bool)
     ensures { Shows (with_queue (flat_in image.old) (alter i (open_as b) (flat_in image.old).queue)) image.new }
 {
     let mut r = record_at(image, i);
-    r.opens = flag(b);
+    r.opens = u8::from(b);
     put_record(image, i, r);
 }
 

@@ -1,13 +1,17 @@
--- Laws of `commas`: how a list of numbers grows, that its text determines it, and where it ends.
+-- Laws of `commas`: how a list of numbers grows, that its text determines it, and how long one of keys is.
 -- Assumes nothing.
-use Prim.Native.Nat.{ℕ, ◌<◌}
+use Prim.Native.Nat.{ℕ, ◌*◌, ◌<◌, ◌≤◌}
 use mathlib.Core.Path.{◌≡◌, refl, sym, ap, ◌∙◌}
+use mathlib.Core.Bool.{true}
 use mathlib.Core.List.{List, [], ◌∷◌, ◌++◌, append-nil, append_assoc}
 use native.Mathlib.Omega.{arith}
 use lib.ListN.{length, drop, length-append}
 use Rattle.text.specs.Text.{decimal, further, commas, texts}
 use Rattle.text.specs.Inner.PartsRead.{Gap}
-use Rattle.text.proofs.Decimals.{decimal_is}
+use Rattle.graph.specs.KeyLists.{is_key, are_keys}
+use Rattle.graph.proofs.Answers.{and_left, and_right}
+use Rattle.graph.proofs.KeyLaws.{key_high}
+use Rattle.text.proofs.Decimals.{decimal_is, len_two}
 use Rattle.text.proofs.Splits.{Clean, decimal_clean, same_number}
 
 pub further_gap : (ts : List ℕ) → Gap 44 (further ts)
@@ -63,32 +67,21 @@ unfolding commas
 commas_clean stop h [] = tt
 commas_clean stop h (t ∷ ts) = clean_append stop (decimal t) (further ts) (decimal_clean stop (omega arith) t) (further_clean stop h ts)
 
--- ---- a list read from its front: numbers with a comma after each, then the last
+-- ---- the lengths of lists of keys
 
-unfoldable pub passed : List ℕ → List ℕ
-passed [] = []
-passed (t ∷ ts) = decimal t ++ (44 ∷ passed ts)
+pub key_short : (t : ℕ) → is_key t ≡ true → length (decimal t) ≤ 2
+key_short t h = len_two t (omega (arith, key_high t h))
 
-further_commas : (ts : List ℕ) (v : ℕ) → further (ts ++ v ∷ []) ≡ 44 ∷ commas (ts ++ v ∷ [])
-unfolding further commas
-further_commas [] v = refl
-further_commas (t ∷ ts) v = refl
+further_short : (ts : List ℕ) → are_keys ts ≡ true → length (further ts) ≤ 3 * length ts
+unfolding further
+further_short [] h = omega arith
+further_short (t ∷ ts) h = omega (arith, further_short ts (and_right (is_key t) _ h), length-append (decimal t) (further ts), key_short t (and_left _ _ h))
 
-pub passed_last : (ts : List ℕ) (v : ℕ) → passed ts ++ decimal v ≡ commas (ts ++ v ∷ [])
-unfolding passed further commas
-passed_last [] v = sym (append-nil (decimal v))
-passed_last (t ∷ ts) v =
-    append_assoc (decimal t) (44 ∷ passed ts) (decimal v)
-    ∙ ap (λ (r : List ℕ). decimal t ++ (44 ∷ r)) (passed_last ts v)
-    ∙ ap (λ (r : List ℕ). decimal t ++ r) (sym (further_commas ts v))
-
-pub passed_next : (ts : List ℕ) (v : ℕ) (x : List ℕ) → passed ts ++ (decimal v ++ (44 ∷ x)) ≡ passed (ts ++ v ∷ []) ++ x
-unfolding passed
-passed_next [] v x = sym (append_assoc (decimal v) (44 ∷ []) x)
-passed_next (t ∷ ts) v x =
-    append_assoc (decimal t) (44 ∷ passed ts) (decimal v ++ (44 ∷ x))
-    ∙ ap (λ (r : List ℕ). decimal t ++ (44 ∷ r)) (passed_next ts v x)
-    ∙ sym (append_assoc (decimal t) (44 ∷ passed (ts ++ v ∷ [])) x)
+-- eight keys of two digits and seven commas
+pub commas_short : (ts : List ℕ) → are_keys ts ≡ true → length ts ≤ 8 → length (commas ts) ≤ 23
+unfolding commas
+commas_short [] h n = omega arith
+commas_short (t ∷ ts) h n = omega (arith, n, further_short ts (and_right (is_key t) _ h), length-append (decimal t) (further ts), key_short t (and_left _ _ h))
 
 -- ---- texts one after another
 

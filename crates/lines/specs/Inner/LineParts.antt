@@ -1,86 +1,41 @@
 -- What the parts of the readers answer: a field, the targets, a first word, and what follows it.
 -- Assumes nothing.
-use Rattle.std.specs.Prelude.{ℕ, ◌<◌, ◌≤◌, min, Bool, true, false, cond, ◌&&◌, List, [], ◌∷◌, ◌++◌, ◌⊎◌, ◌≡◌, leb, length, drop}
-use Rattle.text.specs.Text.{ascii, decimal, commas}
+use Rattle.std.specs.Prelude.{ℕ, ◌<◌, ◌≤◌, Bool, true, false, not, cond, ◌&&◌, List, [], ◌∷◌, ◌++◌, ◌≡◌, leb, length, take, drop, Option, Some, None, Result}
+use Rattle.text.specs.Text.{ascii, decimal}
 use Rattle.text.specs.Inner.PartsRead.{Gap}
-use Rattle.graph.specs.KeyLists.{is_key, are_keys, above, rising}
+use Rattle.graph.specs.KeyLists.{is_key, are_keys, rising}
 use Rattle.graph.specs.Words.{modulus}
 use Rattle.graph.specs.Affine.{is_odd}
+use Rattle.graph.specs.declared.refusal.Refusal.{Refusal}
 use Rattle.graph.specs.declared.remaining.Remaining.{Remaining}
-use Rattle.graph.specs.Valid.{Each}
-use Rattle.graph.specs.Packed.{packed}
-use Rattle.graph.specs.Refusals.{Answer, refused, done}
-use Rattle.graph.specs.Targets.{To, named, whole, keys_listed}
+use Rattle.graph.specs.Packed.{packed_targets}
+use Rattle.graph.specs.Refusals.{Answer, refused, done, and_then}
+use Rattle.graph.specs.Targets.{To, named, whole, keys_listed, untouched}
 use Rattle.graph.specs.Steps.{admit, realise, move, finish, join, split, swap, fuse}
+use Rattle.keylists.specs.Inner.ListsRead.{Below, KeysOf}
 use Rattle.lines.specs.Forms.{targets, StepForm, work, drain_form}
-use Rattle.lines.specs.Inner.Answers.{ReadAs, call_line, refused_call, call_form, call_answer, step_answered, step_answer}
-use Rattle.lines.specs.declared.call.CallAnswer.TheVariants.{Is as AnswerIs}
+use Rattle.lines.specs.Inner.Answers.{ReadAs, call_form, call_answer, call_answered, step_answered, step_answer}
+use Rattle.lines.specs.declared.call.Call.{Call as Asked}
 use Rattle.lines.specs.declared.call.CallKind.{CallKind}
 use Rattle.lines.specs.declared.call.CallKind.TheVariants.{Add, Map, Link, Unlink, Sum, Top, Pick, Near, Unmap}
-use Rattle.lines.specs.declared.call.CallLine.{CallLine}
-use Rattle.lines.specs.declared.call.CallWord.{CallWord}
-use Rattle.lines.specs.declared.call.CallWord.TheVariants.{Is as CallIs, Not as CallNot}
-use Rattle.lines.specs.declared.fields.Field.{Field}
-use Rattle.lines.specs.declared.fields.Field.TheVariants.{Is, Not}
-use Rattle.lines.specs.declared.keylist.KeyList.{KeyList}
-use Rattle.lines.specs.declared.keylist.TargetsAnswer.{TargetsAnswer}
-use Rattle.lines.specs.declared.keylist.TargetsAnswer.TheVariants.{Are, Not as AreNot}
+use Rattle.lines.specs.declared.fields.TargetsRead.{TargetsRead}
+use Rattle.lines.specs.declared.fields.TargetsRead.TheVariants.{All, Listed}
 use Rattle.lines.specs.declared.step.StepKind.{StepKind}
 use Rattle.lines.specs.declared.step.StepKind.TheVariants.{Admit, Realise, Move, Finish, Join, Split, Swap, Fuse, Drain}
-use Rattle.lines.specs.declared.step.StepLine.{StepLine}
-use Rattle.lines.specs.declared.step.StepWord.{StepWord}
-use Rattle.lines.specs.declared.step.StepWord.TheVariants.{Is as StepIs, Not as StepNot}
-
--- what `are_words` tests, as facts
-abbrev pub Below : List ℕ → Type 0
-Below ts = Each (λ t. t < modulus) ts
-
--- ---- a list of keys
-
-abbrev pub last_or : ℕ → List ℕ → ℕ
-last_or d [] = d
-last_or d (t ∷ ts) = last_or t ts
-
--- what is known of the list ts
-pub record KeysOf (ts : List ℕ) (k : KeyList) : Type 0 where
-  pub count : k.count ≡ min (length ts) 9
-  pub latest : k.latest ≡ last_or 0 ts
-  pub keys : k.keys ≡ are_keys ts
-  pub rising : k.rising ≡ above 0 ts
-
--- the array holds the list, where it is one of at most eight keys
-abbrev pub KeysStored : List ℕ → List ℕ → Type 0
-KeysStored ts key = are_keys ts ≡ true → length ts ≤ 8 → key ≡ (packed ts).key
-
--- ---- what a line says after ` to=`
-
-abbrev pub is_whole : To → Bool
-is_whole (named ts) = false
-is_whole whole = true
-
--- what is known of the targets: k and the array tell of the keys that they list, `all` whether they are all
-pub record ToRead (to : To) (k : KeyList) (all : Bool) (key : List ℕ) : Type 0 where
-  pub below : Below (keys_listed to)
-  pub known : KeysOf (keys_listed to) k
-  pub stored : KeysStored (keys_listed to) key
-  pub wholly : all ≡ is_whole to
-
--- `Are k`: the bytes are the text of a list of 32-bit numbers, and this is known of it. `Not`: of none
-abbrev pub KeysRead : List ℕ → TargetsAnswer → Bool → List ℕ → Type 0
-KeysRead l (Are k) all key = (ts : List ℕ) × (l ≡ commas ts) × ToRead (named ts) k all key
-KeysRead l AreNot all key = (ts : List ℕ) → Below ts → l ≡ commas ts → ⊥
-
--- the same of ` to=` and what follows it
-abbrev pub TargetsOf : List ℕ → TargetsAnswer → Bool → List ℕ → Type 0
-TargetsOf l (Are k) all key = (to : To) × (l ≡ targets to) × ToRead to k all key
-TargetsOf l AreNot all key = (to : To) → Below (keys_listed to) → l ≡ targets to → ⊥
+use Rattle.lines.specs.declared.step.StepRequest.{StepRequest}
 
 -- ---- a field
 
--- `Is v n`: the literal and v's decimal stand at `at`, and end at n, before a space or at the end
-abbrev pub FieldOf : List ℕ → ℕ → List ℕ → Field → Type 0
-FieldOf s at literal (Is v n) = (n ≤ length s) × (drop at s ≡ literal ++ (decimal v ++ drop n s)) × Gap 32 (drop n s)
-FieldOf s at literal Not = (v : ℕ) (x : List ℕ) → v < modulus → Gap 32 x → drop at s ≡ literal ++ (decimal v ++ x) → ⊥
+-- `Some (v, n)`: the literal and v's decimal stand at `at`, and end at n, before a space or at the end
+abbrev pub FieldOf : List ℕ → ℕ → List ℕ → Option (ℕ × ℕ) → Type 0
+FieldOf s at literal (Some (v, n)) = (n ≤ length s) × (drop at s ≡ literal ++ (decimal v ++ drop n s)) × Gap 32 (drop n s)
+FieldOf s at literal None = (v : ℕ) (x : List ℕ) → v < modulus → Gap 32 x → drop at s ≡ literal ++ (decimal v ++ x) → ⊥
+
+-- the field of the first literal, where there is one: else 0, and the same place
+abbrev pub FieldIf : List ℕ → ℕ → List (List ℕ) → Option (ℕ × ℕ) → Type 0
+FieldIf s at [] (Some (v, n)) = (v ≡ 0) × (n ≡ at)
+FieldIf s at [] None = ⊥
+FieldIf s at (literal ∷ others) r = FieldOf s at literal r
 
 -- ---- what follows a word
 
@@ -93,6 +48,18 @@ tail_text false to = []
 abbrev pub Tailed : Bool → To → Type 0
 Tailed true to = Unit {0}
 Tailed false to = to ≡ named []
+
+-- what is known of the targets: those of a list by its numbers
+abbrev pub ToRead : To → TargetsRead → Type 0
+ToRead (named ts) (Listed k) = Below ts × KeysOf ts k
+ToRead (named ts) All = ⊥
+ToRead whole (Listed k) = ⊥
+ToRead whole All = Unit {0}
+
+-- `Some r`: the bytes are this tail of a line, of targets of which r is known. `None`: they are that of none
+abbrev pub TailOf : Bool → List ℕ → Option TargetsRead → Type 0
+TailOf listed l (Some r) = (to : To) × Tailed listed to × (l ≡ tail_text listed to) × ToRead to r
+TailOf listed l None = (to : To) → Below (keys_listed to) → Tailed listed to → l ≡ tail_text listed to → ⊥
 
 -- literals with a number after each, and the tail
 abbrev pub fields_text : List (List ℕ) → Bool → ℕ → ℕ → ℕ → To → List ℕ
@@ -131,9 +98,9 @@ call_word Pick = ascii "pick"
 call_word Near = ascii "near"
 call_word Unmap = ascii "unmap"
 
-abbrev pub CallWordOf : List ℕ → CallWord → Type 0
-CallWordOf word (CallIs kind) = word ≡ call_word kind
-CallWordOf word CallNot = (kind : CallKind) → word ≡ call_word kind → ⊥
+abbrev pub CallWordOf : List ℕ → Option CallKind → Type 0
+CallWordOf word (Some kind) = word ≡ call_word kind
+CallWordOf word None = (kind : CallKind) → word ≡ call_word kind → ⊥
 
 abbrev pub call_literals : CallKind → List (List ℕ)
 call_literals Add = ascii " value=" ∷ []
@@ -145,6 +112,13 @@ call_literals Top = ascii " start=" ∷ []
 call_literals Pick = ascii " start=" ∷ []
 call_literals Near = ascii " key=" ∷ ascii " start=" ∷ []
 call_literals Unmap = ascii " a=" ∷ ascii " b=" ∷ []
+
+-- the literal of its first number, and that of its second, if it has one
+abbrev pub first_literals : CallKind → List (List ℕ)
+first_literals kind = take 1 (call_literals kind)
+
+abbrev pub second_literals : CallKind → List (List ℕ)
+second_literals kind = drop 1 (call_literals kind)
 
 abbrev pub call_listed : CallKind → Bool
 call_listed Add = false
@@ -158,26 +132,45 @@ call_listed Near = true
 call_listed Unmap = true
 
 -- the bytes after a word of this kind are the text of some numbers and targets, and r answers their call; or of none, and r is 10
-abbrev pub CallAfter : CallKind → List ℕ → CallLine → Type 0
-CallAfter kind l r = ReadAs (ValuesOf (call_literals kind) (call_listed kind) l) (λ v. call_answer (call_form kind v.x v.y v.to)) (refused_call 10) r
+abbrev pub CallAfter : CallKind → List ℕ → Result Asked Refusal → Type 0
+CallAfter kind l r =
+    ReadAs (ValuesOf (call_literals kind) (call_listed kind) l) (λ v. call_answer (call_form kind v.x v.y v.to)) (refused 10) (call_answered r)
 
--- the calls with a key and targets, and those with a start and targets
-abbrev pub Links : CallKind → Type 0
-Links kind = (kind ≡ Link) ⊎ (kind ≡ Unlink)
+-- is the first number a key, where it is one's?
+abbrev pub key_fits : CallKind → ℕ → Bool
+key_fits Add x = true
+key_fits Map x = true
+key_fits Link x = is_key x
+key_fits Unlink x = is_key x
+key_fits Sum x = true
+key_fits Top x = true
+key_fits Pick x = true
+key_fits Near x = is_key x
+key_fits Unmap x = true
 
-abbrev pub Starts : CallKind → Type 0
-Starts kind = (kind ≡ Sum) ⊎ ((kind ≡ Top) ⊎ (kind ≡ Pick))
+-- an unmap of an even a
+abbrev pub lacks_inverse_of : CallKind → ℕ → Bool
+lacks_inverse_of Add x = false
+lacks_inverse_of Map x = false
+lacks_inverse_of Link x = false
+lacks_inverse_of Unlink x = false
+lacks_inverse_of Sum x = false
+lacks_inverse_of Top x = false
+lacks_inverse_of Pick x = false
+lacks_inverse_of Near x = false
+lacks_inverse_of Unmap x = not (is_odd x)
 
--- the answer to a call whose key is one, by its targets: 11, then 12, else the call
-abbrev pub call_made : CallKind → ℕ → ℕ → To → CallLine
+-- the targets of a call just read, refused by 11, then 12
+abbrev pub targets_named : To → Answer Remaining
+targets_named to =
+    cond (are_keys (keys_listed to)) (cond (leb (length (keys_listed to)) 8 && rising (keys_listed to)) (done (packed_targets (untouched to))) (refused 12)) (refused 11)
+
+-- the answer to a call by its numbers and targets: 11, then 12, then 40, else the call
+abbrev pub call_made : CallKind → ℕ → ℕ → To → Answer Asked
 call_made kind x y to =
-    cond (are_keys (keys_listed to))
-    (cond (leb (length (keys_listed to)) 8 && rising (keys_listed to)) (call_line kind x y to) (refused_call 12))
-    (refused_call 11)
-
--- the answer to the unmap of a map that was not refused: 40 for an even a, else the call
-abbrev pub unmap_made : ℕ → ℕ → Remaining → CallLine
-unmap_made a b to = cond (is_odd a) (record { answer = AnswerIs Unmap a b; to = to }) (refused_call 40)
+    cond (key_fits kind x)
+    (and_then (targets_named to) (λ r. cond (lacks_inverse_of kind x) (refused 40) (done (record { kind = kind; x = x; y = y; to = r }))))
+    (refused 11)
 
 -- ---- steps
 
@@ -192,9 +185,9 @@ step_word Swap = ascii "swap"
 step_word Fuse = ascii "fuse"
 step_word Drain = ascii "drain"
 
-abbrev pub StepWordOf : List ℕ → StepWord → Type 0
-StepWordOf word (StepIs kind) = word ≡ step_word kind
-StepWordOf word StepNot = (kind : StepKind) → word ≡ step_word kind → ⊥
+abbrev pub StepWordOf : List ℕ → Option StepKind → Type 0
+StepWordOf word (Some kind) = word ≡ step_word kind
+StepWordOf word None = (kind : StepKind) → word ≡ step_word kind → ⊥
 
 abbrev pub step_literals : StepKind → List (List ℕ)
 step_literals Admit = []
@@ -220,9 +213,5 @@ step_form Fuse x y z = work (fuse x y)
 step_form Drain x y z = drain_form
 
 -- the bytes after a word of this kind are the text of some numbers, and r answers their step; or of none, and r is 10
-abbrev pub StepAfter : StepKind → List ℕ → StepLine → Type 0
+abbrev pub StepAfter : StepKind → List ℕ → Result StepRequest Refusal → Type 0
 StepAfter kind l r = ReadAs (ValuesOf (step_literals kind) false l) (λ v. step_answer (step_form kind v.x v.y v.z)) (refused 10) (step_answered r)
-
--- the answer to a step that names a node: 11, else the step
-abbrev pub step_tested : StepKind → ℕ → ℕ → ℕ → Answer StepForm
-step_tested kind x y z = cond (is_key x) (done (step_form kind x y z)) (refused 11)

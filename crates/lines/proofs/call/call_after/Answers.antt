@@ -1,31 +1,31 @@
--- `lines::call::call_after` meets its contract: each kind has its reader.
+-- `lines::call::call_after` meets its contract: the fields in their order, and what they make.
 -- Assumes nothing.
-use mathlib.Core.Logic.{inl, inr}
+use mathlib.Core.Path.{refl}
+use borrow.Author.Rules.{rules}
+use Rattle.lines.proofs.Chains.{within_if}
+use Rattle.lines.proofs.Calls.{no_first, no_second, no_targets, with_targets}
 use Rattle.lines.proofs.call.call_after.Goals as goal
 
-pub link_call-requires : goal.link_call-requires
-link_call-requires c = (c.requires, inl c.in-Link.is)
+pub returns-in_default : goal.returns-in_default
+returns-in_default c = no_first c.args.kind c.args.line.now c.args.at _ c.in_default.ensures refl
 
-pub link_call-requires-in-Unlink : goal.link_call-requires-in-Unlink
-link_call-requires-in-Unlink c = (c.requires, inr c.in-Unlink.is)
+pub second_field-requires : goal.second_field-requires
+second_field-requires c = within_if c.args.line.now c.args.at _ _ _ c.requires c.in-Some.ensures
 
-pub start_call-requires : goal.start_call-requires
-start_call-requires c = (c.requires, inl c.in-Sum.is)
+pub returns-in_default-second_field : goal.returns-in_default-second_field
+returns-in_default-second_field c =
+    no_second c.args.kind c.args.line.now c.args.at _ c.in-Some.x c.in-Some.n c.in-Some.ensures (search rules) c.in_default-second_field.ensures refl
 
-pub start_call-requires-in-Top : goal.start_call-requires-in-Top
-start_call-requires-in-Top c = (c.requires, inr (inl c.in-Top.is))
+pub call_targets-requires : goal.call_targets-requires
+call_targets-requires c =
+    within_if c.args.line.now _ _ _ _ (within_if c.args.line.now c.args.at _ _ _ c.requires c.in-Some.ensures) c.in-Some-second_field.ensures
 
-pub start_call-requires-in-Pick : goal.start_call-requires-in-Pick
-start_call-requires-in-Pick c = (c.requires, inr (inr c.in-Pick.is))
+pub returns-in_default-call_targets : goal.returns-in_default-call_targets
+returns-in_default-call_targets c =
+    no_targets c.args.kind c.args.line.now c.args.at _ c.in-Some.x c.in-Some.n c.in-Some.ensures (search rules) c.in-Some-second_field.y c.in-Some-second_field.m c.in-Some-second_field.ensures (search rules)
+    c.in_default-call_targets.ensures refl
 
-pub returns-in-Add : goal.returns-in-Add
-returns-in-Add c = rw c.in-Add.is c.add_call.ensures
-
-pub returns-in-Map : goal.returns-in-Map
-returns-in-Map c = rw c.in-Map.is c.map_call.ensures
-
-pub returns-in-Near : goal.returns-in-Near
-returns-in-Near c = rw c.in-Near.is c.near_call.ensures
-
-pub returns-in-Unmap : goal.returns-in-Unmap
-returns-in-Unmap c = rw c.in-Unmap.is c.unmap_call.ensures
+pub returns : goal.returns
+returns c =
+    with_targets c.args.kind c.args.line.now c.args.at _ c.in-Some.x c.in-Some.n c.in-Some.ensures (search rules) c.in-Some-second_field.y c.in-Some-second_field.m c.in-Some-second_field.ensures (search rules)
+    c.in-Some-call_targets.ensures c.call_made.ensures

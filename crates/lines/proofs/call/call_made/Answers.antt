@@ -1,26 +1,19 @@
 -- `lines::call::call_made` meets its contract: the tests stand in the order of the definition.
 -- Assumes nothing.
-use native.Mathlib.Omega.{arith}
-use borrow.Author.Tests.{not-true, not-false}
-use Rattle.lines.proofs.Calls.{made_targets, made_many, made_unsorted, made_call}
+use mathlib.Core.Path.{refl}
+use Rattle.std.proofs.lemmas.Result.{err_from_is_err_and}
 use Rattle.lines.proofs.call.call_made.Goals as goal
 
-pub returns-then-not-list : goal.returns-then-not-list
-returns-then-not-list c =
-    let a = c.args in
-    λ to p. made_targets a.kind a.x a.y a.list a.all a.key to p (not-true a.list.keys c.if-not-list.true) c.refused_call.ensures
+pub returns-then-not-key_fits : goal.returns-then-not-key_fits
+returns-then-not-key_fits c = λ t p. rw (← c.key_fits.ensures, c.if-not-key_fits.true) refl
 
-pub returns-then-list-gt8 : goal.returns-then-list-gt8
-returns-then-list-gt8 c =
-    let a = c.args in
-    λ to p. made_many a.kind a.x a.y a.list a.all a.key to p (not-false a.list.keys c.if-not-list.false) (omega arith) c.refused_call-then-list-gt8.ensures
+pub returns-in_err-to : goal.returns-in_err-to
+returns-in_err-to c = λ t p.
+    let e = err_from_is_err_and c.from_residual.result c.from_residual.ensures.1 in
+    rw (e.1, e.2, ← c.key_fits.ensures, c.if-not-key_fits.false, ← c.in_err-to.ensures t p) refl
 
-pub returns-then-not-list-2 : goal.returns-then-not-list-2
-returns-then-not-list-2 c =
-    let a = c.args in
-    λ to p. made_unsorted a.kind a.x a.y a.list a.all a.key to p (not-false a.list.keys c.if-not-list.false) (omega arith) (not-true a.list.rising c.if-not-list-2.true) c.refused_call-then-not-list-2.ensures
+pub returns-then-lacks_inverse : goal.returns-then-lacks_inverse
+returns-then-lacks_inverse c = λ t p. rw (← c.key_fits.ensures, c.if-not-key_fits.false, ← c.in_ok-to.ensures t p, ← c.lacks_inverse.ensures, c.if-lacks_inverse.true) refl
 
 pub returns : goal.returns
-returns c =
-    let a = c.args in
-    λ to p. made_call a.kind a.x a.y a.list a.all a.key to p (not-false a.list.keys c.if-not-list.false) (omega arith) (not-false a.list.rising c.if-not-list-2.false) c.unmarked.ensures
+returns c = λ t p. rw (← c.key_fits.ensures, c.if-not-key_fits.false, ← c.in_ok-to.ensures t p, ← c.lacks_inverse.ensures, c.if-lacks_inverse.false) refl

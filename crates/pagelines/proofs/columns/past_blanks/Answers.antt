@@ -1,20 +1,12 @@
--- The loop's invariant: the first k bytes are blanks.
+-- What `position` finds is the first byte that is no blank.
 -- Assumes nothing.
-use mathlib.Core.Path.{refl}
-use Rattle.pagelines.proofs.BlanksRead.{blanked_more, blanked_ends, blanked_all}
-use native.Mathlib.Omega.{arith}
+use Rattle.std.proofs.Common.{rules, ◌∙◌}
+use Rattle.text.proofs.Splits.{from_eq}
+use Rattle.pagelines.proofs.BlanksRead.{past_first, past_none}
 use Rattle.pagelines.proofs.columns.past_blanks.Goals as goal
 
-pub loop-k-init : goal.loop-k-init
-loop-k-init c = (omega arith, refl)
+pub returns-in-Some : goal.returns-in-Some
+returns-in-Some c = from_eq c.args.s.now c.in-Some.first ∙ past_first c.args.s.now c.in-Some.first (search rules) (search rules) (search rules)
 
-pub returns-then-s-k-ne32 : goal.returns-then-s-k-ne32
-returns-then-s-k-ne32 c =
-    blanked_ends _ _ c.loop-k.invariant.1 c.loop-k-test.true c.if-s-k-ne32.true
-
-pub loop-k-preserved : goal.loop-k-preserved
-loop-k-preserved c =
-    (omega arith, blanked_more _ _ c.loop-k.invariant.1 c.loop-k-test.true c.if-s-k-ne32.false)
-
-pub returns : goal.returns
-returns c = blanked_all _ _ c.loop-k.invariant.1 (omega (arith, c.loop-k-test.false))
+pub returns-in-None : goal.returns-in-None
+returns-in-None c = past_none c.args.s.now (search rules)
