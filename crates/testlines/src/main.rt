@@ -62,7 +62,9 @@ fn show_numbers(rt: &impl Print, w: WorkStep) {
     let (at, unit, after) = match w {
         WorkStep::Admit => (0, 0, 0),
         WorkStep::Realise(at) | WorkStep::Move(at) | WorkStep::Finish(at) => (at, 0, 0),
-        WorkStep::Join(at, unit) | WorkStep::Swap(at, unit) | WorkStep::Fuse(at, unit) => (at, unit, 0),
+        WorkStep::Join(at, unit) | WorkStep::Swap(at, unit) | WorkStep::Fuse(at, unit) => (
+            at, unit, 0,
+        ),
         WorkStep::Split(at, unit, after) => (at, unit, after),
     };
     show_head(rt, u32::from(at), unit, after);
