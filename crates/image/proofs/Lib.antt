@@ -1,6 +1,5 @@
 pub mod Parts
 pub mod Regions
-pub mod Moves
 pub mod Writers
 pub mod Whole
 pub mod Bytewise

@@ -1,7 +1,7 @@
 -- What each kind of writer makes of a region, and of the whole image.
 -- Assumes nothing.
 use mathlib.Core.Path.{◌≡◌, sym, ap, subst, ◌∙◌}
-use Prim.Native.Nat.{ℕ, suc, ◌+◌, ◌*◌, ◌-◌, ◌≤◌, ◌<◌}
+use Prim.Native.Nat.{ℕ, suc, ◌+◌, ◌*◌, ◌-◌, ◌^◌, ◌≤◌, ◌<◌}
 use native.Mathlib.Nat.{mul-suc, mul-le-mul_left}
 use native.Mathlib.Omega.{arith}
 use native.Mathlib.Numerals.{add-one}
@@ -11,8 +11,10 @@ use lib.ListN.{length, get_or, set, length-set, length-append, get_or-append}
 use lib.Seq.{get_or-set_same, get_or-set_other, get_or-append_seam}
 use Rattle.flat.specs.Inner.Queues.{remove_at}
 use Rattle.text.specs.Text.{pasted}
-use Rattle.text.proofs.Pasting.{length_pasted, pasted_below, pasted_above}
+use Rattle.text.proofs.Pasting.{length_pasted, pasted_below, pasted_in, pasted_above}
+use Rattle.records.specs.Bytes.{bytes16}
 use Rattle.records.specs.Inner.Numbers.{le16}
+use Rattle.records.proofs.Codecs.{back16}
 use Rattle.records.specs.declared.node.NodeRecord.{NodeRecord}
 use Rattle.records.specs.declared.op.OpRecord.{OpRecord}
 use Rattle.records.specs.declared.result.ResultRecord.{ResultRecord}
@@ -260,26 +262,29 @@ module _ (s : List ℕ) (sound : Sound s) where
         c.after
 
   -- the last label is written
-  module _ (x y : ℕ) where
+  module _ (l : ℕ) where
     abbrev t : List ℕ
-    t = set (set s 4 x) 5 y
+    t = pasted s 4 (bytes16 l)
+
+    last_room : 4 + 2 ≤ length s
+    last_room = omega (arith, sound.size)
 
     kept_length : length t ≡ length s
-    kept_length = length-set (set s 4 x) 5 y ∙ length-set s 4 x
+    kept_length = length_pasted s 4 (bytes16 l) last_room
 
-    other : (i : ℕ) → (i ≡ 4 → ⊥) → (i ≡ 5 → ⊥) → get_or t i 0 ≡ get_or s i 0
-    other i a b = get_or-set_other (set s 4 x) 5 i y 0 b ∙ get_or-set_other s 4 i x 0 a
+    below : (i : ℕ) → i < 4 → get_or t i 0 ≡ get_or s i 0
+    below i h = pasted_below s 4 (bytes16 l) last_room i h
 
-    low : get_or t 4 0 ≡ x
-    low = get_or-set_other (set s 4 x) 5 4 y 0 (λ q. omega arith) ∙ get_or-set_same s 4 x 0 (omega (arith, sound.size))
+    above : (i : ℕ) → 6 ≤ i → get_or t i 0 ≡ get_or s i 0
+    above i h = pasted_above s 4 (bytes16 l) last_room i h
 
-    high : get_or t 5 0 ≡ y
-    high = get_or-set_same (set s 4 x) 5 y 0 (omega (arith, sound.size, length-set s 4 x))
+    placed : (i : ℕ) → i < 2 → get_or t (4 + i) 0 ≡ get_or (bytes16 l) i 0
+    placed i h = pasted_in s 4 (bytes16 l) last_room i h
 
-    pub last_written : (l : ℕ) → x + y * 256 ≡ l → ViewWritten (view_with_last (view s) l) s t
-    last_written l e =
-        written s t (view_with_last (view s) l) (kept_length ∙ sound.size) (other 0 (λ q. omega arith) (λ q. omega arith)) (λ i a b. other i (λ q. omega arith) (λ q. omega arith))
-        ((λ i. low i + high i * 256) ∙ e)
-        (kept node_region s t kept_length nodes_fit.end sound.nodes (other 1 (λ q. omega arith) (λ q. omega arith)) (λ i a b. other i (λ q. omega arith) (λ q. omega arith)))
-        (kept op_region s t kept_length ops_fit.end sound.ops (other 2 (λ q. omega arith) (λ q. omega arith)) (λ i a b. other i (λ q. omega arith) (λ q. omega arith)))
-        (kept result_region s t kept_length results_fit.end sound.results (other 3 (λ q. omega arith) (λ q. omega arith)) (λ i a b. other i (λ q. omega arith) (λ q. omega arith)))
+    pub last_written : l < 2 ^ 16 → ViewWritten (view_with_last (view s) l) s t
+    last_written small =
+        written s t (view_with_last (view s) l) (kept_length ∙ sound.size) (below 0 (omega arith)) (λ i a b. above i a)
+        ((λ i. placed 0 (omega arith) i + placed 1 (omega arith) i * 256) ∙ back16 l small)
+        (kept node_region s t kept_length nodes_fit.end sound.nodes (below 1 (omega arith)) (λ i a b. above i (omega arith)))
+        (kept op_region s t kept_length ops_fit.end sound.ops (below 2 (omega arith)) (λ i a b. above i (omega arith)))
+        (kept result_region s t kept_length results_fit.end sound.results (below 3 (omega arith)) (λ i a b. above i (omega arith)))

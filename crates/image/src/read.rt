@@ -2,31 +2,34 @@
 ghost use Rattle.std.specs.Prelude.{◌≡◌, ◌<◌, length, get_or};
 ghost use Rattle.image.specs.Inner.Regions.{Sound, view, node_region, op_region, result_region, blank};
 
-use records::bytes::{long, u16_at};
+use records::bytes::u16_at;
 use records::labels::{Labels, labels_at};
 use records::node::{NodeRecord, read_node};
 use records::op::{OpRecord, read_op};
 use records::result::{ResultRecord, read_result};
 
+#[tactic(auto, using(crate::proofs::Regions::count_of))]
 pub fn node_count(image: &[u8]) -> usize
     requires { Sound image.now }
     ensures { result ≡ length (view image.now).nodes }
 {
-    long(image[1])
+    usize::from(image[1])
 }
 
+#[tactic(auto, using(crate::proofs::Regions::count_of))]
 pub fn op_count(image: &[u8]) -> usize
     requires { Sound image.now }
     ensures { result ≡ length (view image.now).ops }
 {
-    long(image[2])
+    usize::from(image[2])
 }
 
+#[tactic(auto, using(crate::proofs::Regions::count_of))]
 pub fn result_count(image: &[u8]) -> usize
     requires { Sound image.now }
     ensures { result ≡ length (view image.now).results }
 {
-    long(image[3])
+    usize::from(image[3])
 }
 
 pub fn last_label(image: &[u8]) -> u16

@@ -7,32 +7,20 @@ pub fn move_down(s: &mut [u8], at: usize, end: usize, by: usize)
     requires { (at + by ≤ end) × (end ≤ length s.old) }
     ensures { MovedDown at end by s.old s.new }
 {
-    let mut i = at;
-    while i < end - by {
-        s[i] = s[i + by];
-        i += 1;
-    }
+    s.copy_within(at + by..end, at);
 }
 
-// The bytes from at up to end move up to at + by, the last first.
+// The bytes from at up to end move up to at + by.
 pub fn move_up(s: &mut [u8], at: usize, end: usize, by: usize)
     requires { (at ≤ end) × (end + by ≤ length s.old) }
     ensures { MovedUp at end by s.old s.new }
 {
-    let mut i = end;
-    while at < i {
-        i -= 1;
-        s[i + by] = s[i];
-    }
+    s.copy_within(at..end, at + by);
 }
 
 pub fn clear(s: &mut [u8], from: usize, to: usize)
     requires { (from ≤ to) × (to ≤ length s.old) }
     ensures { Zeroed from to s.old s.new }
 {
-    let mut i = from;
-    while i < to {
-        s[i] = 0;
-        i += 1;
-    }
+    s[from..to].fill(0);
 }

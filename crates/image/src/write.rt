@@ -88,6 +88,5 @@ pub fn set_last(image: &mut [u8], label: u16)
     requires { Sound image.old }
     ensures { ViewWritten (view_with_last (view image.old) label) image.old image.new }
 {
-    image[4] = (label % 256) as u8;
-    image[5] = (label / 256 % 256) as u8;
+    put_bytes(image, 4, &label.to_le_bytes());
 }

@@ -1,10 +1,11 @@
 -- Each record is given back by its bytes, and its bytes are given back by what they say.
 -- Assumes nothing.
-use mathlib.Core.Path.{◌≡◌, refl, ◌∙◌}
+use mathlib.Core.Path.{◌≡◌, refl, ap, ◌∙◌}
 use Prim.Native.Nat.{ℕ, zero, suc, ◌+◌, ◌*◌, ◌/◌, ◌%◌, ◌^◌, ◌<◌}
 use native.Mathlib.Omega.{arith}
 use mathlib.Core.List.{List, [], ◌∷◌, ◌++◌}
 use lib.ListN.{length, get_or}
+use Rattle.std.specs.Int.{w32, to_le_bytes}
 use Rattle.graph.specs.Words.{modulus}
 use Rattle.graph.specs.declared.keys.Keys.{Keys}
 use Rattle.records.specs.declared.labels.Labels.{Labels}
@@ -13,7 +14,7 @@ use Rattle.records.specs.declared.op.OpRecord.{OpRecord}
 use Rattle.records.specs.declared.result.ResultRecord.{ResultRecord}
 use Rattle.records.specs.Inner.Numbers.{le16, le32, keys_at, tab}
 use Rattle.records.specs.Bytes.{bytes16, bytes32, bytes8, encode_keys}
-use Rattle.records.specs.Inner.Decoded.{labels_at, decode_node, decode_op, decode_result}
+use Rattle.records.specs.Inner.Decoded.{Encodes, labels_at, decode_node, decode_op, decode_result}
 use Rattle.records.specs.Records.{encode_labels, encode_node, encode_op, encode_result}
 use Rattle.records.proofs.Tables.{tab_all}
 
@@ -27,6 +28,13 @@ back16 v h = omega arith
 
 back32 : (v : ℕ) → v < modulus → le32 (bytes32 v) 0 ≡ v
 back32 v h = omega arith
+
+-- the four bytes as std writes them
+pub written32 : (v : ℕ) → to_le_bytes w32 v ≡ bytes32 v
+written32 v =
+    let two : v / 65536 % 256 ≡ v / 256 / 256 % 256 = omega arith in
+    let three : v / 16777216 % 256 ≡ v / 256 / 256 / 256 % 256 = omega arith in
+    λ i. v % 256 ∷ v / 256 % 256 ∷ two i ∷ three i ∷ []
 
 low : (a y : ℕ) → a < 256 → (a + y * 256) % 256 ≡ a
 low a y h = omega arith
@@ -122,6 +130,16 @@ pub result_back : (r : ResultRecord) → FitResult r → decode_result (encode_r
 unfolding decode_result encode_result
 result_back r f =
     λ i. record { label = back16 r.label f.label i; value = back32 r.value f.value i; left = keys_back r.left f.left i; spare = r.spare }
+
+-- bytes that are those of a record
+pub node_encodes : (n : NodeRecord) → FitNode n → (bs : List ℕ) → bs ≡ encode_node n → Encodes encode_node decode_node n bs
+node_encodes n f bs e = record { bytes = e; back = ap decode_node e ∙ node_back n f }
+
+pub op_encodes : (o : OpRecord) → FitOp o → (bs : List ℕ) → bs ≡ encode_op o → Encodes encode_op decode_op o bs
+op_encodes o f bs e = record { bytes = e; back = ap decode_op e ∙ op_back o f }
+
+pub result_encodes : (r : ResultRecord) → FitResult r → (bs : List ℕ) → bs ≡ encode_result r → Encodes encode_result decode_result r bs
+result_encodes r f bs e = record { bytes = e; back = ap decode_result e ∙ result_back r f }
 
 -- ENCODE OF DECODE
 module _ (s : List ℕ) (b : Bytes s) where

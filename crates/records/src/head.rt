@@ -14,26 +14,12 @@ pub struct Head {
     pub last: u16,
 }
 
+#[tactic(auto, unfolding(crate::specs::Records::encode_head))]
 pub fn head_bytes(h: Head) -> [u8; 16]
     ensures { result ≡ encode_head h }
 {
-    let last = h.last;
-    [
-        VERSION,
-        h.nodes,
-        h.ops,
-        h.results,
-        (last % 256) as u8,
-        (last / 256 % 256) as u8,
-        0,
-        0,
-        0,
-        0,
-        0,
-        0,
-        0,
-        0,
-        0,
-        0,
-    ]
+    let mut bytes = [0u8; 16];
+    bytes[..4].copy_from_slice(&[VERSION, h.nodes, h.ops, h.results]);
+    bytes[4..6].copy_from_slice(&h.last.to_le_bytes());
+    bytes
 }

@@ -3,7 +3,7 @@ ghost use Rattle.std.specs.Prelude.{◌≡◌, length};
 ghost use Rattle.records.specs.Inner.Decoded.{decode_node, Encodes};
 ghost use Rattle.records.specs.Records.{encode_node};
 
-use crate::bytes::{keys_at, u16_at, u32_at};
+use crate::bytes::{keys_at, keys_bytes, u16_at, u32_at};
 use graph::keys::Keys;
 
 #[derive(Clone, Copy)]
@@ -14,6 +14,7 @@ pub struct NodeRecord {
     pub spare: u16,
 }
 
+#[tactic(auto, unfolding(crate::specs::Inner::Decoded::decode_node))]
 pub fn read_node(s: &[u8]) -> NodeRecord
     requires { length s.now ≡ 16 }
     ensures { result ≡ decode_node s.now }
@@ -29,26 +30,10 @@ pub fn read_node(s: &[u8]) -> NodeRecord
 pub fn node_bytes(n: NodeRecord) -> [u8; 16]
     ensures { Encodes encode_node decode_node n result }
 {
-    let v = n.value;
-    let l = n.links;
-    let k = l.key;
-    let z = n.spare;
-    [
-        (v % 256) as u8,
-        (v / 256 % 256) as u8,
-        (v / 256 / 256 % 256) as u8,
-        (v / 256 / 256 / 256 % 256) as u8,
-        n.key,
-        l.count,
-        k[0],
-        k[1],
-        k[2],
-        k[3],
-        k[4],
-        k[5],
-        k[6],
-        k[7],
-        (z % 256) as u8,
-        (z / 256 % 256) as u8,
-    ]
+    let mut bytes = [0u8; 16];
+    bytes[..4].copy_from_slice(&n.value.to_le_bytes());
+    bytes[4] = n.key;
+    bytes[5..14].copy_from_slice(&keys_bytes(n.links));
+    bytes[14..].copy_from_slice(&n.spare.to_le_bytes());
+    bytes
 }

@@ -3,8 +3,8 @@ ghost use Rattle.std.specs.Prelude.{◌≡◌, length};
 ghost use Rattle.records.specs.Inner.Decoded.{decode_op, Encodes};
 ghost use Rattle.records.specs.Records.{encode_op};
 
-use crate::bytes::{keys_at, u32_at};
-use crate::labels::{Labels, labels_at};
+use crate::bytes::{keys_at, keys_bytes, u32_at};
+use crate::labels::{Labels, labels_at, labels_bytes};
 use graph::keys::Keys;
 
 #[derive(Clone, Copy)]
@@ -22,6 +22,7 @@ pub struct OpRecord {
     pub mark: u8,
 }
 
+#[tactic(auto, unfolding(crate::specs::Inner::Decoded::decode_op))]
 pub fn read_op(s: &[u8]) -> OpRecord
     requires { length s.now ≡ 32 }
     ensures { result ≡ decode_op s.now }
@@ -43,48 +44,16 @@ pub fn read_op(s: &[u8]) -> OpRecord
 pub fn op_bytes(o: OpRecord) -> [u8; 32]
     ensures { Encodes encode_op decode_op o result }
 {
-    let a = o.a;
-    let b = o.b;
-    let t = o.targets;
-    let k = t.key;
-    let l = o.labels;
-    let x = l.label;
-    let x0 = x[0];
-    let x1 = x[1];
-    let x2 = x[2];
-    let x3 = x[3];
-    [
-        o.station,
-        o.opens,
-        o.kind,
-        o.key,
-        (a % 256) as u8,
-        (a / 256 % 256) as u8,
-        (a / 256 / 256 % 256) as u8,
-        (a / 256 / 256 / 256 % 256) as u8,
-        (b % 256) as u8,
-        (b / 256 % 256) as u8,
-        (b / 256 / 256 % 256) as u8,
-        (b / 256 / 256 / 256 % 256) as u8,
-        t.count,
-        k[0],
-        k[1],
-        k[2],
-        k[3],
-        k[4],
-        k[5],
-        k[6],
-        k[7],
-        l.count,
-        (x0 % 256) as u8,
-        (x0 / 256 % 256) as u8,
-        (x1 % 256) as u8,
-        (x1 / 256 % 256) as u8,
-        (x2 % 256) as u8,
-        (x2 / 256 % 256) as u8,
-        (x3 % 256) as u8,
-        (x3 / 256 % 256) as u8,
-        o.all,
-        o.mark,
-    ]
+    let mut bytes = [0u8; 32];
+    bytes[0] = o.station;
+    bytes[1] = o.opens;
+    bytes[2] = o.kind;
+    bytes[3] = o.key;
+    bytes[4..8].copy_from_slice(&o.a.to_le_bytes());
+    bytes[8..12].copy_from_slice(&o.b.to_le_bytes());
+    bytes[12..21].copy_from_slice(&keys_bytes(o.targets));
+    bytes[21..30].copy_from_slice(&labels_bytes(o.labels));
+    bytes[30] = o.all;
+    bytes[31] = o.mark;
+    bytes
 }

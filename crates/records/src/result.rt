@@ -3,7 +3,7 @@ ghost use Rattle.std.specs.Prelude.{◌≡◌, length};
 ghost use Rattle.records.specs.Inner.Decoded.{decode_result, Encodes};
 ghost use Rattle.records.specs.Records.{encode_result};
 
-use crate::bytes::{keys_at, u16_at, u32_at};
+use crate::bytes::{keys_at, keys_bytes, u16_at, u32_at};
 use graph::keys::Keys;
 
 #[derive(Clone, Copy)]
@@ -14,6 +14,7 @@ pub struct ResultRecord {
     pub spare: u8,
 }
 
+#[tactic(auto, unfolding(crate::specs::Inner::Decoded::decode_result))]
 pub fn read_result(s: &[u8]) -> ResultRecord
     requires { length s.now ≡ 16 }
     ensures { result ≡ decode_result s.now }
@@ -29,26 +30,10 @@ pub fn read_result(s: &[u8]) -> ResultRecord
 pub fn result_bytes(r: ResultRecord) -> [u8; 16]
     ensures { Encodes encode_result decode_result r result }
 {
-    let l = r.label;
-    let v = r.value;
-    let t = r.left;
-    let k = t.key;
-    [
-        (l % 256) as u8,
-        (l / 256 % 256) as u8,
-        (v % 256) as u8,
-        (v / 256 % 256) as u8,
-        (v / 256 / 256 % 256) as u8,
-        (v / 256 / 256 / 256 % 256) as u8,
-        t.count,
-        k[0],
-        k[1],
-        k[2],
-        k[3],
-        k[4],
-        k[5],
-        k[6],
-        k[7],
-        r.spare,
-    ]
+    let mut bytes = [0u8; 16];
+    bytes[..2].copy_from_slice(&r.label.to_le_bytes());
+    bytes[2..6].copy_from_slice(&r.value.to_le_bytes());
+    bytes[6..15].copy_from_slice(&keys_bytes(r.left));
+    bytes[15] = r.spare;
+    bytes
 }

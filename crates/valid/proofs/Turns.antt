@@ -1,15 +1,19 @@
 -- One turn of each loop of the tests: the answer for the whole is the answer for what is left.
 -- Assumes nothing.
-use mathlib.Core.Path.{◌≡◌, refl, sym, ap, ◌∙◌}
+use mathlib.Core.Path.{◌≡◌, refl, sym, ap, subst, ◌∙◌}
 use Prim.Native.Nat.{ℕ, zero, suc, ◌+◌, ◌-◌, ◌%◌, ◌≤◌, ◌<◌}
 use native.Mathlib.Numerals.{add-one}
 use native.Mathlib.Omega.{arith}
 use mathlib.Core.Bool.{Bool, true, false, cond, not, ◌&&◌, ◌||◌, or-false, true≢false, or_assoc}
 use mathlib.Core.List.{List, [], ◌∷◌, ◌++◌, append_assoc, append-nil}
-use lib.Dec.{eqb, leb, ltb}
-use lib.ListN.{length, get_or, set, take, drop, replicate, drop_of_length-le, length-drop, length-set}
-use lib.Seq.{drop-cons, take-suc, take_all, take-suc-set, take-add, take-take, take-append-add, take_at, drop_at, drop-append-le, length-take-le, get_or-drop, get_or-set_same, get_or-set_other}
-use borrow.Author.Tests.{eq-eqb, eqb-true, eqb-false, ne_eqb, le-leb, lt-leb, ltb-false}
+use lib.Dec.{eqb, leb}
+use native.Mathlib.Decide.{dec_lt}
+use borrow.Rule.Slice.PartMut.{put_mid}
+use Rattle.std.specs.Prelude.{min}
+use Rattle.std.proofs.lemmas.Slice.{take-put_mid}
+use lib.ListN.{length, length-append, length-take, get_or, set, take, drop, replicate, drop_of_length-le, length-drop, length-set}
+use lib.Seq.{drop-cons, take-suc, take_all, take-suc-set, take-add, take-take, take-append-add, take_at, drop_at, drop-append-le, length-take-le, get_or-take, get_or-set_same, get_or-set_other}
+use borrow.Author.Tests.{eq-eqb, eqb-true, eqb-false, ne_eqb, le-leb, lt-leb}
 use Rattle.graph.specs.KeyLists.{contains}
 use Rattle.graph.proofs.Answers.{and_right}
 use Rattle.records.specs.declared.op.OpRecord.{OpRecord}
@@ -18,22 +22,6 @@ use Rattle.valid.specs.Inner.Decoded.{labels_of}
 use Rattle.valid.specs.Inner.Tests.{walk, is_add_record, adds_among, op_labels, result_labels, given_once, Gathers, Padded}
 
 -- TESTS one after the other
-abbrev pub all_of : List Bool → Bool
-all_of [] = true
-all_of (t ∷ []) = t
-all_of (t ∷ u ∷ us) = t && all_of (u ∷ us)
-
-and_none : (a b : Bool) → b ≡ false → (a && b) ≡ false
-and_none true b e = e
-and_none false b e = refl
-
-pub none_at : (ts : List Bool) (k : ℕ) → get_or ts k true ≡ false → false ≡ all_of ts
-none_at [] k e = absurd (true≢false e)
-none_at (t ∷ []) zero e = sym e
-none_at (t ∷ []) (suc k) e = absurd (true≢false e)
-none_at (t ∷ u ∷ us) zero e = sym (ap (λ (x : Bool). x && all_of (u ∷ us)) e)
-none_at (t ∷ u ∷ us) (suc k) e = sym (and_none t (all_of (u ∷ us)) (sym (none_at (u ∷ us) k e)))
-
 pub yes_test : {a b c : Bool} → a ≡ true → c ≡ b → c ≡ (a && b)
 yes_test {a} {b} {c} e q = q ∙ sym (ap (λ (x : Bool). x && b) e)
 
@@ -94,34 +82,53 @@ push pool before ls at j v h e =
     ap (λ (n : ℕ). take n (set pool (at + j) v)) q ∙ take-suc-set pool (at + j) v h
     ∙ ap (λ (l : List ℕ). l ++ (v ∷ [])) e ∙ append_assoc (take at before) ls (v ∷ [])
 
--- of the labels put, the first n
-pub shorter : (pool before ls : List ℕ) (at n m : ℕ) → n ≤ m → at ≤ length before → take (at + m) pool ≡ take at before ++ ls → take (at + n) pool ≡ take at before ++ take n ls
-shorter pool before ls at n m h s e =
-    let q : length (take at before) ≡ at = length-take-le at before s in
-    sym (take-take (at + n) (at + m) pool (omega arith)) ∙ ap (take (at + n)) e ∙ ap (λ (k : ℕ). take (k + n) (take at before ++ ls)) (sym q) ∙ take-append-add (take at before) ls n
+-- labels written over a part of the pool
+pub put_part : (pool ls : List ℕ) (at k n : ℕ) → k ≡ n → n ≡ length ls → at + n ≤ length pool → Gathers ls at pool (put_mid at k pool ls) (at + n)
+put_part pool ls at k n q e h =
+    let room : at ≤ length pool = omega arith in
+    record {
+      size = simp (length-append, length-take, length-drop) (omega arith);
+      count = ap (λ (m : ℕ). at + m) e;
+      front = take-put_mid at k pool ls (at + n) (omega arith) room;
+    }
 
-pub take_four : (n : ℕ) (l : List ℕ) → length l ≡ 4 → (b : Bool) → ltb n 4 ≡ b → take (cond b n 4) l ≡ take n l
-take_four n l e true q = refl
-take_four n l e false q = take_all 4 l (omega arith) ∙ sym (take_all n l (omega (arith, ltb-false n 4 q)))
+-- of the labels put, the first n
+pub put_first : {pool after ls : List ℕ} {at m : ℕ} (n : ℕ) → at ≤ length pool → n ≤ m → Gathers ls at pool after (at + m) → Gathers (take n ls) at pool after (at + n)
+put_first {pool} {after} {ls} {at} {m} n room h g =
+    let q : length (take at pool) ≡ at = length-take-le at pool room in
+    record {
+      size = g.size;
+      count = ap (λ (k : ℕ). at + k) (sym (length-take-le n ls (omega (arith, g.count))));
+      front =
+          sym (take-take (at + n) (at + m) after (omega arith)) ∙ ap (take (at + n)) g.front
+          ∙ ap (λ (k : ℕ). take (k + n) (take at pool ++ ls)) (sym q) ∙ take-append-add (take at pool) ls n;
+    }
+
+pub take_min : (n m : ℕ) (l : List ℕ) → length l ≡ m → take (min n m) l ≡ take n l
+take_min n m l e = go (dec_lt n m)
+  where
+    go : Dec (n < m) → take (min n m) l ≡ take n l
+    go (yes h) = ap (λ (k : ℕ). take k l) (omega arith)
+    go (no h) = take_all (min n m) l (omega arith) ∙ sym (take_all n l (omega arith))
 
 -- IS IT AMONG THEM
 pub contains_append : (x : ℕ) (s t : List ℕ) → contains x (s ++ t) ≡ (contains x s || contains x t)
 contains_append x [] t = refl
 contains_append x (y ∷ s) t = ap (λ (b : Bool). eqb x y || b) (contains_append x s t) ∙ sym (or_assoc (eqb x y) (contains x s) (contains x t))
 
-or_last : (a b : Bool) → (a || (b || false)) ≡ (b || a)
-or_last true true = refl
-or_last true false = refl
-or_last false true = refl
-or_last false false = refl
+eqb_turned : (x y : ℕ) → eqb y x ≡ eqb x y
+eqb_turned x y = go (eqb x y) refl
+  where
+    go : (b : Bool) → eqb x y ≡ b → eqb y x ≡ b
+    go true e = eq-eqb y x (sym (eqb-true x y e))
+    go false e = ne_eqb y x (λ q. eqb-false x y e (sym q))
 
--- one more of those from `at` on
-pub among_more : (x : ℕ) (s : List ℕ) (at j : ℕ) → at + j < length s → contains x (take (j + 1) (drop at s)) ≡ (eqb x (get_or s (at + j) 0) || contains x (take j (drop at s)))
-among_more x s at j h =
-    let q : j < length (drop at s) = omega (arith, length-drop at s) in
-    ap (λ (n : ℕ). contains x (take n (drop at s))) (add-one j) ∙ ap (contains x) (take-suc (drop at s) j 0 q)
-    ∙ contains_append x (take j (drop at s)) (get_or (drop at s) j 0 ∷ []) ∙ or_last (contains x (take j (drop at s))) (eqb x (get_or (drop at s) j 0))
-    ∙ ap (λ (y : ℕ). eqb x y || contains x (take j (drop at s))) (get_or-drop at s j 0)
+-- one more of them
+pub among_more : (x : ℕ) (s : List ℕ) (j : ℕ) → j < length s → contains x (take (j + 1) s) ≡ (contains x (take j s) || eqb (get_or s j 0) x)
+among_more x s j h =
+    ap (λ (n : ℕ). contains x (take n s)) (add-one j) ∙ ap (contains x) (take-suc s j 0 h)
+    ∙ contains_append x (take j s) (get_or s j 0 ∷ [])
+    ∙ ap (λ (b : Bool). contains x (take j s) || b) (or-false (eqb x (get_or s j 0)) ∙ sym (eqb_turned x (get_or s j 0)))
 
 none_zero : (x : ℕ) → 1 ≤ x → (m k : ℕ) → contains x (take m (replicate k 0)) ≡ false
 none_zero x h zero k = refl
@@ -198,33 +205,82 @@ given_none last k l e = go (given_once last l) refl
     go false q = refl
 
 -- SEEN: the lower bytes of the labels from i on are noted
-pub record Seen (l : List ℕ) (i : ℕ) (seen : List ℕ) : Type 0 where
+pub record Seen (l : List ℕ) (i : ℕ) (seen : List Bool) : Type 0 where
   pub size : length seen ≡ 256
-  pub marked : (y : ℕ) → contains y (drop i l) ≡ true → get_or seen (y % 256) 0 ≡ 1
+  pub marked : (y : ℕ) → contains y (drop i l) ≡ true → get_or seen (y % 256) false ≡ true
 
-pub none_seen : (l : List ℕ) (i : ℕ) (seen : List ℕ) → length l ≤ i → length seen ≡ 256 → Seen l i seen
+pub none_seen : (l : List ℕ) (i : ℕ) (seen : List Bool) → length l ≤ i → length seen ≡ 256 → Seen l i seen
 none_seen l i seen h e = record { size = e; marked = λ y t. absurd (true≢false (sym t ∙ ap (contains y) (drop_of_length-le l h))) }
 
-module _ (l : List ℕ) (k : ℕ) (seen : List ℕ) (S : Seen l (k + 1) seen) (x : ℕ) where
+module _ (l : List ℕ) (k : ℕ) (seen : List Bool) (S : Seen l (k + 1) seen) (x : ℕ) where
   -- where the lower byte is not noted, the label is not there
-  pub searched : (found : Bool) → found ≡ contains x (drop (k + 1) l) → (eqb (get_or seen (x % 256) 0) 1 && found) ≡ contains x (drop (k + 1) l)
-  searched found e = go (eqb (get_or seen (x % 256) 0) 1) refl (contains x (drop (k + 1) l)) refl
+  pub unseen : get_or seen (x % 256) false ≡ false → contains x (drop (k + 1) l) ≡ false
+  unseen a = go (contains x (drop (k + 1) l)) refl
     where
-      go : (m : Bool) → eqb (get_or seen (x % 256) 0) 1 ≡ m → (t : Bool) → contains x (drop (k + 1) l) ≡ t → (m && found) ≡ t
-      go true a t b = e ∙ b
-      go false a true b = absurd (true≢false (sym (eq-eqb (get_or seen (x % 256) 0) 1 (S.marked x b)) ∙ a))
-      go false a false b = refl
+      go : (t : Bool) → contains x (drop (k + 1) l) ≡ t → t ≡ false
+      go true b = absurd (true≢false (sym (S.marked x b) ∙ a))
+      go false b = refl
 
-  pub one_seen : k < length l → get_or l k 0 ≡ x → Seen l k (set seen (x % 256) 1)
-  one_seen h e = record { size = length-set seen (x % 256) 1 ∙ S.size; marked = λ y t. go y (eqb y x) refl (sym (rest y) ∙ t) }
+  pub one_seen : k < length l → get_or l k 0 ≡ x → Seen l k (set seen (x % 256) true)
+  one_seen h e = record { size = length-set seen (x % 256) true ∙ S.size; marked = λ y t. go y (eqb y x) refl (sym (rest y) ∙ t) }
     where
       rest : (y : ℕ) → contains y (drop k l) ≡ (eqb y x || contains y (drop (k + 1) l))
       rest y = ap (contains y) (drop-cons l k 0 h ∙ ap (λ (z : ℕ). z ∷ drop (suc k) l) e ∙ ap (λ (n : ℕ). x ∷ drop n l) (sym (add-one k)))
 
-      at : (y : ℕ) (b : Bool) → eqb (x % 256) (y % 256) ≡ b → get_or seen (y % 256) 0 ≡ 1 → get_or (set seen (x % 256) 1) (y % 256) 0 ≡ 1
-      at y true q m = ap (λ (n : ℕ). get_or (set seen (x % 256) 1) n 0) (sym (eqb-true (x % 256) (y % 256) q)) ∙ get_or-set_same seen (x % 256) 1 0 (omega (arith, S.size))
-      at y false q m = get_or-set_other seen (x % 256) (y % 256) 1 0 (λ r. eqb-false (x % 256) (y % 256) q (sym r)) ∙ m
+      at : (y : ℕ) (b : Bool) → eqb (x % 256) (y % 256) ≡ b → get_or seen (y % 256) false ≡ true → get_or (set seen (x % 256) true) (y % 256) false ≡ true
+      at y true q m = ap (λ (n : ℕ). get_or (set seen (x % 256) true) n false) (sym (eqb-true (x % 256) (y % 256) q)) ∙ get_or-set_same seen (x % 256) true false (omega (arith, S.size))
+      at y false q m = get_or-set_other seen (x % 256) (y % 256) true false (λ r. eqb-false (x % 256) (y % 256) q (sym r)) ∙ m
 
-      go : (y : ℕ) (b : Bool) → eqb y x ≡ b → (b || contains y (drop (k + 1) l)) ≡ true → get_or (set seen (x % 256) 1) (y % 256) 0 ≡ 1
-      go y true q t = ap (λ (n : ℕ). get_or (set seen (x % 256) 1) (n % 256) 0) (eqb-true y x q) ∙ get_or-set_same seen (x % 256) 1 0 (omega (arith, S.size))
+      go : (y : ℕ) (b : Bool) → eqb y x ≡ b → (b || contains y (drop (k + 1) l)) ≡ true → get_or (set seen (x % 256) true) (y % 256) false ≡ true
+      go y true q t = ap (λ (n : ℕ). get_or (set seen (x % 256) true) (n % 256) false) (eqb-true y x q) ∙ get_or-set_same seen (x % 256) true false (omega (arith, S.size))
       go y false q t = at y (eqb (x % 256) (y % 256)) refl (S.marked y t)
+
+-- ONE TURN of the loop that looks at the label before i
+module _ (n last : ℕ) (pool : List ℕ) (p : Padded n pool) (i : ℕ) (up : i ≤ n) (more : 0 < i) where
+  abbrev live : List ℕ
+  live = take n pool
+
+  abbrev here : ℕ
+  here = get_or pool (i - 1) 0
+
+  back : i - 1 + 1 ≡ i
+  back = omega arith
+
+  room : n ≤ length pool
+  room = omega (arith, p.size)
+
+  inside : i - 1 < length live
+  inside = omega (arith, length-take-le n pool room)
+
+  read : get_or live (i - 1) 0 ≡ here
+  read = get_or-take n pool (i - 1) 0 (omega arith)
+
+  pub turn_zero : here < 1 → false ≡ given_once last live
+  turn_zero a = given_none last (i - 1) live (given_zero last live (i - 1) here inside read a)
+
+  module _ (a : 1 ≤ here) where
+    pub turn_late : last < here → false ≡ given_once last live
+    turn_late b = given_none last (i - 1) live (given_late last live (i - 1) here inside read a b)
+
+    searched : contains here (take 64 (drop (i - 1 + 1) pool)) ≡ contains here (drop (i - 1 + 1) live)
+    searched = among_padded n pool p (i - 1 + 1) (omega arith) here a
+
+    module _ (b : here ≤ last) where
+      pub turn_twice : contains here (take 64 (drop (i - 1 + 1) pool)) ≡ true → false ≡ given_once last live
+      turn_twice t = given_none last (i - 1) live (given_twice last live (i - 1) here inside read a b (sym searched ∙ t))
+
+      module _ (seen : List Bool) (S : Seen live i seen) (rest : given_once last (drop i live) ≡ true) where
+        kept_seen : Seen live (i - 1 + 1) seen
+        kept_seen = subst (λ (k : ℕ). Seen live k seen) (sym back) S
+
+        -- it was searched where its lower byte is noted
+        pub turn_next : (get_or seen (here % 256) false ≡ true → contains here (take 64 (drop (i - 1 + 1) pool)) ≡ false)
+            → (given_once last (drop (i - 1) live) ≡ true) × Seen live (i - 1) (set seen (here % 256) true)
+        turn_next unfound = (
+          sym (given_next last live (i - 1) here inside read a b (go (get_or seen (here % 256) false) refl)) ∙ ap (λ (k : ℕ). given_once last (drop k live)) back ∙ rest,
+          one_seen live (i - 1) seen kept_seen here inside read,
+        )
+          where
+            go : (m : Bool) → get_or seen (here % 256) false ≡ m → contains here (drop (i - 1 + 1) live) ≡ false
+            go true q = sym searched ∙ unfound q
+            go false q = unseen live (i - 1) seen kept_seen here q

@@ -40,6 +40,7 @@ fn floors(rise: bool, keys: u64) -> u64
 
 // At most eight keys, strictly rising where `rise` says so, and zeros after them: their count is at `at`, and their eight places are one
 // number. A byte of at most 127 is above 64 where adding 63 sets its highest bit; and x is above y where adding 127 - y sets x's.
+#[tactic(auto, unfolding(crate::specs::Inner::Tests::keys_ok))]
 pub fn keys_ok(rise: bool, s: &[u8], at: usize) -> bool
     requires { at + 9 ≤ length s.now }
     ensures { result ≡ keys_ok rise (keys_at s.now at) }
@@ -50,43 +51,26 @@ pub fn keys_ok(rise: bool, s: &[u8], at: usize) -> bool
     }
     let keys = u64_at(s, at + 1);
     let most = most_in(n);
-    if most < keys {
-        return false;
-    }
-    if keys & TOPS != 0 {
-        return false;
-    }
-    if (keys + 0x3F3F3F3F3F3F3F3F) & TOPS != 0 {
-        return false;
-    }
-    (keys + 0x7F7F7F7F7F7F7F7F - floors(rise, keys)) & TOPS == most & TOPS
+    keys <= most
+        && keys & TOPS == 0
+        && (keys + 0x3F3F3F3F3F3F3F3F) & TOPS == 0
+        && (keys + 0x7F7F7F7F7F7F7F7F - floors(rise, keys)) & TOPS == most & TOPS
 }
 
 // From one to `most` labels, and zeros after them: their count is at `at`, and their four places are one number.
+#[tactic(auto, unfolding(crate::specs::Inner::Tests::labels_ok), using(crate::proofs::Digits::labels_few))]
 pub fn labels_ok(most: u8, s: &[u8], at: usize) -> bool
     requires { (at + 9 ≤ length s.now) × (most ≤ 4) }
     ensures { result ≡ labels_ok most (labels_at s.now at) }
 {
     let n = s[at];
-    if n < 1 {
-        return false;
-    }
-    if most < n {
-        return false;
-    }
-    u64_at(s, at + 1) <= most_in(2 * n)
+    1 <= n && n <= most && u64_at(s, at + 1) <= most_in(2 * n)
 }
 
 fn takes_key(kind: u8) -> bool
     ensures { result ≡ takes_key kind }
 {
-    if kind == 2 {
-        return true;
-    }
-    if kind == 3 {
-        return true;
-    }
-    kind == 7
+    matches!(kind, 2 | 3 | 7)
 }
 
 pub fn operand_ok(kind: u8, key: u8) -> bool
@@ -103,7 +87,7 @@ pub fn operand_ok(kind: u8, key: u8) -> bool
 pub fn multiplier_ok(kind: u8, a: u32) -> bool
     ensures { result ≡ multiplier_ok kind a }
 {
-    if kind == 1 { true } else { a == 0 }
+    kind == 1 || a == 0
 }
 
 pub fn most_of(kind: u8) -> u8
@@ -116,37 +100,19 @@ pub fn most_of(kind: u8) -> u8
 pub fn targets_ok(kind: u8, count: u8) -> bool
     ensures { result ≡ targets_ok kind count }
 {
-    if kind == 0 { count == 0 } else { true }
+    kind != 0 || count == 0
 }
 
 // An all-call lists no targets, and an add is none.
 pub fn all_ok(kind: u8, count: u8, all: u8) -> bool
     ensures { result ≡ all_ok kind count all }
 {
-    if all == 0 {
-        return true;
-    }
-    if all != 1 {
-        return false;
-    }
-    if kind == 0 {
-        return false;
-    }
-    count == 0
+    all == 0 || all == 1 && kind != 0 && count == 0
 }
 
 // Only an all-call at a station is marked.
 pub fn mark_ok(station: u8, all: u8, mark: u8) -> bool
     ensures { result ≡ mark_ok station all mark }
 {
-    if mark == 0 {
-        return true;
-    }
-    if mark != 1 {
-        return false;
-    }
-    if all != 1 {
-        return false;
-    }
-    station != 65
+    mark == 0 || mark == 1 && all == 1 && station != 65
 }

@@ -12,22 +12,12 @@ use text::put::put_bytes;
 pub fn image_valid(image: &[u8]) -> bool
     ensures { Exact image.now result }
 {
-    if !is_sound(image) {
-        return false;
-    }
-    if !is_canonical(image) {
-        return false;
-    }
-    if !nodes_ok(image) {
-        return false;
-    }
-    if !ops_ok(image) {
-        return false;
-    }
-    if !results_ok(image) {
-        return false;
-    }
-    labels_live(image)
+    is_sound(image)
+        && is_canonical(image)
+        && nodes_ok(image)
+        && ops_ok(image)
+        && results_ok(image)
+        && labels_live(image)
 }
 
 // Writes the fresh image, whatever the bytes were; false where the length is wrong, and then nothing is written.

@@ -9,16 +9,7 @@ use records::head::VERSION;
 pub fn is_sound(image: &[u8]) -> bool
     ensures { Decides (Sound image.now) result }
 {
-    if image.len() != 4112 {
-        return false;
-    }
-    if 64 < image[1] {
-        return false;
-    }
-    if 64 < image[2] {
-        return false;
-    }
-    image[3] <= 64
+    image.len() == 4112 && image[1] <= 64 && image[2] <= 64 && image[3] <= 64
 }
 
 pub fn is_canonical(image: &[u8]) -> bool
@@ -28,17 +19,9 @@ pub fn is_canonical(image: &[u8]) -> bool
     let n = 16 + 16 * node_count(image);
     let o = 1040 + 32 * op_count(image);
     let r = 3088 + 16 * result_count(image);
-    if image[0] != VERSION {
-        return false;
-    }
-    if !all_zero(&image[6..16]) {
-        return false;
-    }
-    if !all_zero(&image[n..1040]) {
-        return false;
-    }
-    if !all_zero(&image[o..3088]) {
-        return false;
-    }
-    all_zero(&image[r..4112])
+    image[0] == VERSION
+        && all_zero(&image[6..16])
+        && all_zero(&image[n..1040])
+        && all_zero(&image[o..3088])
+        && all_zero(&image[r..4112])
 }

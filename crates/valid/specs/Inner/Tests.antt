@@ -119,9 +119,6 @@ unfoldable pub given_once : ℕ → List ℕ → Bool
 given_once last [] = true
 given_once last (x ∷ xs) = leb 1 x && (leb x last && (not (contains x xs) && given_once last xs))
 
-abbrev pub four : ℕ → ℕ
-four n = cond (ltb n 4) n 4
-
 -- labels put into a pool from `at` on: r says where the next goes
 pub record Gathers (ls : List ℕ) (at : ℕ) (before after : List ℕ) (r : ℕ) : Type 0 where
   pub size : length after ≡ length before

@@ -1,8 +1,7 @@
 -- `node::node_bytes` meets its contract.
 -- Assumes nothing.
-use mathlib.Core.Path.{refl}
 use Rattle.records.specs.Records.{encode_node}
-use Rattle.records.proofs.Codecs.{FitNode, node_back}
+use Rattle.records.proofs.Codecs.{FitNode, node_encodes}
 use borrow.Author.Rules.{rules}
 use Rattle.records.proofs.node.node_bytes.Goals as goal
 use Rattle.records.proofs.node.node_bytes.Goals.{Start}
@@ -12,4 +11,4 @@ fit c = record { value = search rules; links = record { places = search rules };
 
 pub returns : goal.returns
 unfolding encode_node
-returns c = record { bytes = refl; back = node_back c.args.n (fit (goal.at.returns c).Start) }
+returns c = node_encodes c.args.n (fit (goal.at.returns c).Start) _ (search rules)

@@ -1,8 +1,8 @@
 -- `op::op_bytes` meets its contract.
 -- Assumes nothing.
-use mathlib.Core.Path.{refl}
+use mathlib.Core.Path.{refl, ◌∙◌}
 use Rattle.records.specs.Records.{encode_op}
-use Rattle.records.proofs.Codecs.{FitOp, op_back}
+use Rattle.records.proofs.Codecs.{FitOp, op_encodes, written32}
 use mir.Syntax.{w16}
 use borrow.Author.Rules.{rules, elem_Fits}
 use Rattle.records.proofs.op.op_bytes.Goals as goal
@@ -21,4 +21,7 @@ fit c =
 
 pub returns : goal.returns
 unfolding encode_op
-returns c = record { bytes = refl; back = op_back c.args.o (fit (goal.at.returns c).Start) }
+returns c =
+    let o = c.args.o in
+    op_encodes o (fit (goal.at.returns c).Start) _
+    (rw (c.copy_from_slice.ensures.after ∙ c.to_le_bytes.ensures ∙ written32 o.a, c.copy_from_slice-2.ensures.after ∙ c.to_le_bytes-2.ensures ∙ written32 o.b, c.copy_from_slice-3.ensures.after ∙ c.keys_bytes.ensures, c.copy_from_slice-4.ensures.after ∙ c.labels_bytes.ensures) refl)

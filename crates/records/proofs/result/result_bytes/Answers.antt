@@ -1,8 +1,7 @@
 -- `result::result_bytes` meets its contract.
 -- Assumes nothing.
-use mathlib.Core.Path.{refl}
 use Rattle.records.specs.Records.{encode_result}
-use Rattle.records.proofs.Codecs.{FitResult, result_back}
+use Rattle.records.proofs.Codecs.{FitResult, result_encodes}
 use borrow.Author.Rules.{rules}
 use Rattle.records.proofs.result.result_bytes.Goals as goal
 use Rattle.records.proofs.result.result_bytes.Goals.{Start}
@@ -12,4 +11,4 @@ fit c = record { label = search rules; value = search rules; left = record { pla
 
 pub returns : goal.returns
 unfolding encode_result
-returns c = record { bytes = refl; back = result_back c.args.r (fit (goal.at.returns c).Start) }
+returns c = result_encodes c.args.r (fit (goal.at.returns c).Start) _ (search rules)

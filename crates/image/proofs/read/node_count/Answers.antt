@@ -1,9 +1,0 @@
--- `read::node_count` meets its contract.
--- Assumes nothing.
-use mathlib.Core.Path.{sym, ◌∙◌}
-use Rattle.image.specs.Inner.Regions.{node_region}
-use Rattle.image.proofs.Regions.{count_of}
-use Rattle.image.proofs.read.node_count.Goals as goal
-
-pub returns : goal.returns
-returns c = c.long.ensures ∙ sym (count_of node_region c.args.image.now)

@@ -1,9 +1,0 @@
--- `read::result_count` meets its contract.
--- Assumes nothing.
-use mathlib.Core.Path.{sym, ◌∙◌}
-use Rattle.image.specs.Inner.Regions.{result_region}
-use Rattle.image.proofs.Regions.{count_of}
-use Rattle.image.proofs.read.result_count.Goals as goal
-
-pub returns : goal.returns
-returns c = c.long.ensures ∙ sym (count_of result_region c.args.image.now)
