@@ -10,7 +10,7 @@ use lib.Dec.{ltb}
 use lib.ListN.{length}
 use Rattle.graph.specs.Refusals.{Answer, done, unless}
 use Rattle.text.proofs.Pasting.{length_pasted, take_pasted}
-use Rattle.panel.specs.declared.returned.Returned.{Returned}
+use Rattle.graph.specs.declared.refusal.Refusal.{Refusal}
 use Rattle.load.specs.Load.{load_text}
 use Rattle.load.specs.Entry.{load_tests, load_answered}
 use Rattle.load.specs.Inner.Values.{returned_of, LoadReturned}
@@ -18,7 +18,7 @@ use Rattle.load.proofs.Lengths.{load_short}
 use Rattle.cgtool.specs.Commands.{load_answer}
 use Rattle.cgtool.specs.Inner.Outputs.{Within, answer_in}
 
-pub record LoadAnswer (seed count : ℕ) (out : List ℕ) (r : Returned) : Type 0 where
+pub record LoadAnswer (seed count : ℕ) (out : List ℕ) (r : Result ℕ Refusal) : Type 0 where
   pub within : Within out r
   pub same : answer_in out r ≡ load_answer seed count
 
@@ -37,7 +37,7 @@ module _ (seed count : ℕ) (out : List ℕ) (room : 3584 ≤ length out) where
           let enough = le-ltb (length out) (length text) (omega arith) in
           record { within = rw (e, enough) (omega (arith, length_pasted out 0 text fits)); same = rw (e, enough) (ap done (take_pasted out text (length text) (omega arith))) }
 
-  pub load_answered_law : (r : Returned) {after : List ℕ} → LoadReturned seed count out r after → LoadAnswer seed count after r
+  pub load_answered_law : (r : Result ℕ Refusal) {after : List ℕ} → LoadReturned seed count out r after → LoadAnswer seed count after r
   load_answered_law r {after} h =
       subst (LoadAnswer seed count after) (sym h.answer)
       (subst (λ (o : List ℕ). LoadAnswer seed count o (returned_of answer)) (sym h.output) load_answer_law)

@@ -16,8 +16,8 @@ total-requires c = c.loop-image.invariant.image_valid_law.proper
 pub drain_one-taken-requires : goal.drain_one-taken-requires
 drain_one-taken-requires c = (c.loop-image.invariant.image_valid_law, omega (arith, c.total.ensures.is, c.loop-image-test.true))
 
-pub raised-c-requires : goal.raised-c-requires
-raised-c-requires c =
+pub raise-requires : goal.raise-requires
+raise-requires c =
     counts_fit c.args.image.now c.loop-image.image c.loop-image.c c.requires c.loop-image.invariant
 
 -- a turn took a step
@@ -29,7 +29,7 @@ pub loop-image-smaller : goal.loop-image-smaller
 loop-image-smaller c = (turn (goal.at.loop-image-smaller c).After-slice_known-in-loop-image-1).lighter
 
 pub loop-image-preserved : goal.loop-image-preserved
-loop-image-preserved c = subst (Loop _ _) (sym c.raised-c.ensures) (turn (goal.at.loop-image-preserved c).After-slice_known-in-loop-image-1).loop
+loop-image-preserved c = subst (Loop _ _) (sym c.raise.ensures) (turn (goal.at.loop-image-preserved c).After-slice_known-in-loop-image-1).loop
 
 pub returns : goal.returns
 returns c =
