@@ -1,7 +1,7 @@
 // What the program prints, and the status that it ends with, by what it is asked for.
 ghost use Rattle.std.specs.Prelude.{◌≡◌, ◌≤◌, length};
 ghost use Rattle.graph.specs.Refusals.{refused};
-ghost use Rattle.graph.specs.Refused.{refusal_number};
+ghost use Rattle.graph.specs.Refused.{refusal_number, answered};
 ghost use Rattle.cgtool.specs.Commands.{said, load_answer, page, nodes};
 ghost use Rattle.cgtool.specs.Inner.Outputs.{Within, answer_in, Says, SaysTo, Answers};
 
@@ -51,8 +51,8 @@ fn refusal_said(out: &mut [u8], refusal: Refusal) -> Said
 
 // What a function returned that wrote to `out`.
 fn returned_said(returned: Result<u32, Refusal>, out: &mut [u8]) -> Said
-    requires { (19 ≤ length out.old) × Within out.old returned }
-    ensures { Says out.new result (said (answer_in out.old returned)) }
+    requires { (19 ≤ length out.old) × Within out.old (answered (λ n. n) returned) }
+    ensures { Says out.new result (said (answer_in out.old (answered (λ n. n) returned))) }
 {
     match returned {
         Err(refusal) => refusal_said(out, refusal),

@@ -1,9 +1,7 @@
 -- What the arguments ask for, and what stands in the program's output.
 -- Assumes nothing.
-use Rattle.std.specs.Prelude.{ℕ, ◌≤◌, ◌≡◌, List, length, take, Option, Some, None, Result, Ok, Err}
-use Rattle.graph.specs.Refusals.{Answer}
-use Rattle.graph.specs.Refused.{answered}
-use Rattle.graph.specs.declared.refusal.Refusal.{Refusal}
+use Rattle.std.specs.Prelude.{ℕ, ◌≤◌, ◌≡◌, List, length, take, Option, Some, None}
+use Rattle.graph.specs.Refusals.{Answer, refused, done, map_done}
 use Rattle.cgtool.specs.Commands.{Ended, said, Arguments, Command, load, page, nodes, IsCommand, AnswerTo, Ends}
 use Rattle.cgtool.specs.declared.commands.Asked.{Asked}
 use Rattle.cgtool.specs.declared.commands.Asked.TheVariants.{Load, Page, Nodes}
@@ -21,13 +19,13 @@ AskedFor a None = (c : Command) → IsCommand a c → ⊥
 -- ---- a function's answer and its output
 
 -- a written length lies within the output
-abbrev pub Within : List ℕ → Result ℕ Refusal → Type 0
-Within out (Ok n) = n ≤ length out
-Within out (Err r) = Unit {0}
+abbrev pub Within : List ℕ → Answer ℕ → Type 0
+Within out (done n) = n ≤ length out
+Within out (refused n) = Unit {0}
 
 -- the bytes that a length counts, or the refusal
-abbrev pub answer_in : List ℕ → Result ℕ Refusal → Answer (List ℕ)
-answer_in out = answered (λ n. take n out)
+abbrev pub answer_in : List ℕ → Answer ℕ → Answer (List ℕ)
+answer_in out = map_done (λ n. take n out)
 
 -- ---- what the program prints
 
