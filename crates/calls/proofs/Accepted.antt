@@ -4,7 +4,7 @@ use mathlib.Core.Path.{◌≡◌, refl, sym, ap, ◌∙◌, subst}
 use Prim.Native.Nat.{ℕ, suc, ◌+◌, ◌<◌}
 use native.Mathlib.Omega.{arith}
 use mathlib.Core.Bool.{Bool, true, false, cond, not, ◌&&◌}
-use mathlib.Core.List.{List, [], ◌∷◌, ◌++◌}
+use mathlib.Core.List.{List, ◌∷◌}
 use lib.Dec.{leb}
 use lib.ListN.{length}
 use borrow.Author.Tests.{leb-false}
@@ -12,16 +12,15 @@ use Rattle.graph.specs.Targets.{To, named, whole, untouched}
 use Rattle.graph.specs.Packed.{packed_targets}
 use Rattle.graph.specs.Calls.{Call, form_tests}
 use Rattle.graph.specs.OneAtATime.{is_add, Labelled, labelled, is_op}
-use Rattle.graph.specs.Refusals.{Answer, refused, done, Test, on, unless}
+use Rattle.graph.specs.Refusals.{Answer, on, unless}
 use Rattle.graph.specs.RefusalOrder.{first_of}
 use Rattle.graph.proofs.KeyLaws.{listed_packed}
 use Rattle.graph.proofs.Validity.{Sort, adds, operates, sort}
 use Rattle.graph.proofs.Sequences.{forms_positive, none_applies, unless_passed}
 use Rattle.flat.specs.Flat.{Flat}
 use Rattle.flat.specs.Inner.Queues.{adds_queued, live_in}
-use Rattle.flat.specs.Inner.FlatSteps.{with_queue}
 use Rattle.flat.specs.Inner.FlatEvents.{flat_accept, accepted_as}
-use Rattle.state.specs.Inner.State.{flat_in, Shows, with_last}
+use Rattle.state.specs.Inner.State.{flat_in}
 use Rattle.state.specs.Inner.ValidImage.{ValidImage, Works}
 use Rattle.calls.specs.Inner.Accepting.{named_in, flat_live_tests, flat_accept_rest}
 use Rattle.calls.proofs.Room.{queue_room}
@@ -35,14 +34,6 @@ named_back whole = refl
 abbrev spent : Flat → Bool
 spent f = leb 64 (length f.nodes + adds_queued f.queue)
 
-first_refuses : {A : Type 0} (ts : List Test) (a : A) → (first_of ts ≡ 0 → ⊥) → unless ts a ≡ refused (first_of ts)
-first_refuses [] a h = absurd (h refl)
-first_refuses (t ∷ ts) a h = go t.applies h (first_refuses ts a)
-  where
-    go : (b : Bool) → (cond b t.number (first_of ts) ≡ 0 → ⊥) → ((first_of ts ≡ 0 → ⊥) → unless ts a ≡ refused (first_of ts)) → cond b (refused t.number) (unless ts a) ≡ refused (cond b t.number (first_of ts))
-    go true h ih = refl
-    go false h ih = ih h
-
 -- none of 14 and 15 applies
 record Open (f : Flat) : Type 0 where
   pub few : leb 64 (length (live_in f)) ≡ false
@@ -55,22 +46,6 @@ open_of f e = go (leb 64 (length (live_in f))) (leb 65535 f.last) refl refl e
     go true b p q e = absurd (omega arith)
     go false true p q e = absurd (omega arith)
     go false false p q e = record { few = p; labels = q }
-
-module _ (x : Labelled) (f : Flat) where
-  pub rest_spent : (not (is_op x) && spent f) ≡ true → flat_accept_rest x f ≡ refused 13
-  rest_spent e = ap (λ (b : Bool). cond b (refused 13) (unless (flat_live_tests f) (accepted_as x f))) e
-
-  module _ (unspent : (not (is_op x) && spent f) ≡ false) where
-    rest_live : flat_accept_rest x f ≡ unless (flat_live_tests f) (accepted_as x f)
-    rest_live = ap (λ (b : Bool). cond b (refused 13) (unless (flat_live_tests f) (accepted_as x f))) unspent
-
-    pub rest_refused : (first_of (flat_live_tests f) ≡ 0 → ⊥) → flat_accept_rest x f ≡ refused (first_of (flat_live_tests f))
-    rest_refused h = rest_live ∙ first_refuses (flat_live_tests f) (accepted_as x f) h
-
-    pub rest_done : first_of (flat_live_tests f) ≡ 0 → flat_accept_rest x f ≡ done (accepted_as x f)
-    rest_done e =
-        let o = open_of f e in
-        rest_live ∙ (λ i. cond (o.few i) (refused 14) (cond (o.labels i) (refused 15) (done (accepted_as x f))))
 
 -- a call whose form is good is accepted by what follows
 is_add_law : (c : Call) (l : ℕ) → is_add c ≡ not (is_op (labelled c l))
@@ -99,15 +74,3 @@ pub spare : (s : List ℕ) → ValidImage s → first_of (flat_live_tests (flat_
 spare s g e =
     let o = open_of (flat_in s) e in
     record { queue = queue_room s g o.few; labels = leb-false 65535 (flat_in s).last o.labels }
-
--- THE WRITES: the call, the last label
-pub accepted_shown : (s t u : List ℕ) (x y : Labelled) (m : ℕ) → y ≡ x → m ≡ suc (flat_in s).last
-    → Shows (with_queue (flat_in s) ((flat_in s).queue ++ (record { place = 65; opens = true; call = y } ∷ []))) t → Shows (with_last (flat_in t) m) u → Shows (accepted_as x (flat_in s)) u
-accepted_shown s t u x y m e em a b =
-    record {
-      proper = b.proper;
-      shows =
-          b.shows
-          ∙ ap (λ (g : Flat). with_last g m) a.shows
-          ∙ (λ i. with_last (with_queue (flat_in s) ((flat_in s).queue ++ (record { place = 65; opens = true; call = e i } ∷ []))) (em i));
-    }

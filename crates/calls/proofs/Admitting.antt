@@ -1,22 +1,22 @@
 -- Admit by what the image shows after each write.
 -- Assumes nothing.
 use mathlib.Core.Path.{◌≡◌, sym, ap, ◌∙◌}
-use Prim.Native.Nat.{ℕ, suc, ◌+◌, ◌<◌}
+use Prim.Native.Nat.{ℕ, suc, ◌<◌}
 use native.Mathlib.Omega.{arith}
-use mathlib.Core.Bool.{Bool, true, cond, true≢false}
+use mathlib.Core.Bool.{Bool, cond}
 use mathlib.Core.List.{List, [], ◌∷◌, ◌++◌}
 use lib.ListN.{length, get_or}
-use borrow.Author.Tests.{eq-eqb, ne_eqb, lt-ltb, le-ltb}
-use Rattle.graph.specs.Nodes.{new_node, stored}
-use Rattle.graph.specs.OneAtATime.{Labelled, add_of, op_of, is_op}
+use borrow.Author.Tests.{lt-ltb, le-ltb}
+use Rattle.graph.specs.Nodes.{new_node}
+use Rattle.graph.specs.OneAtATime.{Labelled, add_of}
 use Rattle.graph.specs.Refusals.{refused, done}
-use Rattle.graph.specs.Sessions.{insert, store}
+use Rattle.graph.specs.Sessions.{insert}
 use Rattle.graph.specs.Steps.{admit}
 use Rattle.flat.specs.Flat.{Flat}
-use Rattle.flat.specs.Inner.Nested.{of_op, at_place}
+use Rattle.flat.specs.Inner.Nested.{at_place}
 use Rattle.flat.specs.Inner.Queues.{first_index, remove_at}
 use Rattle.flat.proofs.Places.{find_within}
-use Rattle.flat.specs.Inner.FlatSteps.{alter, no_op, move_to, with_queue, finish_place, admit_call, flat_step}
+use Rattle.flat.specs.Inner.FlatSteps.{no_op, with_queue, admit_call, flat_step}
 use Rattle.flat.proofs.Facts.{here_find}
 use Rattle.state.specs.Inner.Results.{result_with}
 use Rattle.state.specs.Inner.State.{flat_in, Shows, with_nodes, with_results}
@@ -37,22 +37,6 @@ module _ (f : Flat) where
 
   pub first_in_law : (w n : ℕ) → w ≡ first_index (at_place 65) f.queue → n ≡ length f.queue → (w ≡ n → ⊥) → w < length f.queue
   first_in_law w n e en h = omega (arith, find_within (at_place 65) f.queue, h)
-
-  -- an operation, with no nodes and with some
-  module _ (w : ℕ) (op : is_op (get_or f.queue w no_op).call ≡ true) where
-    pub admit_none : length f.nodes ≡ 0 → finish_place w (w + 1) (get_or f.queue w no_op) f ≡ admitted_at w f
-    admit_none z = rw (le-ltb (suc w) (w + 1) (omega arith)) (go (get_or f.queue w no_op).call op)
-      where
-        go : (c : Labelled) → is_op c ≡ true → record { nodes = f.nodes; queue = remove_at w f.queue; results = store (of_op [] stored c) f.results; last = f.last } ≡ admit_call w c f
-        go (add_of l v) e = absurd (true≢false (sym e))
-        go (op_of o) e = rw (eq-eqb (length f.nodes) 0 z)
-
-    pub admit_some : (n : ℕ) → n ≡ length f.nodes → (n ≡ 0 → ⊥) → with_queue f (alter w (move_to n) f.queue) ≡ admitted_at w f
-    admit_some n e z = go (get_or f.queue w no_op).call op
-      where
-        go : (c : Labelled) → is_op c ≡ true → with_queue f (alter w (move_to n) f.queue) ≡ admit_call w c f
-        go (add_of l v) d = absurd (true≢false (sym d))
-        go (op_of o) d = rw (ne_eqb (length f.nodes) 0 (λ q. z (e ∙ q))) (ap (λ (k : ℕ). with_queue f (alter w (move_to k) f.queue)) e)
 
 -- THE WRITES
 -- an add: its node, its call, its result

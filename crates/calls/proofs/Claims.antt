@@ -1,45 +1,27 @@
 -- What a claim finds.
 -- Assumes nothing.
-use mathlib.Core.Path.{◌≡◌, refl, sym, ap, ◌∙◌}
+use mathlib.Core.Path.{◌≡◌, sym, ap, ◌∙◌}
 use Prim.Native.Nat.{ℕ, ◌-◌, ◌≤◌, ◌<◌}
 use native.Mathlib.Omega.{arith}
-use mathlib.Core.Bool.{Bool, true, false, cond, ◌&&◌}
-use lib.Dec.{leb}
+use mathlib.Core.Bool.{true, false}
 use lib.ListN.{length, get_or}
-use borrow.Author.Tests.{le-leb, lt-leb}
+use borrow.Author.Tests.{le-leb}
 use Rattle.graph.specs.Acceptance.{take_result}
 use Rattle.graph.specs.KeyLists.{contains, rising}
-use Rattle.graph.specs.Refusals.{refused, done}
+use Rattle.graph.specs.Refusals.{done}
 use Rattle.graph.specs.Sessions.{labels_of_results}
 use Rattle.flat.specs.Flat.{Flat}
 use Rattle.flat.specs.Inner.Queues.{queued}
 use Rattle.flat.specs.Inner.FlatEvents.{flat_claim}
 use Rattle.state.specs.Inner.Results.{no_result, place_of, taken_at}
 use Rattle.state.proofs.ResultLaws.{take_there, take_missing}
-use Rattle.graph.specs.declared.refusal.Refusal.TheVariants.{NeverGiven, StillPending, AlreadyClaimed}
+use Rattle.graph.specs.declared.refusal.Refusal.TheVariants.{AlreadyClaimed}
 use Rattle.std.specs.Prelude.{Ok, Err}
 use Rattle.calls.specs.Inner.Claiming.{FindsFlat}
 
 module _ (l : ℕ) (f : Flat) where
-  -- a label never given
-  never : (leb 1 l && leb l f.last) ≡ false → FindsFlat l f (Err NeverGiven)
-  never e = ap (λ (b : Bool). cond b (cond (contains l (queued f.queue)) (refused 31) (take_result l f.results)) (refused 30)) e
-
-  pub finds_zero : l ≡ 0 → FindsFlat l f (Err NeverGiven)
-  finds_zero e = never (rw (lt-leb 1 l (omega arith)))
-
-  pub finds_above : f.last < l → FindsFlat l f (Err NeverGiven)
-  finds_above h = never (rw (lt-leb l f.last h) (go (leb 1 l)))
-    where
-      go : (b : Bool) → (b && false) ≡ false
-      go true = refl
-      go false = refl
-
   -- and one that was
   module _ (low : 1 ≤ l) (high : l ≤ f.last) where
-    pub finds_pending : contains l (queued f.queue) ≡ true → FindsFlat l f (Err StillPending)
-    finds_pending e = rw (le-leb 1 l low, le-leb l f.last high, e)
-
     module _ (free : contains l (queued f.queue) ≡ false) where
       claim_results : flat_claim l f ≡ take_result l f.results
       claim_results = rw (le-leb 1 l low, le-leb l f.last high, free)

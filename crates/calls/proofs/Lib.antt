@@ -2,5 +2,4 @@ pub mod Accepted
 pub mod Admitting
 pub mod Claims
 pub mod Room
-pub mod Worked
 pub mod Refusing

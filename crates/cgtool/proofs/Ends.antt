@@ -6,36 +6,30 @@ use mathlib.Core.Path.{◌≡◌, refl, sym, ap, subst}
 use mathlib.Core.List.{List}
 use native.Mathlib.Omega.{arith}
 use lib.IntN.{pos}
+use Rattle.std.specs.Prelude.{Option, Some, None}
 use Rattle.graph.specs.Refusals.{Answer, refused, done}
 use Rattle.cgtool.specs.Commands.{Ended, said, load_answer, Arguments, load, page, nodes, Ends, of_command, other_arguments, Status}
 use Rattle.cgtool.specs.Inner.Outputs.{Says, SaysTo, Answers, Responds}
 use Rattle.cgtool.specs.declared.commands.Asked.{Asked}
-use Rattle.cgtool.specs.declared.commands.Asked.TheVariants.{Load, Page, Nodes, Wrong}
+use Rattle.cgtool.specs.declared.commands.Asked.TheVariants.{Load, Page, Nodes}
 use Rattle.cgtool.specs.declared.answers.Said.{Said}
+use Rattle.cgtool.specs.declared.answers.ExitStatus.TheVariants.{WrongArguments}
 
 -- ---- answers
 
-module _ (lent out : List ℕ) {r : Said} {k : Asked} where
-  told : {j : Asked} → k ≡ j → Answers j lent out r → Answers k lent out r
-  told e = subst (λ (i : Asked). Answers i lent out r) (sym e)
+module _ (lent out : List ℕ) {r : Said} {k : Option Asked} where
+  told : {j : Option Asked} → k ≡ j → Answers j lent out r → Answers k lent out r
+  told e = subst (λ (i : Option Asked). Answers i lent out r) (sym e)
 
-  pub load_answer_law : {seed count : ℕ} → k ≡ Load seed count → Says out r (said (load_answer seed count)) → Answers k lent out r
+  pub load_answer_law : {seed count : ℕ} → k ≡ Some (Load seed count) → Says out r (said (load_answer seed count)) → Answers k lent out r
   load_answer_law {seed} {count} e s =
       told e (record { within = s.within; ends = λ a i. of_command (load seed count) i (load_answer seed count) refl s.ended })
 
-  pub page_answer : k ≡ Page → SaysTo page lent out r → Answers k lent out r
+  pub page_answer : k ≡ Some Page → SaysTo page lent out r → Answers k lent out r
   page_answer e s = told e (record { within = s.says.within; ends = λ a i. of_command page i s.answer s.answers s.says.ended })
 
-  pub nodes_answer : k ≡ Nodes → SaysTo nodes lent out r → Answers k lent out r
+  pub nodes_answer : k ≡ Some Nodes → SaysTo nodes lent out r → Answers k lent out r
   nodes_answer e s = told e (record { within = s.says.within; ends = λ a i. of_command nodes i s.answer s.answers s.says.ended })
-
-  pub wrong_answer : k ≡ Wrong → r ≡ record { length = 0; status = 2 } → Answers k lent out r
-  wrong_answer e q = told e (subst (Answers Wrong lent out) (sym q) (record { within = omega arith; ends = λ a never. other_arguments never refl }))
-
--- ---- the verb's own input
-
-pub responds : {out : List ℕ} {r : Said} {k j : Asked} → k ≡ j → Responds j out r → Responds k out r
-responds {out} {r} e = subst (λ (i : Asked). Responds i out r) (sym e)
 
 -- ---- the status
 

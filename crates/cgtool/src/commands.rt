@@ -2,49 +2,44 @@
 ghost use Rattle.text.specs.Text.{ascii};
 ghost use Rattle.cgtool.specs.Inner.Outputs.{AskedFor};
 
-use check::same;
-use text::number::{Number, read_number};
+use text::number::read_number;
 
-// A load has a seed and a count. Wrong: the arguments are of no command.
+// A load has a seed and a count.
 #[derive(Clone, Copy)]
 pub enum Asked {
     Load(u32, u32),
     Page,
     Nodes,
-    Wrong,
 }
 
 // Where the verb is `load`.
-fn load_asked(given: usize, first: &[u8], second: &[u8]) -> Asked
+fn load_asked(given: usize, first: &[u8], second: &[u8]) -> Option<Asked>
     ensures { AskedFor (record { given = given; verb = ascii "load"; first = first.now; second = second.now }) result }
 {
     if given != 4 {
-        return Asked::Wrong;
+        return None;
     }
-    let Number::Is(seed) = read_number(first) else {
-        return Asked::Wrong;
-    };
-    let Number::Is(count) = read_number(second) else {
-        return Asked::Wrong;
-    };
-    Asked::Load(seed, count)
+    let seed = read_number(first)?;
+    let count = read_number(second)?;
+    Some(Asked::Load(seed, count))
 }
 
-// `given` counts the arguments, the program's name among them; verb, first and second are those after the name.
-pub fn asked_for(given: usize, verb: &[u8], first: &[u8], second: &[u8]) -> Asked
+// `given` counts the arguments, the program's name among them; verb, first and second are those after the name. None where the
+// arguments are of no command.
+pub fn asked_for(given: usize, verb: &[u8], first: &[u8], second: &[u8]) -> Option<Asked>
     ensures { AskedFor (record { given = given; verb = verb.now; first = first.now; second = second.now }) result }
 {
-    if same(verb, b"load") {
+    if verb == b"load".as_slice() {
         return load_asked(given, first, second);
     }
     if given != 2 {
-        return Asked::Wrong;
+        return None;
     }
-    if same(verb, b"page") {
-        return Asked::Page;
+    if verb == b"page".as_slice() {
+        Some(Asked::Page)
+    } else if verb == b"nodes".as_slice() {
+        Some(Asked::Nodes)
+    } else {
+        None
     }
-    if same(verb, b"nodes") {
-        return Asked::Nodes;
-    }
-    Asked::Wrong
 }

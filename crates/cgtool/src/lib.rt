@@ -8,68 +8,45 @@ ghost use Rattle.std.specs.Prelude.{◌≤◌, length};
 ghost use Rattle.cgtool.specs.Commands.{Status};
 ghost use Rattle.cgtool.specs.Inner.Outputs.{Responds};
 
-use answers::{Said, answer};
+use answers::{ExitStatus, Said, answer};
 use commands::{Asked, asked_for};
 use host::lent::cg_open;
 use script::serve_script;
 use std::env::{Env, FillError};
-use std::io::Read;
+use streams::read_full;
 
 // Serves standard input as cgrun does, but prints the page of what it leaves.
 fn page_answered(rt: &(impl Input + Print), out: &mut [u8]) -> Said
     requires { 3584 ≤ length out.old }
-    ensures { Responds Asked.Page out.new result }
+    ensures { Responds (Some Asked.Page) out.new result }
 {
     let mut image = [0u8; 4112];
     let mut buffer = [0u8; 65536];
     let mut printed = [0u8; 65536];
     cg_open(&mut image);
     serve_script(rt, &mut image, &mut buffer, &mut printed, false);
-    answer(Asked::Page, &image, out)
-}
-
-// What one read puts at the start of a buffer. A read that fails ends the input.
-fn read_some(input: &mut impl Read, buffer: &mut [u8]) -> usize
-    ensures { result ≤ length buffer.new }
-{
-    input.read(buffer).unwrap_or(0)
-}
-
-// Reads until the buffer is full or the input ends.
-fn read_full(input: &mut impl Read, buffer: &mut [u8]) -> usize
-    ensures { result ≤ length buffer.new }
-{
-    let mut filled = 0;
-    while filled < buffer.len() {
-        let got = read_some(input, &mut buffer[filled..]);
-        if got == 0 {
-            return filled;
-        }
-        filled += got;
-    }
-    filled
+    answer(Some(Asked::Page), &image, out)
 }
 
 // Reads standard input as a page. A page has at most 2,470 bytes, so a longer input is none, whatever follows.
 fn nodes_answered(rt: &impl Input, out: &mut [u8]) -> Said
     requires { 3584 ≤ length out.old }
-    ensures { Responds Asked.Nodes out.new result }
+    ensures { Responds (Some Asked.Nodes) out.new result }
 {
     let mut text = [0u8; 2471];
     let n = read_full(&mut rt.reader(), &mut text);
-    answer(Asked::Nodes, &text[..n], out)
+    answer(Some(Asked::Nodes), &text[..n], out)
 }
 
 // Reads what the command reads, and no more.
-fn answered(rt: &(impl Input + Print), asked: Asked, out: &mut [u8]) -> Said
+fn answered(rt: &(impl Input + Print), asked: Option<Asked>, out: &mut [u8]) -> Said
     requires { 3584 ≤ length out.old }
     ensures { Responds asked out.new result }
 {
     match asked {
-        Asked::Load(seed, count) => answer(Asked::Load(seed, count), b"", out),
-        Asked::Page => page_answered(rt, out),
-        Asked::Nodes => nodes_answered(rt, out),
-        Asked::Wrong => answer(Asked::Wrong, b"", out),
+        Some(Asked::Page) => page_answered(rt, out),
+        Some(Asked::Nodes) => nodes_answered(rt, out),
+        Some(Asked::Load(_, _)) | None => answer(asked, b"", out),
     }
 }
 
@@ -77,9 +54,8 @@ fn answered(rt: &(impl Input + Print), asked: Asked, out: &mut [u8]) -> Said
 fn write(rt: &(impl Print + Eprint), out: &[u8], said: Said) -> bool
     requires { said.length ≤ length out.now }
 {
-    let n = said.length;
-    let written = rt.write_all(&out[..n]).is_ok();
-    if said.status == 2 {
+    let written = rt.write_all(&out[..said.length]).is_ok();
+    if said.status == ExitStatus::WrongArguments {
         let _ = rt.eprint(
             "usage: cgtool load SEED COUNT\n       cgtool page <SCRIPT\n       cgtool nodes <PAGE\n",
         );
@@ -94,18 +70,11 @@ fn argument(rt: &impl Env, place: usize, buffer: &mut [u8]) -> usize
     rt.arg(place, buffer).unwrap_or(0)
 }
 
-fn is_missing(rt: &impl Env, place: usize) -> bool {
-    matches!(rt.arg(place, &mut []), Err(FillError::NotPresent))
-}
-
 // How many arguments there are, the program's name among them.
 fn argument_count(rt: &impl Env) -> usize {
-    for place in 0..usize::MAX {
-        if is_missing(rt, place) {
-            return place;
-        }
-    }
-    usize::MAX
+    (0..usize::MAX)
+        .find(|&place| matches!(rt.arg(place, &mut []), Err(FillError::NotPresent)))
+        .unwrap_or(usize::MAX)
 }
 
 // Reads the arguments, prints, and gives the exit status, 1 where the output could not be written. An argument that is longer
@@ -124,7 +93,7 @@ pub fn cgtool(rt: &(impl Env + Input + Print + Eprint)) -> i32
     let asked = asked_for(given, &verb[..v], &first[..f], &second[..s]);
     let said = answered(rt, asked, &mut out);
     if !write(rt, &out, said) {
-        return 1;
+        return ExitStatus::Failed as i32;
     }
     said.status as i32
 }

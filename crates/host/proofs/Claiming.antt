@@ -14,14 +14,15 @@ use Rattle.graph.specs.Acceptance.{Claimed, claim, keeping}
 use Rattle.graph.proofs.Answers.{is_done}
 use Rattle.text.specs.Text.{pasted}
 use Rattle.text.specs.Inner.Put.{TextPut}
-use Rattle.lines.specs.declared.claim.ClaimLine.TheVariants.{Refused as LineRefused, Label}
+use Rattle.std.specs.Prelude.{Ok, Err}
+use Rattle.graph.specs.Refused.{refusal_number}
+use Rattle.graph.specs.declared.refusal.Refusal.{Refusal}
 use Rattle.lines.specs.Forms.{IsClaim}
 use Rattle.lines.specs.Inner.Answers.{ClaimRead}
 use Rattle.print.specs.Printed.{result_text}
 use Rattle.print.specs.Inner.Values.{result_by_value}
 use Rattle.print.specs.Inner.Lengths.{LineLength}
-use Rattle.panel.specs.declared.returned.Returned.TheVariants.{Done}
-use Rattle.panel.specs.Returned.{returned_number}
+use Rattle.panel.specs.Returned.{answer_number}
 use Rattle.valid.specs.Values.{encode}
 use Rattle.valid.specs.Inner.Decoded.{session_of}
 use Rattle.state.specs.declared.results.CallResult.{CallResult}
@@ -36,10 +37,10 @@ result_is x o h = λ i. record { label = h.label i; value = h.value i; left = h.
 
 module _ (image line out : List ℕ) (h : ImageOf image (session_of image)) where
   -- a claim's form has no tests of its own
-  pub line_refused : (n : ℕ) → ClaimRead line (LineRefused n) → Claims image line out (claim_refused image out n)
-  line_refused n k = refused_by_tests (λ l. []) (IsClaim line) h (λ l m q. absurd (true≢false (ap is_done q))) n k
+  pub line_refused : (r : Refusal) → ClaimRead line (Err r) → Claims image line out (claim_refused image out (refusal_number r))
+  line_refused r k = refused_by_tests (λ l. []) (IsClaim line) h (λ l m q. absurd (true≢false (ap is_done q))) (refusal_number r) k
 
-  pub line_claims : (l : ℕ) (r : ClaimMade) → ClaimRead line (Label l) → r ≡ claim_served image out (session_of image) (claim l (session_of image)) → Claims image line out r
+  pub line_claims : (l : ℕ) (r : ClaimMade) → ClaimRead line (Ok l) → r ≡ claim_served image out (session_of image) (claim l (session_of image)) → Claims image line out r
   line_claims l r k e = served (session_of image) h l (passed (λ l. []) (IsClaim line) l k).text e
 
 -- what is done with what the session makes of a claim
@@ -67,7 +68,7 @@ module _ (image out : List ℕ) (p : ℕ) (o : CallResult) (is : IsCallResult (g
     no_room short = by_room false (lt-leb (length (result_text taken.result)) (length out) (omega (arith, size)))
 
     pub is_claimed : (after output : List ℕ) (end : ℕ) → n ≤ length out → TextPut out 0 (result_text (result_by_value o.label o.value o.left)) output end
-        → after ≡ encode (keeping (session_of image) taken.others) → claim_served image out (session_of image) (done taken) ≡ record { answer = returned_number (Done n); image = after; output = output }
+        → after ≡ encode (keeping (session_of image) taken.others) → claim_served image out (session_of image) (done taken) ≡ record { answer = answer_number (done n); image = after; output = output }
     is_claimed after output end room w e =
         by_room true (le-leb (length (result_text taken.result)) (length out) (omega (arith, size)))
-        ∙ sym (λ i. record { answer = returned_number (Done (size i)); image = e i; output = (w.bytes ∙ ap (pasted out 0) text) i })
+        ∙ sym (λ i. record { answer = answer_number (done (size i)); image = e i; output = (w.bytes ∙ ap (pasted out 0) text) i })

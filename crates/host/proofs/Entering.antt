@@ -17,8 +17,7 @@ use Rattle.valid.specs.Values.{encode}
 use Rattle.valid.specs.Inner.Decoded.{session_of}
 use Rattle.valid.specs.Inner.Exact.{Exact, Opened}
 use Rattle.valid.proofs.Exactness.{valid_back}
-use Rattle.panel.specs.declared.returned.Returned.TheVariants.{Done, Refused}
-use Rattle.panel.specs.Returned.{returned_number}
+use Rattle.panel.specs.Returned.{answer_number}
 use Rattle.state.specs.Inner.ValidImage.{ValidImage}
 use Rattle.state.proofs.Serving.{valid_image}
 use Rattle.host.specs.Entries.{ImageOf, Enters, other_length, other_bytes, other_line, served, call_refused, opened}
@@ -52,14 +51,14 @@ session_valid {image} h = valid_image image h.valid h.same
 
 -- opening: the answer goes by the length, like the image that it leaves
 module _ {image after : List ℕ} {b : Bool} {z : ℤ} (o : Opened image after b) where
-  as_length : (x : Bool) → b ≡ x → z ≡ cond x (returned_number (Done 0)) (returned_number (Refused 1)) → (y : Bool) → x ≡ y → after ≡ cond y (encode fresh) image
-      → record { answer = z; image = after } ≡ cond y (record { answer = returned_number (Done 0); image = encode fresh }) (call_refused image 1)
+  as_length : (x : Bool) → b ≡ x → z ≡ cond x (answer_number (done 0)) (answer_number (refused 1)) → (y : Bool) → x ≡ y → after ≡ cond y (encode fresh) image
+      → record { answer = z; image = after } ≡ cond y (record { answer = answer_number (done 0); image = encode fresh }) (call_refused image 1)
   as_length true e a true q w = λ i. record { answer = a i; image = w i }
   as_length false e a false q w = λ i. record { answer = a i; image = w i }
   as_length true e a false q w = absurd (true≢false q)
   as_length false e a true q w = absurd (true≢false (sym q))
 
-  pub is_opened : (x : Bool) → b ≡ x → z ≡ cond x (returned_number (Done 0)) (returned_number (Refused 1)) → record { answer = z; image = after } ≡ opened image
+  pub is_opened : (x : Bool) → b ≡ x → z ≡ cond x (answer_number (done 0)) (answer_number (refused 1)) → record { answer = z; image = after } ≡ opened image
   is_opened x e a = as_length x e a (eqb (length image) 4112) (sym e ∙ o.right) o.written
 
 -- what the first of the tests that applies refuses is refused whatever comes after them

@@ -23,7 +23,6 @@ use Rattle.graph.proofs.Sequences.{first_foremost, foremost_lowest, calls_rise, 
 use Rattle.lines.specs.Forms.{work, drain_form, step_keys, step_form_tests}
 use Rattle.text.specs.Text.{pasted}
 use Rattle.print.specs.Printed.{result_text}
-use Rattle.panel.specs.declared.returned.Returned.TheVariants.{Done, Refused}
 use Rattle.panel.specs.declared.tally.Tally.{Tally}
 use Rattle.panel.specs.Returned.{refusal_in}
 use Rattle.panel.specs.Returned as panel
@@ -31,7 +30,7 @@ use Rattle.listing.specs.Listed.{listing_of}
 use Rattle.host.specs.Entries.{call_served, step_served, claim_refused, claim_written, claim_served, list_refused}
 use Rattle.host.specs.Sequences.{Asked, calling, stepping, claiming, listing, is_short, tests_of, number_before, answer_to}
 
-refusal_back : (n : ℕ) → refusal_in (panel.returned_number (Refused n)) ≡ n
+refusal_back : (n : ℕ) → refusal_in (panel.answer_number (refused n)) ≡ n
 refusal_back zero = refl
 refusal_back (suc n) = refl
 
@@ -77,7 +76,7 @@ claim_first image out s l =
 list_first : (image out : List ℕ) (s : Session) → refusal_in (answer_to (listing out) image s) ≡ first_of (tests_of (listing out) s)
 list_first image out s = go (leb (length (listing_of s)) (length out))
   where
-    go : (b : Bool) → refusal_in (cond b (record { answer = panel.returned_number (Done (length (listing_of s))); output = pasted out 0 (listing_of s) }) (list_refused out 33)).answer ≡ cond (not b) 33 0
+    go : (b : Bool) → refusal_in (cond b (record { answer = panel.answer_number (done (length (listing_of s))); output = pasted out 0 (listing_of s) }) (list_refused out 33)).answer ≡ cond (not b) 33 0
     go true = refl
     go false = refl
 

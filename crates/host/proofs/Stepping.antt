@@ -20,19 +20,22 @@ use Rattle.graph.specs.Allowed.{from_key, units_of, allowed, tests, step_tests}
 use Rattle.graph.proofs.Verdicts.{step_number, step_done}
 use Rattle.graph.proofs.Drains.{drain_works}
 use Rattle.lines.specs.Forms.{StepForm, work, drain_form, step_keys, step_form_tests, IsStep}
-use Rattle.lines.specs.declared.step.StepLine.TheVariants.{Refused as LineRefused, Work, Drain as LineDrain}
+use Rattle.lines.specs.declared.step.StepRequest.TheVariants.{Work, Drain as LineDrain}
+use Rattle.std.specs.Prelude.{Result, Ok, Err}
+use Rattle.graph.specs.Refused.{refusal_number}
+use Rattle.graph.specs.declared.refusal.Refusal.{Refusal}
+use Rattle.calls.proofs.Refusing.{refusal_some}
 use Rattle.lines.specs.declared.step.WorkStep.{WorkStep}
 use Rattle.lines.specs.Inner.Answers.{step_named, StepRead}
-use Rattle.panel.specs.declared.returned.Returned.TheVariants.{Done, Refused}
 use Rattle.panel.specs.declared.tally.Tally.{Tally}
-use Rattle.panel.specs.Returned.{returned_number}
+use Rattle.panel.specs.Returned.{answer_number, returned_number}
 use Rattle.panel.specs.Tally.{raised, counted}
 use Rattle.valid.specs.Inner.Decoded.{session_of}
 use Rattle.state.specs.Inner.ValidImage.{image_after, Serves}
 use Rattle.session.specs.declared.drain.Counts.{Counts}
 use Rattle.session.specs.Inner.Drained.{Drains}
 use Rattle.host.specs.declared.step.LineTaken.{LineTaken}
-use Rattle.host.specs.declared.step.LineTaken.TheVariants.{Refused as TakenRefused, One, Drain}
+use Rattle.host.specs.declared.step.LineTaken.TheVariants.{One, Drain}
 use Rattle.host.specs.Entries.{ImageOf, served, step_refused, step_served, step_made, Steps}
 use Rattle.host.specs.Inner.Taking.{taken_answer, Takes}
 use Rattle.host.proofs.Entering.{unless_refused}
@@ -74,18 +77,18 @@ step_refused_law w s {n} e =
 
 -- what a line took, by what it was read as
 module _ (image line : List ℕ) (h : ImageOf image (session_of image)) where
-  pub line_refused : (n : ℕ) → StepRead line (LineRefused n) → Takes image line (TakenRefused n) image
-  line_refused n k t = refused_by_tests step_form_tests (IsStep line) h (form_refused image t (session_of image)) n k
+  pub line_refused : (r : Refusal) → StepRead line (Err r) → Takes image line (Err r) image
+  line_refused r k t = refused_by_tests step_form_tests (IsStep line) h (form_refused image t (session_of image)) (refusal_number r) k
 
-  pub line_drained : (after : List ℕ) (n : Counts) → StepRead line LineDrain → Drains image after n → Takes image line (Drain n) after
+  pub line_drained : (after : List ℕ) (n : Counts) → StepRead line (Ok LineDrain) → Drains image after n → Takes image line (Ok (Drain n)) after
   line_drained after n k d =
       let s : Session = session_of image in (
         (drain s).took,
         record { counts = d.counts; works = drain_works s },
-        λ t. served s h drain_form (passed step_form_tests (IsStep line) drain_form k).text (λ i. record { answer = returned_number (Done 0); image = d.image i; tally = counted t (drain s).took }),
+        λ t. served s h drain_form (passed step_form_tests (IsStep line) drain_form k).text (λ i. record { answer = answer_number (done 0); image = d.image i; tally = counted t (drain s).took }),
       )
 
-  module _ (after : List ℕ) (v : WorkStep) (n : ℕ) (k : StepRead line (Work v)) (s : Serves (step (step_named v) (session_of image)) image after n) where
+  module _ (after : List ℕ) (v : WorkStep) (n : ℕ) (k : StepRead line (Ok (Work v))) (s : Serves (step (step_named v) (session_of image)) image after n) where
     abbrev w : Step
     w = step_named v
 
@@ -99,22 +102,22 @@ module _ (image line : List ℕ) (h : ImageOf image (session_of image)) where
     serve : (t u : Tally) (z : ℤ) → record { answer = z; image = after; tally = u } ≡ step_served image t (w ∷ []) (step w (session_of image)) → Steps image line t (record { answer = z; image = after; tally = u })
     serve t u z e = served (session_of image) h (work w) (passed step_form_tests (IsStep line) (work w) k).text (e ∙ sym (ap (λ (x : Answer Session). step_served image t (w ∷ []) (and_then x (step w))) formed))
 
-    pub line_not_taken : (n ≡ 0 → ⊥) → Takes image line (TakenRefused n) after
-    line_not_taken ne t = serve t t (returned_number (Refused n)) (go (step w (session_of image)) s.number s.image)
+    pub line_not_taken : (r : Refusal) → refusal_number r ≡ n → Takes image line (Err r) after
+    line_not_taken r q t = serve t t (answer_number (refused (refusal_number r))) (go (step w (session_of image)) s.number s.image)
       where
-        go : (x : Answer Session) → n ≡ number_of x → after ≡ image_after x image → record { answer = returned_number (Refused n); image = after; tally = t } ≡ step_served image t (w ∷ []) x
-        go (refused m) e y = λ i. record { answer = returned_number (Refused (e i)); image = y i; tally = t }
-        go (done u) e y = absurd (ne e)
+        go : (x : Answer Session) → n ≡ number_of x → after ≡ image_after x image → record { answer = answer_number (refused (refusal_number r)); image = after; tally = t } ≡ step_served image t (w ∷ []) x
+        go (refused m) e y = λ i. record { answer = answer_number (refused ((q ∙ e) i)); image = y i; tally = t }
+        go (done u) e y = absurd (refusal_some r (q ∙ e))
 
-    pub line_taken : (place : ℕ) → n ≡ 0 → place ≡ tally_place w → Takes image line (One place) after
-    line_taken place o p t = serve t (raised t place 1) (returned_number (Done 0)) (go (step w (session_of image)) refl s.number s.image)
+    pub line_taken : (place : ℕ) → n ≡ 0 → place ≡ tally_place w → Takes image line (Ok (One place)) after
+    line_taken place o p t = serve t (raised t place 1) (answer_number (done 0)) (go (step w (session_of image)) refl s.number s.image)
       where
-        go : (x : Answer Session) → step w (session_of image) ≡ x → n ≡ number_of x → after ≡ image_after x image → record { answer = returned_number (Done 0); image = after; tally = raised t place 1 } ≡ step_served image t (w ∷ []) x
+        go : (x : Answer Session) → step w (session_of image) ≡ x → n ≡ number_of x → after ≡ image_after x image → record { answer = answer_number (done 0); image = after; tally = raised t place 1 } ≡ step_served image t (w ∷ []) x
         go (refused m) d e y = absurd (omega (arith, step_refused_law w (session_of image) d))
-        go (done u) d e y = λ i. record { answer = returned_number (Done 0); image = y i; tally = raised t (p i) 1 }
+        go (done u) d e y = λ i. record { answer = answer_number (done 0); image = y i; tally = raised t (p i) 1 }
 
 -- whatever tally is lent, some tally is left
-pub takes_steps : {image line after : List ℕ} (r : LineTaken) → Takes image line r after → (t : Tally) → (u : Tally) × Steps image line t (record { answer = returned_number (taken_answer r); image = after; tally = u })
-takes_steps (TakenRefused n) k t = (t, k t)
-takes_steps (One place) k t = (raised t place 1, k t)
-takes_steps (Drain c) k t = (counted t k.0, k.2 t)
+pub takes_steps : {image line after : List ℕ} (r : Result LineTaken Refusal) → Takes image line r after → (t : Tally) → (u : Tally) × Steps image line t (record { answer = returned_number (taken_answer r); image = after; tally = u })
+takes_steps (Err r) k t = (t, k t)
+takes_steps (Ok (One place)) k t = (raised t place 1, k t)
+takes_steps (Ok (Drain c)) k t = (counted t k.0, k.2 t)

@@ -11,9 +11,8 @@ use Rattle.graph.specs.Valid.{Valid}
 use Rattle.text.specs.Text.{pasted}
 use Rattle.lines.specs.Forms.{StepForm, work, drain_form, IsCall, IsStep, IsClaim, step_form_tests}
 use Rattle.print.specs.Printed.{result_text}
-use Rattle.panel.specs.declared.returned.Returned.TheVariants.{Done, Refused}
 use Rattle.panel.specs.declared.tally.Tally.{Tally}
-use Rattle.panel.specs.Returned.{returned_number}
+use Rattle.panel.specs.Returned.{answer_number}
 use Rattle.panel.specs.Tally.{counted}
 use Rattle.valid.specs.Values.{encode}
 use Rattle.listing.specs.Listed.{listing_of}
@@ -39,16 +38,16 @@ pub record Called : Type 0 where
 
 -- a refusal leaves the image as it was
 abbrev pub call_refused : List ℕ → ℕ → Called
-call_refused image n = record { answer = returned_number (Refused n); image = image }
+call_refused image n = record { answer = answer_number (refused n); image = image }
 
 -- "Opening writes the fresh one"; it tests the length only
 abbrev pub opened : List ℕ → Called
-opened image = cond (eqb (length image) 4112) (record { answer = returned_number (Done 0); image = encode fresh }) (call_refused image 1)
+opened image = cond (eqb (length image) 4112) (record { answer = answer_number (done 0); image = encode fresh }) (call_refused image 1)
 
 -- "Acceptance returns the label for a call"
 abbrev pub call_served : List ℕ → Answer Session → Called
 call_served image (refused n) = call_refused image n
-call_served image (done s) = record { answer = returned_number (Done s.last); image = encode s }
+call_served image (done s) = record { answer = answer_number (done s.last); image = encode s }
 
 abbrev pub Calls : (image line : List ℕ) → Called → Type 0
 Calls image line r = Enters image (IsCall line) (call_refused image) (λ s f. call_served image (accept f s)) r
@@ -61,12 +60,12 @@ pub record Stepped : Type 0 where
   pub tally : Tally
 
 abbrev pub step_refused : List ℕ → Tally → ℕ → Stepped
-step_refused image t n = record { answer = returned_number (Refused n); image = image; tally = t }
+step_refused image t n = record { answer = answer_number (refused n); image = image; tally = t }
 
 -- 0, and the steps that were taken are counted
 abbrev pub step_served : List ℕ → Tally → List Step → Answer Session → Stepped
 step_served image t took (refused n) = step_refused image t n
-step_served image t took (done s) = record { answer = returned_number (Done 0); image = encode s; tally = counted t took }
+step_served image t took (done s) = record { answer = answer_number (done 0); image = encode s; tally = counted t took }
 
 -- a work step, after the tests of its form; or drain, which "counts the steps it takes"
 abbrev pub step_made : List ℕ → Tally → Session → StepForm → Stepped
@@ -84,14 +83,14 @@ pub record ClaimMade : Type 0 where
   pub output : List ℕ
 
 abbrev pub claim_refused : List ℕ → List ℕ → ℕ → ClaimMade
-claim_refused image out n = record { answer = returned_number (Refused n); image = image; output = out }
+claim_refused image out n = record { answer = answer_number (refused n); image = image; output = out }
 
 -- the result's line is written at the start of the output, its length is given, and the session holds the result no more.
 -- "Bytes after a written line stay."
 abbrev pub claim_written : List ℕ → Session → Claimed → ClaimMade
 claim_written out s c =
     record {
-      answer = returned_number (Done (length (result_text c.result)));
+      answer = answer_number (done (length (result_text c.result)));
       image = encode (keeping s c.others);
       output = pasted out 0 (result_text c.result);
     }
@@ -114,13 +113,13 @@ pub record Listed : Type 0 where
   pub output : List ℕ
 
 abbrev pub list_refused : List ℕ → ℕ → Listed
-list_refused out n = record { answer = returned_number (Refused n); output = out }
+list_refused out n = record { answer = answer_number (refused n); output = out }
 
 -- "33 output shorter than the .. listing with newlines"
 abbrev pub list_served : List ℕ → Session → Listed
 list_served out s =
     cond (leb (length (listing_of s)) (length out))
-    (record { answer = returned_number (Done (length (listing_of s))); output = pasted out 0 (listing_of s) })
+    (record { answer = answer_number (done (length (listing_of s))); output = pasted out 0 (listing_of s) })
     (list_refused out 33)
 
 -- there is no line, and so one form

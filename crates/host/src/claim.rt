@@ -12,57 +12,48 @@ ghost use Rattle.session.specs.Inner.Claims.{Claimable};
 ghost use Rattle.host.specs.Entries.{ImageOf, claim_served, Claims};
 
 use crate::lent::image_refusal;
-use calls::claim::Claim;
-use lines::claim::{ClaimLine, parse_claim};
-use panel::returned::{Returned, returned_number};
+use graph::refusal::Refusal;
+use lines::claim::parse_claim;
+use panel::returned::returned_number;
 use print::lines::{put_result, result_len};
 use session::claims::{call_result, find, remove};
 use text::cut::part_to;
 
 // The line of the result at this place is written, and the session holds the result no more.
-fn claim_result(image: &mut [u8], at: usize, out: &mut [u8]) -> Returned
+fn claim_result(image: &mut [u8], at: usize, out: &mut [u8]) -> Result<u32, Refusal>
     requires { (ValidImage image.old) × (Claimable image.old at) }
     ensures { claim_served image.old out.old (session_of image.old) (done (taken_at at (flat_in image.old).results)) ≡ record { answer = returned_number result; image = image.new; output = out.new } }
 {
     let o = call_result(image, at);
-    let left = o.left;
-    let label = o.label as u32;
-    let n = result_len(label, o.value, left);
+    let label = u32::from(o.label);
+    let n = result_len(label, o.value, o.left);
     if n > out.len() {
-        return Returned::Refused(33);
+        return Err(Refusal::ShortOutput);
     }
-    put_result(out, 0, label, o.value, left);
+    put_result(out, 0, label, o.value, o.left);
     remove(image, at);
-    Returned::Done(n as u32)
+    Ok(n as u32)
 }
 
 // The claim of a label on the image of a session.
-fn claim_label(image: &mut [u8], claimed: u32, out: &mut [u8]) -> Returned
+fn claim_label(image: &mut [u8], claimed: u32, out: &mut [u8]) -> Result<u32, Refusal>
     requires { ImageOf image.old (session_of image.old) }
     ensures { record { answer = returned_number result; image = image.new; output = out.new } ≡ claim_served image.old out.old (session_of image.old) (claim claimed (session_of image.old)) }
 {
-    match find(image, claimed) {
-        Claim::Refused(n) => Returned::Refused(n),
-        Claim::At(at) => claim_result(image, at, out),
-    }
+    let at = find(image, claimed)?;
+    claim_result(image, at, out)
 }
 
-fn claim_line(image: &mut [u8], line: &[u8], out: &mut [u8]) -> Returned
+fn claim_line(image: &mut [u8], line: &[u8], out: &mut [u8]) -> Result<u32, Refusal>
     ensures { Claims image.old line.now out.old (record { answer = returned_number result; image = image.new; output = out.new }) }
 {
-    let refusal = image_refusal(image);
-    if refusal != 0 {
-        return Returned::Refused(refusal);
-    }
-    let c = parse_claim(line);
-    match c {
-        ClaimLine::Refused(n) => Returned::Refused(n),
-        ClaimLine::Label(label) => claim_label(image, label, out),
-    }
+    image_refusal(image)?;
+    let label = parse_claim(line)?;
+    claim_label(image, label, out)
 }
 
 // Writes the result that the line at a place of the frame claims, removes it, and gives the written length.
-pub fn claim_at(image: &mut [u8], frame: &[u8], at: usize, out: &mut [u8]) -> Returned
+pub fn claim_at(image: &mut [u8], frame: &[u8], at: usize, out: &mut [u8]) -> Result<u32, Refusal>
     ensures { Claims image.old (line_at frame.now at) out.old (record { answer = returned_number result; image = image.new; output = out.new }) }
 {
     claim_line(image, part_to(frame, at, b'\n'), out)

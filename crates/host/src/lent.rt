@@ -1,22 +1,24 @@
 // The lent image: opening it, and its own refusals.
+ghost use Rattle.graph.specs.Refused.{number_in};
 ghost use Rattle.host.specs.Entries.{opened};
 ghost use Rattle.host.specs.Inner.Tests.{Tested};
 ghost use Rattle.std.specs.Prelude.{◌≡◌};
 
-use panel::returned::{Returned, returned_number};
+use graph::refusal::Refusal;
+use panel::returned::returned_number;
 use valid::session::{image_valid, open};
 
-// 1 for another length, 2 for bytes that are the image of no session, 0 for the image of one.
-pub fn image_refusal(image: &[u8]) -> u32
-    ensures { Tested image.now result }
+// Refuses bytes of another length, or bytes that are the image of no session.
+pub fn image_refusal(image: &[u8]) -> Result<(), Refusal>
+    ensures { Tested image.now (number_in result) }
 {
     if image.len() != 4112 {
-        return 1;
+        return Err(Refusal::WrongLength);
     }
     if !image_valid(image) {
-        return 2;
+        return Err(Refusal::NotAnImage);
     }
-    0
+    Ok(())
 }
 
 // Writes the image of the fresh session, whatever the bytes were.
@@ -24,7 +26,7 @@ pub fn cg_open(image: &mut [u8]) -> i64
     ensures { record { answer = result; image = image.new } ≡ opened image.old }
 {
     if !open(image) {
-        return returned_number(Returned::Refused(1));
+        return returned_number(Err(Refusal::WrongLength));
     }
-    returned_number(Returned::Done(0))
+    returned_number(Ok(0))
 }

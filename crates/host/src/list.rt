@@ -3,24 +3,22 @@ ghost use Rattle.panel.specs.Returned.{returned_number};
 ghost use Rattle.host.specs.Entries.{Lists};
 
 use crate::lent::image_refusal;
+use graph::refusal::Refusal;
 use listing::measure::listing_len;
 use listing::write::put_listing;
-use panel::returned::{Returned, returned_number};
+use panel::returned::returned_number;
 
 // Writes the listing, and gives the written length.
-pub fn list(image: &[u8], out: &mut [u8]) -> Returned
+pub fn list(image: &[u8], out: &mut [u8]) -> Result<u32, Refusal>
     ensures { Lists image.now out.old (record { answer = returned_number result; output = out.new }) }
 {
-    let refusal = image_refusal(image);
-    if refusal != 0 {
-        return Returned::Refused(refusal);
-    }
+    image_refusal(image)?;
     let n = listing_len(image);
     if n > out.len() {
-        return Returned::Refused(33);
+        return Err(Refusal::ShortOutput);
     }
     put_listing(out, image);
-    Returned::Done(n as u32)
+    Ok(n as u32)
 }
 
 // The same, by number.

@@ -1,11 +1,10 @@
 -- The rows of the flat session, and its listing, which is the session's.
 -- Assumes nothing.
-use Prim.Native.Nat.{ℕ, suc, ◌+◌, ◌≤◌, ◌<◌}
+use Prim.Native.Nat.{ℕ, ◌+◌, ◌≤◌}
 use mathlib.Core.Path.{◌≡◌, refl, sym, ap, ◌∙◌}
 use mathlib.Core.List.{List, [], ◌∷◌, ◌++◌, append_assoc, map, reverse, reverse-append}
 use native.Mathlib.Omega.{arith}
-use lib.ListN.{length, get_or, length-append, length-map, length-reverse, get_or-append}
-use lib.Seq.{get_or-append-add}
+use lib.ListN.{length, length-reverse}
 use Rattle.graph.specs.Nodes.{Node}
 use Rattle.graph.specs.Sessions.{Station, Session, graph_of, pending}
 use Rattle.graph.proofs.Labels.{one, total_one}
@@ -13,55 +12,15 @@ use Rattle.flat.specs.Flat.{Flat, flat, nodes_of}
 use Rattle.flat.specs.Inner.Nested.{nest}
 use Rattle.flat.specs.Inner.Queues.{queued}
 use Rattle.flat.proofs.Labels.{pending_same}
-use Rattle.flat.specs.Inner.FlatSteps.{no_node}
 use Rattle.text.specs.Text.{texts}
 use Rattle.print.specs.Printed.{head_text, node_text, result_text}
-use Rattle.print.specs.Inner.Values.{node_by_value, result_by_value}
 use Rattle.valid.specs.Inner.Decoded.{session_of}
 use Rattle.state.specs.Inner.State.{flat_in}
-use Rattle.state.specs.Inner.Results.{IsBody, IsCallResult, no_result}
-use Rattle.state.specs.declared.nodes.Body.{Body}
-use Rattle.state.specs.declared.results.CallResult.{CallResult}
-use Rattle.state.proofs.Holding.{get_d_of}
 use Rattle.state.specs.Inner.ValidImage.{ValidImage}
 use Rattle.state.proofs.Serving.{session_held}
 use Rattle.listing.specs.Listed.{listing_of}
 use Rattle.listing.specs.Inner.Rows.{head_line, rows_of, joined}
-use Rattle.listing.proofs.Joined.{joined_append, joined_map, get_d_back}
-
-pub head_counted : (f : Flat) {n m k : ℕ} → n ≡ length f.nodes → m ≡ length f.results → k ≡ length (queued f.queue) → head_text n m k ≡ head_line f
-head_counted f a b c i = head_text (a i) (b i) (c i)
-
--- THE ROWS of the flat session
-module _ (f : Flat) where
-  pub rows_length : length (rows_of f) ≡ length f.nodes + length f.results
-  rows_length =
-      omega (
-        arith,
-        length-append (map node_text (reverse f.nodes)) (map result_text f.results),
-        length-map (reverse f.nodes) node_text,
-        length-reverse f.nodes,
-        length-map f.results result_text,
-      )
-
-  nodes_first : length (map node_text (reverse f.nodes)) ≡ length f.nodes
-  nodes_first = length-map (reverse f.nodes) node_text ∙ length-reverse f.nodes
-
-  pub row_node : (i k : ℕ) (b : Body) → i + suc k ≡ length f.nodes → IsBody (get_or f.nodes k no_node) b → node_text (node_by_value b.key b.value b.links) ≡ get_or (rows_of f) i []
-  row_node i k b e g =
-      let node : node_by_value b.key b.value b.links ≡ get_or f.nodes k no_node = λ j. record { key = g.key j; value = g.value j; links = g.links.is j } in
-      ap node_text (node ∙ sym (get_d_back f.nodes i k no_node e))
-      ∙ sym (get_d_of node_text (reverse f.nodes) i no_node [] (omega (arith, length-reverse f.nodes)))
-      ∙ sym (get_or-append (map node_text (reverse f.nodes)) (map result_text f.results) [] i (omega (arith, nodes_first)))
-
-  pub row_result : (i k : ℕ) (r : CallResult) → i ≡ length f.nodes + k → k < length f.results → IsCallResult (get_or f.results k no_result) r → result_text (result_by_value r.label r.value r.left) ≡ get_or (rows_of f) i []
-  row_result i k r e h g =
-      let result : result_by_value r.label r.value r.left ≡ get_or f.results k no_result = λ j. record { label = g.label j; value = g.value j; left = g.left.is j } in
-      let place : length (map node_text (reverse f.nodes)) + k ≡ i = omega (arith, nodes_first) in
-      ap result_text result
-      ∙ sym (get_d_of result_text f.results k no_result [] h)
-      ∙ sym (get_or-append-add (map node_text (reverse f.nodes)) (map result_text f.results) k [])
-      ∙ ap (λ (j : ℕ). get_or (rows_of f) j []) place
+use Rattle.listing.proofs.Joined.{joined_append, joined_map}
 
 -- the flat session's listing
 abbrev pub flat_listing : Flat → List ℕ

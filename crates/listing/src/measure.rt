@@ -13,23 +13,19 @@ use waiting::labels_waiting;
 fn row_len(row: Row) -> usize
     ensures { LineLength (row_text row) result }
 {
-    let keys = row.keys;
-    if row.node {
-        return node_len(row.name, row.value, keys);
+    match row {
+        Row::Node(n) => node_len(u32::from(n.key), n.value, n.links),
+        Row::Result(r) => result_len(u32::from(r.label), r.value, r.left),
     }
-    result_len(row.name, row.value, keys)
 }
 
 fn rows_len(image: &[u8]) -> usize
     requires { Proper image.now }
     ensures { RowsLength (joined (rows_of (flat_in image.now))) result }
 {
-    let n = rows_total(image);
-    let mut sum: usize = 0;
-    let mut i: usize = 0;
-    while i < n {
+    let mut sum = 0;
+    for i in 0..rows_total(image) {
         sum += row_len(row_at(image, i));
-        i += 1;
     }
     sum
 }

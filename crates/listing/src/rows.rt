@@ -4,16 +4,14 @@ ghost use Rattle.state.specs.Inner.Operations.{Bounded};
 ghost use Rattle.state.specs.Inner.State.{flat_in, Proper};
 ghost use Rattle.listing.specs.Inner.Rows.{row_text, rows_of};
 
-use graph::keys::Keys;
+use state::nodes::Body;
+use state::results::CallResult;
 use state::{nodes, results};
 
-// A node's key, value and links, or a result's label, value and keys left.
 #[derive(Clone, Copy)]
-pub struct Row {
-    pub node: bool,
-    pub name: u32,
-    pub value: u32,
-    pub keys: Keys,
+pub enum Row {
+    Node(Body),
+    Result(CallResult),
 }
 
 pub fn rows_total(image: &[u8]) -> usize
@@ -30,21 +28,8 @@ pub fn row_at(image: &[u8], i: usize) -> Row
 {
     let n = nodes::total(image);
     if i < n {
-        let b = nodes::body_at(image, n - 1 - i);
-        let links = b.links;
-        return Row {
-            node: true,
-            name: b.key as u32,
-            value: b.value,
-            keys: links,
-        };
-    }
-    let o = results::call_result_at(image, i - n);
-    let left = o.left;
-    Row {
-        node: false,
-        name: o.label as u32,
-        value: o.value,
-        keys: left,
+        Row::Node(nodes::body_at(image, n - 1 - i))
+    } else {
+        Row::Result(results::call_result_at(image, i - n))
     }
 }

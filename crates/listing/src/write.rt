@@ -16,23 +16,19 @@ fn put_row(out: &mut [u8], at: usize, row: Row) -> usize
     requires { at + length (row_text row) ≤ length out.old }
     ensures { TextPut out.old at (row_text row) out.new result }
 {
-    let keys = row.keys;
-    if row.node {
-        return put_node(out, at, row.name, row.value, keys);
+    match row {
+        Row::Node(n) => put_node(out, at, u32::from(n.key), n.value, n.links),
+        Row::Result(r) => put_result(out, at, u32::from(r.label), r.value, r.left),
     }
-    put_result(out, at, row.name, row.value, keys)
 }
 
 fn put_rows(out: &mut [u8], at: usize, image: &[u8]) -> usize
     requires { (Proper image.now) × (at + length (joined (rows_of (flat_in image.now))) ≤ length out.old) }
     ensures { TextPut out.old at (joined (rows_of (flat_in image.now))) out.new result }
 {
-    let n = rows_total(image);
     let mut p = at;
-    let mut i: usize = 0;
-    while i < n {
+    for i in 0..rows_total(image) {
         p = put_row(out, p, row_at(image, i));
-        i += 1;
     }
     p
 }

@@ -1,13 +1,13 @@
 -- Bounds of what is drawn: at most eight targets, at most 56 bytes for a line.
 -- Assumes nothing.
-use Prim.Native.Nat.{ℕ, zero, suc, ◌+◌, ◌*◌, ◌-◌, ◌≤◌}
+use Prim.Native.Nat.{ℕ, zero, suc, ◌+◌, ◌*◌, ◌-◌, ◌<◌, ◌≤◌}
 use mathlib.Core.Path.{◌≡◌, refl, ap, ◌∙◌}
 use mathlib.Core.List.{[], ◌++◌}
 use native.Mathlib.Omega.{arith}
 use lib.ListN.{length, length-append}
 use Rattle.text.specs.Text.{ascii, decimal, commas}
 use Rattle.text.proofs.Decimals.{len_two, len_five}
-use Rattle.lines.proofs.Lengths.{commas_short}
+use Rattle.text.proofs.CommaLists.{commas_short}
 use Rattle.load.specs.declared.kind.Kind.{Kind}
 use Rattle.load.specs.declared.kind.Kind.TheVariants.{Add, Map, Link, Unlink, Sum, Top, Pick, Near}
 use Rattle.load.specs.Load.{next, after, drawn, key_drawn, keys_drawn, list_length, targets_drawn, call_of, call_drawn, kind_of, line_text, load_text}
@@ -46,7 +46,7 @@ load_next : (s n : ℕ) → load_text s (suc n) ≡ line_text (call_drawn s).cal
 unfolding load_text
 load_next s n = refl
 
-pub load_none : (s : ℕ) → load_text s 0 ≡ []
+load_none : (s : ℕ) → load_text s 0 ≡ []
 unfolding load_text
 load_none s = refl
 
@@ -61,9 +61,13 @@ load_short s (suc n) =
       load_short (call_drawn s).state n,
     )
 
--- the same, by the number of lines
-pub load_first : (s n : ℕ) → 1 ≤ n → load_text s n ≡ line_text (call_drawn s).call ++ load_text (call_drawn s).state (n - 1)
-load_first s n h = let m : n ≡ suc (n - 1) = omega arith in ap (load_text s) m ∙ load_next s (n - 1)
+-- the same after i of n lines
+pub load_first : (s n i : ℕ) → i < n → load_text s (n - i) ≡ line_text (call_drawn s).call ++ load_text (call_drawn s).state (n - (i + 1))
+load_first s n i h = let m : n - i ≡ suc (n - (i + 1)) = omega arith in ap (load_text s) m ∙ load_next s (n - (i + 1))
 
-pub first_length : (s n : ℕ) → 1 ≤ n → length (load_text s n) ≡ length (line_text (call_drawn s).call) + length (load_text (call_drawn s).state (n - 1))
-first_length s n h = ap length (load_first s n h) ∙ length-append (line_text (call_drawn s).call) (load_text (call_drawn s).state (n - 1))
+pub first_length : (s n i : ℕ) → i < n → length (load_text s (n - i)) ≡ length (line_text (call_drawn s).call) + length (load_text (call_drawn s).state (n - (i + 1)))
+first_length s n i h = ap length (load_first s n i h) ∙ length-append (line_text (call_drawn s).call) (load_text (call_drawn s).state (n - (i + 1)))
+
+-- after all of them
+pub load_over : (s n i : ℕ) → n ≤ i → load_text s (n - i) ≡ []
+load_over s n i h = let m : n - i ≡ 0 = omega arith in ap (load_text s) m ∙ load_none s

@@ -2,7 +2,6 @@ pub mod AcceptedLines
 pub mod Cases
 pub mod Drawing
 pub mod Lengths
-pub mod LineTexts
 pub mod Loading
 pub mod Sorting
 pub mod Writing

@@ -103,11 +103,3 @@ sorted_keys ks = kept_keys 64 1 ks (omega arith) (omega arith)
 pub sorted_rising : (ks : List ℕ) → rising (sorted ks) ≡ true
 unfolding sorted
 sorted_rising ks = rising_above 0 (kept_from 64 1 ks) (kept_above 64 0 1 ks (omega arith))
-
-pub kept_nothing : (ks : List ℕ) → [] ≡ kept_from 0 1 ks
-unfolding kept_from
-kept_nothing ks = refl
-
-pub sorted_is : (ks : List ℕ) → kept_from 64 1 ks ≡ sorted ks
-unfolding sorted
-sorted_is ks = refl

@@ -5,8 +5,8 @@ use Rattle.graph.specs.Calls.{add, link, top, pick, near}
 use Rattle.graph.specs.Targets.{named}
 use Rattle.text.specs.Text.{ascii}
 use Rattle.print.specs.Printed.{newline}
-use Rattle.panel.specs.declared.returned.Returned.TheVariants.{Done, Refused}
-use Rattle.panel.specs.Returned.{returned_number}
+use Rattle.graph.specs.Refusals.{refused, done}
+use Rattle.panel.specs.Returned.{answer_number}
 use Rattle.load.specs.declared.kind.Kind.TheVariants.{Pick}
 use Rattle.load.specs.Load.{drawn, kind_of, load, load_text}
 use Rattle.load.specs.Entry.{loaded}
@@ -29,8 +29,8 @@ pub record Cases : Type 0 where
   pub longest : load 1762 1 ≡ near 62 18055 (named (13 ∷ 24 ∷ 25 ∷ 31 ∷ 37 ∷ 38 ∷ 42 ∷ 59 ∷ [])) ∷ []
   pub longest_text : length (load_text 1762 1) ≡ 56
   -- the line and its newline are written, and two bytes more stay
-  pub served : loaded 1 1 (replicate 23 35) ≡ record { answer = returned_number (Done 21); output = ascii "call=add value=24200" ++ newline ++ ascii "##" }
+  pub served : loaded 1 1 (replicate 23 35) ≡ record { answer = answer_number (done 21); output = ascii "call=add value=24200" ++ newline ++ ascii "##" }
   -- "46 a count above 64, then with 47 an output shorter than the lines"; no line at all needs no room
-  pub no_lines : loaded 0 0 [] ≡ record { answer = returned_number (Done 0); output = [] }
-  pub many : loaded 0 65 [] ≡ record { answer = returned_number (Refused 46); output = [] }
-  pub no_room : loaded 0 1 [] ≡ record { answer = returned_number (Refused 47); output = [] }
+  pub no_lines : loaded 0 0 [] ≡ record { answer = answer_number (done 0); output = [] }
+  pub many : loaded 0 65 [] ≡ record { answer = answer_number (refused 46); output = [] }
+  pub no_room : loaded 0 1 [] ≡ record { answer = answer_number (refused 47); output = [] }

@@ -20,24 +20,18 @@ pub struct DrawnCall {
 }
 
 // The call with targets drawn from this state on.
+#[tactic(auto, using(graph::proofs::KeyLaws::listed_packed))]
 fn with_targets(kind: Kind, x: u32, y: u32, state: u32) -> DrawnCall
     ensures { CallWith kind x y state result }
 {
     let t = targets_drawn(state);
-    let keys = t.keys;
     DrawnCall {
-        kind: kind,
-        x: x,
-        y: y,
-        to: keys,
+        kind,
+        x,
+        y,
+        to: t.keys,
         state: t.state,
     }
-}
-
-fn wide(x: u8) -> u32
-    ensures { result ≡ x }
-{
-    x as u32
 }
 
 // The fields in line order: the first draw picked the kind, so they begin with the second.
@@ -48,19 +42,16 @@ fn call_of(kind: Kind, state: u32) -> DrawnCall
     let third = next(second);
     match kind {
         Kind::Add => DrawnCall {
-            kind: kind,
+            kind,
             x: draw(second),
             y: 0,
             to: Keys::none(),
             state: second,
         },
         Kind::Map => with_targets(kind, draw(second), draw(third), third),
-        Kind::Link => with_targets(kind, wide(key(second)), 0, second),
-        Kind::Unlink => with_targets(kind, wide(key(second)), 0, second),
-        Kind::Sum => with_targets(kind, draw(second), 0, second),
-        Kind::Top => with_targets(kind, draw(second), 0, second),
-        Kind::Pick => with_targets(kind, draw(second), 0, second),
-        Kind::Near => with_targets(kind, wide(key(second)), draw(third), third),
+        Kind::Link | Kind::Unlink => with_targets(kind, u32::from(key(second)), 0, second),
+        Kind::Sum | Kind::Top | Kind::Pick => with_targets(kind, draw(second), 0, second),
+        Kind::Near => with_targets(kind, u32::from(key(second)), draw(third), third),
     }
 }
 

@@ -5,6 +5,7 @@ ghost use Rattle.load.specs.Load.{next, draw, key_of};
 use graph::affine::mul_add;
 
 // The state after `state`.
+#[tactic(auto, unfolding(crate::specs::Load::next))]
 pub fn next(state: u32) -> u32
     ensures { result ≡ next state }
 {
@@ -12,6 +13,7 @@ pub fn next(state: u32) -> u32
 }
 
 // The state's upper half.
+#[tactic(auto, unfolding(crate::specs::Load::draw))]
 pub fn draw(state: u32) -> u32
     ensures { result ≡ draw state }
 {

@@ -5,20 +5,20 @@ ghost use Rattle.load.specs.Inner.Values.{LoadReturned};
 
 use crate::measure::fits;
 use crate::write::put_load;
-use panel::returned::{Returned, returned_number};
+use graph::refusal::Refusal;
+use panel::returned::returned_number;
 
 // Writes the lines of a seed, and gives the written length.
-pub fn load(seed: u32, count: u32, out: &mut [u8]) -> Returned
+pub fn load(seed: u32, count: u32, out: &mut [u8]) -> Result<u32, Refusal>
     ensures { LoadReturned seed count out.old result out.new }
 {
     if 64 < count {
-        return Returned::Refused(46);
+        return Err(Refusal::LoadTooLong);
     }
     if !fits(seed, count, out.len()) {
-        return Returned::Refused(47);
+        return Err(Refusal::ShortForLoad);
     }
-    let n = put_load(out, seed, count);
-    Returned::Done(n as u32)
+    Ok(put_load(out, seed, count) as u32)
 }
 
 // The same, by number.

@@ -2,7 +2,7 @@
 ghost use Rattle.std.specs.Prelude.{◌≡◌};
 ghost use Rattle.load.specs.Load.{kind_of};
 
-// Document 01's calls, in its order. Later forms are never made.
+// Document 01's calls, in its order. A later form, which lines' `CallKind` has too, is never made.
 #[derive(Clone, Copy)]
 pub enum Kind {
     Add,
@@ -15,17 +15,19 @@ pub enum Kind {
     Near,
 }
 
+const KINDS: [Kind; 8] = [
+    Kind::Add,
+    Kind::Map,
+    Kind::Link,
+    Kind::Unlink,
+    Kind::Sum,
+    Kind::Top,
+    Kind::Pick,
+    Kind::Near,
+];
+
 pub fn kind_of(draw: u32) -> Kind
     ensures { result ≡ kind_of draw }
 {
-    match draw % 8 {
-        0 => Kind::Add,
-        1 => Kind::Map,
-        2 => Kind::Link,
-        3 => Kind::Unlink,
-        4 => Kind::Sum,
-        5 => Kind::Top,
-        6 => Kind::Pick,
-        _ => Kind::Near,
-    }
+    KINDS[draw as usize % 8]
 }

@@ -14,13 +14,11 @@ fn load_len(seed: u32, count: u32) -> usize
 {
     let mut line = [0u8; LINE];
     let mut state = seed;
-    let mut left = count;
     let mut sum: usize = 0;
-    while 0 < left {
+    for _ in 0..count {
         let w = put_drawn(&mut line, 0, state);
         sum += w.at;
         state = w.state;
-        left -= 1;
     }
     sum
 }
@@ -30,8 +28,5 @@ pub fn fits(seed: u32, count: u32, room: usize) -> bool
     requires { count ≤ 64 }
     ensures { result ≡ leb (length (load_text seed count)) room }
 {
-    if 3584 <= room {
-        return true;
-    }
-    load_len(seed, count) <= room
+    64 * LINE <= room || load_len(seed, count) <= room
 }

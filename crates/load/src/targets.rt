@@ -21,16 +21,11 @@ fn keys_drawn(n: u32, state: u32) -> DrawnKeys
 {
     let mut keys = Keys::none();
     let mut s = state;
-    let mut i: u32 = 0;
-    while i < n {
+    for _ in 0..n {
         s = next(s);
         keys = keys.linked(key(s));
-        i += 1;
     }
-    DrawnKeys {
-        keys: keys,
-        state: s,
-    }
+    DrawnKeys { keys, state: s }
 }
 
 // A key that was drawn twice is found once.
@@ -38,27 +33,23 @@ fn sorted(drawn: Keys) -> Keys
     ensures { result ≡ packed (sorted (listed drawn)) }
 {
     let mut keys = Keys::none();
-    let mut k: u8 = 1;
-    while k <= 64 {
+    for k in 1..=64 {
         if drawn.contains(k) {
             keys = keys.linked(k);
-            k += 1;
-        } else {
-            k += 1;
         }
     }
     keys
 }
 
 // A target list drawn from this state on.
+#[tactic(auto, using(graph::proofs::KeyLaws::listed_packed))]
 pub fn targets_drawn(state: u32) -> DrawnKeys
     ensures { TargetsAre state result }
 {
     let first = next(state);
     let d = keys_drawn(draw(first) % 9, first);
-    let keys = d.keys;
     DrawnKeys {
-        keys: sorted(keys),
+        keys: sorted(d.keys),
         state: d.state,
     }
 }

@@ -16,6 +16,7 @@ use print::lines::{put_field, put_line};
 use text::put::put_bytes;
 
 // Writes a number after its name, the targets and a newline.
+#[tactic(auto, unfolding(text::specs::Text::ascii))]
 fn put_one(out: &mut [u8], at: usize, name: &[u8], x: u32, to: Keys) -> usize
     requires { at + length (numbered name.now x ++ ascii " to=" ++ commas (listed to) ++ newline) ≤ length out.old }
     ensures { TextPut out.old at (numbered name.now x ++ ascii " to=" ++ commas (listed to) ++ newline) out.new result }
@@ -26,6 +27,7 @@ fn put_one(out: &mut [u8], at: usize, name: &[u8], x: u32, to: Keys) -> usize
     put_bytes(out, r, b"\n")
 }
 
+#[tactic(auto, unfolding(text::specs::Text::ascii))]
 fn put_add(out: &mut [u8], at: usize, value: u32) -> usize
     requires { at + length (numbered (ascii "call=add value=") value ++ newline) ≤ length out.old }
     ensures { TextPut out.old at (numbered (ascii "call=add value=") value ++ newline) out.new result }
@@ -35,6 +37,7 @@ fn put_add(out: &mut [u8], at: usize, value: u32) -> usize
 }
 
 // Writes a call's line from `at` on, and returns the place after it.
+#[tactic(auto, unfolding(text::specs::Text::ascii))]
 fn put_call(out: &mut [u8], at: usize, kind: Kind, x: u32, y: u32, to: Keys) -> usize
     requires { at + length (line_text (call_made kind x y (named (listed to)))) ≤ length out.old }
     ensures { TextPut out.old at (line_text (call_made kind x y (named (listed to)))) out.new result }
@@ -64,11 +67,8 @@ pub fn put_drawn(out: &mut [u8], at: usize, state: u32) -> Written
     ensures { LineWritten out.old at state out.new result }
 {
     let c = call_drawn(state);
-    let kind = c.kind;
-    let to = c.to;
-    let p = put_call(out, at, kind, c.x, c.y, to);
     Written {
-        at: p,
+        at: put_call(out, at, c.kind, c.x, c.y, c.to),
         state: c.state,
     }
 }
@@ -79,13 +79,11 @@ pub fn put_load(out: &mut [u8], seed: u32, count: u32) -> usize
     ensures { TextPut out.old 0 (load_text seed count) out.new result }
 {
     let mut state = seed;
-    let mut left = count;
     let mut p: usize = 0;
-    while 0 < left {
+    for _ in 0..count {
         let w = put_drawn(out, p, state);
         p = w.at;
         state = w.state;
-        left -= 1;
     }
     p
 }

@@ -1,11 +1,12 @@
 -- Lists of bytes cut after an equals sign: where the cut of one list is that of another.
 -- Assumes nothing.
-use Prim.Native.Nat.{ℕ, suc, ◌+◌, ◌-◌, ◌<◌, ◌≤◌}
+use Prim.Native.Nat.{ℕ, suc, ◌+◌, ◌<◌, ◌≤◌}
 use mathlib.Core.Path.{◌≡◌, refl, sym, ap, ◌∙◌}
 use mathlib.Core.List.{List, [], ◌∷◌, ◌++◌, append-nil, append_assoc}
 use native.Mathlib.Omega.{arith}
-use lib.ListN.{length, take, drop, get_or, length-append}
-use lib.Seq.{take-suc, drop-cons, drop-length}
+use lib.ListN.{length, take, drop, get_or, length-append, length-drop}
+use lib.Seq.{take-suc, get_or-drop, get_or-append-add}
+use native.Mathlib.Numerals.{add-one}
 use Rattle.keylists.specs.Inner.ListsRead.{last_or}
 use Rattle.longlines.specs.Inner.LongLines.{EndsInEquals, NoEquals, CutAt, Far}
 
@@ -99,22 +100,24 @@ far_more front rest piece long far a b e = go (cuts rest piece a (61 ∷ b) e)
     go (before z p q) = omega (arith, ap length p, length-append rest z)
     go (behind z p q) = inside z p q
 
--- ---- the search for the cut, from the end
+-- ---- the cut behind the last equals sign
 
-module _ (l : List ℕ) (at : ℕ) (within : at ≤ length l) (none : NoEquals (drop at l)) where
-  pub not_here : 0 < at → (get_or l (at - 1) 0 ≡ 61 → ⊥) → NoEquals (drop (at - 1) l)
-  not_here h ne =
-      let e : suc (at - 1) ≡ at = omega arith in
-      rw (drop-cons l (at - 1) 0 (omega arith)) (without_cons (get_or l (at - 1) 0) (drop (suc (at - 1)) l) ne (rw e none))
+module _ (l : List ℕ) where
+  no_equals : (at : ℕ) → ((j : ℕ) → at ≤ j → j < length l → get_or l j 0 ≡ 61 → ⊥) → NoEquals (drop at l)
+  no_equals at n a b e =
+      let i : length a < length (drop at l) = omega (arith, ap length e, length-append a (61 ∷ b)) in
+      let z : length a ≡ length a + 0 = omega arith in
+      let h : get_or (drop at l) (length a) 0 ≡ 61 = ap (λ (r : List ℕ). get_or r (length a) 0) e ∙ ap (λ (n : ℕ). get_or (a ++ 61 ∷ b) n 0) z ∙ get_or-append-add a (61 ∷ b) 0 0 in
+      n (at + length a) (omega arith) (omega (arith, length-drop at l)) (sym (get_or-drop at l (length a) 0) ∙ h)
 
-  pub cut_here : 0 < at → get_or l (at - 1) 0 ≡ 61 → CutAt l at
-  cut_here h e =
-      let n : suc (at - 1) ≡ at = omega arith in
-      let t : take at l ≡ take (at - 1) l ++ get_or l (at - 1) 0 ∷ [] = ap (λ (k : ℕ). take k l) (sym n) ∙ take-suc l (at - 1) 0 (omega arith) in
-      record { within = within; ends = ap (last_or 61) t ∙ last_or_append 61 (take (at - 1) l) (get_or l (at - 1) 0 ∷ []) ∙ e; none = none }
+  pub last_equals : (k : ℕ) → k < length l → get_or l k 0 ≡ 61 → ((j : ℕ) → k + 1 ≤ j → j < length l → get_or l j 0 ≡ 61 → ⊥) → CutAt l (k + 1)
+  last_equals k h e n =
+      let t : take (k + 1) l ≡ take k l ++ get_or l k 0 ∷ [] = rw add-one (take-suc l k 0 h) in
+      record {
+        within = omega arith;
+        ends = ap (last_or 61) t ∙ last_or_append 61 (take k l) (get_or l k 0 ∷ []) ∙ e;
+        none = no_equals (k + 1) n;
+      }
 
-  pub no_cut : at ≤ 0 → CutAt l 0
-  no_cut h = let z : at ≡ 0 = omega arith in record { within = omega arith; ends = refl; none = rw z at none }
-
-pub search_all : (l : List ℕ) → NoEquals (drop (length l) l)
-search_all l = rw (drop-length l) without_nil
+  pub no_equals_sign : ((j : ℕ) → j < length l → get_or l j 0 ≡ 61 → ⊥) → CutAt l 0
+  no_equals_sign n = record { within = omega arith; ends = refl; none = no_equals 0 (λ j z h. n j h) }

@@ -7,7 +7,9 @@ use native.Mathlib.Omega.{arith}
 use lib.ListN.{length, take, drop, length-append, take-append-drop}
 use Rattle.keylists.specs.Inner.ListsRead.{ReadSoFar}
 use Rattle.lines.specs.Inner.Answers.{CallRead}
-use Rattle.lines.specs.declared.call.CallLine.{CallLine}
+use Rattle.graph.specs.declared.refusal.Refusal.{Refusal}
+use Rattle.std.proofs.Common.{Result}
+use Rattle.lines.specs.declared.call.Call.{Call as Asked}
 use Rattle.longlines.specs.Inner.LongLines.{CutAt, LongOf}
 use Rattle.longlines.specs.declared.longline.LongLine.{LongLine}
 use Rattle.longlines.proofs.Cuts.{far_more}
@@ -47,7 +49,7 @@ goes_on_law line piece l r g few s d n =
         parts = ap (λ (q : List ℕ). q ++ piece) k.parts ∙ append_assoc k.front k.rest piece;
         ends = k.ends;
         far = far_more k.front k.rest piece (omega (arith, g.long, ap length k.parts, length-append k.front k.rest)) k.far;
-        start = subst (λ (q : CallLine). CallRead k.front q) (sym s) k.start;
+        start = subst (λ (q : Result Asked Refusal). CallRead k.front q) (sym s) k.start;
         list = d k.rest k.list;
       };
     }

@@ -3,4 +3,3 @@ pub mod Fronts
 pub mod Texts
 pub mod Answers
 pub mod Kept
-pub mod InLines

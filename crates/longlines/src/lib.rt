@@ -3,4 +3,3 @@
 #![tactic(auto)]
 
 pub mod longline;
-pub mod made;

@@ -23,7 +23,7 @@ use Rattle.text.proofs.Splits.{split, part_is, from_eq}
 use Rattle.text.proofs.CommaLists.{commas_inj, commas_clean}
 use Rattle.keylists.specs.Inner.ListsRead.{Below, KeysOf}
 use Rattle.keylists.specs.declared.keylist.KeyList.{KeyList}
-use Rattle.keylists.proofs.Lengths.{commas_short}
+use Rattle.text.proofs.CommaLists.{commas_short}
 use Rattle.pagelines.specs.Page.{set_right, set_left}
 use Rattle.pagelines.specs.Inner.Columns.{past_blanks, Stands, Missing, InColumns, number_text, NumberRight, LinkList, links_text}
 use Rattle.pagelines.proofs.Widths.{length_right, length_left}

@@ -10,7 +10,7 @@ use Rattle.graph.specs.Valid.{Each}
 use Rattle.graph.proofs.KeyLaws.{key_high}
 use Rattle.text.specs.Text.{ascii, decimal, commas, texts}
 use Rattle.text.proofs.Decimals.{len_two, len_ten}
-use Rattle.keylists.proofs.Lengths.{commas_short}
+use Rattle.text.proofs.CommaLists.{commas_short}
 use Rattle.pagelines.specs.Page.{set_right, set_left, page_head, page_line, page_text, PageNode}
 
 pub length_right : (columns : ℕ) (text : List ℕ) → length text ≤ columns → length (set_right columns text) ≡ columns

@@ -22,10 +22,10 @@ use Rattle.program.specs.Inner.Frames.{Served, Ended}
 use Rattle.pieces.specs.Inner.Serving.{LongOfSome}
 use Rattle.pieces.specs.Inner.Frames.{LinesTaken, LinesServed}
 use Rattle.pieces.specs.Inner.Feeding.{KeptOf, bytes, long, InputTaken, SomeTaken, piece_in, BytesFed, AllServed}
-use Rattle.pieces.specs.declared.frame.FramePlace.{FramePlace}
+use Rattle.program.specs.declared.frame.FramePlace.{FramePlace}
 use Rattle.pieces.specs.declared.between.State.{State}
 use Rattle.pieces.proofs.InputLines.{up_to_on, no_newline, last_line, run_append, taken_none, taken_more, taken_line}
-use Rattle.pieces.proofs.Framing.{behind}
+use Rattle.program.proofs.Framing.{behind}
 
 -- ---- parts of the line buffer
 

@@ -6,25 +6,11 @@ ghost use Rattle.pieces.specs.Inner.Serving.{LongOfSome};
 ghost use Rattle.pieces.specs.Inner.Feeding.{KeptOf, SomeTaken, BytesFed, Feeds};
 
 use crate::between::State;
-use crate::frame::{FramePlace, serve_lines};
+use crate::frame::serve_lines;
 use crate::serving::serve_long;
 use longlines::longline::{LongLine, begin, go_on};
+use program::frame::FramePlace;
 use text::cut::part_to;
-
-// Moves the bytes between two places to the start.
-fn move_to_start(buffer: &mut [u8], from: usize, to: usize)
-    requires { (from ≤ to) × (to ≤ length buffer.old) }
-    ensures { take (to - from) buffer.new ≡ take (to - from) (drop from buffer.old) }
-{
-    if from == 0 {
-        return;
-    }
-    let mut i = from;
-    while i < to {
-        buffer[i - from] = buffer[i];
-        i += 1;
-    }
-}
 
 // Keeps the part of a line that stands from a place on: its bytes, or what stands for a line that fills the buffer.
 fn keep_rest(buffer: &mut [u8], filled: usize, p: FramePlace) -> State
@@ -41,7 +27,7 @@ fn keep_rest(buffer: &mut [u8], filled: usize, p: FramePlace) -> State
             printed: p.used,
         };
     }
-    move_to_start(buffer, at, filled);
+    buffer.copy_within(at..filled, 0);
     State {
         line: p.line,
         kept: filled - at,

@@ -6,5 +6,4 @@ pub mod between;
 pub mod ends;
 pub mod feed;
 pub mod frame;
-pub mod reading;
 pub mod serving;

@@ -48,16 +48,12 @@ run_more (next y r) x = rw append_assoc (next y (run_more r x))
 
 -- ---- what is written behind what was there
 
-module _ (out part : List ℕ) (used r : ℕ) (fits : used ≤ length out) (size : length part ≡ length (mid_of used (length out - used) out)) (within : r ≤ length part) where
-  abbrev after : List ℕ
-  after = put_mid used (length out - used) out part
-
-  pub behind : take (used + r) after ≡ take used out ++ take r part
-  behind =
-      let t : length (take used out) ≡ used = length-take-le used out fits in
-      ap (λ (k : ℕ). take (k + r) after) (sym t)
-      ∙ take-append-add (take used out) (part ++ post_of used (length out - used) out) r
-      ∙ ap (λ (x : List ℕ). take used out ++ x) (take-append-le r part (post_of used (length out - used) out) within)
+pub behind : (out part : List ℕ) (used k r : ℕ) → used ≤ length out → r ≤ length part → take (used + r) (put_mid used k out part) ≡ take used out ++ take r part
+behind out part used k r fits within =
+    let t : length (take used out) ≡ used = length-take-le used out fits in
+    ap (λ (j : ℕ). take (j + r) (put_mid used k out part)) (sym t)
+    ∙ take-append-add (take used out) (part ++ post_of used k out) r
+    ∙ ap (λ (x : List ℕ). take used out ++ x) (take-append-le r part (post_of used k out) within)
 
 -- ---- the next line: whether it is whole, and serving it
 
@@ -73,17 +69,16 @@ pub ready_by : (frame : List ℕ) (p : FramePlace) (out : List ℕ) (b : Bool) �
 ready_by frame p out true e h = (ltb-true _ _ (sym e), omega arith)
 ready_by frame p out false e h = inl (ltb-false _ _ (sym e))
 
-pub next_served : {image frame out after part : List ℕ} {p : FramePlace} {n r : ℕ} → Ready frame p out true → n ≡ length (line_at frame p.at) → length part ≡ length (mid_of p.used (length out - p.used) out)
+pub next_served : {image frame out after part : List ℕ} {p : FramePlace} {n r : ℕ} → Ready frame p out true → n ≡ length (line_at frame p.at) → length part ≡ length (mid_of p.used (p.used + 128 - p.used) out)
     → Served image (line_at frame p.at) p.line after part r
-    → Next image frame p out after (put_mid p.used (length out - p.used) out part) (record { at = p.at + n + 1; line = p.line + 1; used = p.used + r })
+    → Next image frame p out after (put_mid p.used (p.used + 128 - p.used) out part) (record { at = p.at + n + 1; line = p.line + 1; used = p.used + r })
 next_served {image} {frame} {out} {after} {part} {p} {n} {r} ready size same s =
     record {
       text = take r part;
       served = s.served;
-      bytes = behind out part p.used r (omega (arith, ready.1)) same s.within;
-      fits =
-          let rest : length (mid_of p.used (length out - p.used) out) ≡ length out - p.used = mid_len p.used (length out) out (omega arith) in
-          omega (arith, same_len_mid p.used (length out - p.used) out part same, s.within, ready.1);
+      bytes = behind out part p.used (p.used + 128 - p.used) r (omega (arith, ready.1)) s.within;
+      fits = omega (arith, s.within, same, mid_len p.used (p.used + 128) out ready.1, same_len_mid p.used (p.used + 128 - p.used) out part same, ready.1);
+      short = omega (arith, s.within, same, mid_len p.used (p.used + 128) out ready.1);
       past = ap (λ (k : ℕ). p.at + k + 1) size;
       number = refl;
     }

@@ -15,39 +15,37 @@ use Rattle.text.proofs.Pasting.{take_pasted, written_size}
 use Rattle.print.specs.Printed.{refusal_text, result_text}
 use Rattle.print.proofs.Refusals.{refusal_fits}
 use Rattle.graph.specs.Words.{modulus}
+use Rattle.graph.specs.Refused.{refusal_number}
+use Rattle.graph.specs.declared.refusal.Refusal.{Refusal}
+use Rattle.calls.proofs.Refusing.{refusal_some}
 use Rattle.graph.specs.Refusals.{Answer, refused, done}
 use Rattle.graph.specs.Sessions.{Session}
 use Rattle.graph.specs.Acceptance.{Claimed, claim as claim_of}
 use Rattle.panel.specs.declared.tally.Tally.{Tally}
-use Rattle.panel.specs.declared.returned.Returned.TheVariants.{Refused}
-use Rattle.panel.specs.Returned.{returned_number, refusal_in}
+use Rattle.panel.specs.Returned.{answer_number}
 use Rattle.listing.specs.Listed.{listing_of}
 use Rattle.host.specs.Entries.{Calls, Steps, ClaimMade, claim_refused, claim_served, Claims, Listed, list_served, Lists}
 use Rattle.host.proofs.Determined.{each_case}
 use Rattle.program.specs.Lines.{length_in, answer_text, as_step, as_claim, as_call}
 use Rattle.program.specs.Inner.Frames.{AnswerPrinted, Served, Ended}
 
-text_served_law : (n : ℕ) (z : ℤ) (text : List ℕ) → 0 ≡ refusal_in z → text ≡ answer_text n z text
-text_served_law n (pos k) text e = refl
-text_served_law n (negsuc k) text e = absurd (omega arith)
+text_refused : (n k : ℕ) (text : List ℕ) → (k ≡ 0 → ⊥) → refusal_text n k ≡ answer_text n (answer_number (refused k)) text
+text_refused n zero text some = absurd (some refl)
+text_refused n (suc k) text some = refl
 
-text_refused : (n : ℕ) (z : ℤ) (text : List ℕ) (r : ℕ) → r ≡ refusal_in z → (r ≡ 0 → ⊥) → refusal_text n r ≡ answer_text n z text
-text_refused n (pos k) text r e ne = absurd (ne e)
-text_refused n (negsuc k) text r e ne = ap (refusal_text n) e
-
-pub printed_served : (n : ℕ) (z : ℤ) (out : List ℕ) (m r : ℕ) → m ≤ length out → r ≡ refusal_in z → r ≡ 0 → AnswerPrinted n z (take m out) out m
-printed_served n z out m r h e q = record { within = h; bytes = text_served_law n z (take m out) (sym q ∙ e) }
+pub printed_served : (n v : ℕ) (out : List ℕ) (m : ℕ) → m ≤ length out → AnswerPrinted n (answer_number (done v)) (take m out) out m
+printed_served n v out m h = record { within = h; bytes = refl }
 
 module _ (n r : ℕ) (line : n < 2 ^ 64) (refusal : r < modulus) (s : List ℕ) (room : 128 ≤ length s) where
   pub refusal_room : 0 + length (refusal_text n r) ≤ length s
   refusal_room = omega (arith, refusal_fits n r line refusal)
 
-  pub printed_refusal : (z : ℤ) (text o : List ℕ) (p : ℕ) → TextPut s 0 (refusal_text n r) o p → r ≡ refusal_in z → (r ≡ 0 → ⊥) → AnswerPrinted n z text o p
-  printed_refusal z text o p w e ne =
+  pub printed_refusal : (e : Refusal) → r ≡ refusal_number e → (text o : List ℕ) (p : ℕ) → TextPut s 0 (refusal_text n r) o p → AnswerPrinted n (answer_number (refused (refusal_number e))) text o p
+  printed_refusal e same text o p w =
       let size : length o ≡ length s = written_size w refusal_room in
       record {
         within = omega (arith, w.place, refusal_room, size);
-        bytes = ap (take p) w.bytes ∙ take_pasted s (refusal_text n r) p w.place ∙ text_refused n z text r e ne;
+        bytes = ap (take p) w.bytes ∙ take_pasted s (refusal_text n r) p w.place ∙ ap (refusal_text n) same ∙ text_refused n (refusal_number e) text (refusal_some e);
       }
 
 -- ---- a line served
@@ -60,7 +58,7 @@ module _ {image line after out : List ℕ} {n r : ℕ} {z : ℤ} where
   step_served_law {t} {u} b h s = record { within = s.within; served = as_step b t _ h refl (sym s.bytes) }
 
 -- what was written lies within the output
-refused_length : (k n : ℕ) → length_in (returned_number (Refused k)) ≤ n
+refused_length : (k n : ℕ) → length_in (answer_number (refused k)) ≤ n
 refused_length zero n = omega arith
 refused_length (suc k) n = omega arith
 

@@ -2,14 +2,10 @@
 -- Assumes nothing.
 use mathlib.Core.Path.{◌≡◌, refl}
 use Prim.Native.Nat.{ℕ, zero, suc}
-use Rattle.panel.specs.declared.returned.Returned.TheVariants.{Refused}
-use Rattle.panel.specs.Returned.{returned_number, refusal_in}
+use Rattle.graph.specs.Refusals.{refused}
+use Rattle.panel.specs.Returned.{answer_number}
 use Rattle.program.specs.Lines.{length_in}
 
-pub refusal_back : (n : ℕ) → n ≡ refusal_in (returned_number (Refused n))
-refusal_back zero = refl
-refusal_back (suc n) = refl
-
-pub no_length : (n : ℕ) → 0 ≡ length_in (returned_number (Refused n))
+pub no_length : (n : ℕ) → 0 ≡ length_in (answer_number (refused n))
 no_length zero = refl
 no_length (suc n) = refl

@@ -15,7 +15,7 @@ pub struct FramePlace {
 }
 
 // Whether a whole line, with its newline, stands at a place.
-fn is_whole(frame: &[u8], at: usize) -> bool
+pub fn is_whole(frame: &[u8], at: usize) -> bool
     requires { at ≤ length frame.now }
     ensures { result ≡ ltb (at + length (line_at frame.now at)) (length frame.now) }
 {
@@ -34,15 +34,15 @@ fn has_next(frame: &[u8], p: FramePlace, out: &[u8]) -> bool
     is_whole(frame, p.at)
 }
 
-// Serves the line that stands next.
-fn serve_next(image: &mut [u8], frame: &[u8], p: FramePlace, out: &mut [u8]) -> FramePlace
+// Serves the line that stands next. Nothing that is printed of a line is longer than 128 bytes.
+pub fn serve_next(image: &mut [u8], frame: &[u8], p: FramePlace, out: &mut [u8]) -> FramePlace
     requires { Ready frame.now p out.old true × (p.line + 1 < 2 ^ 64) }
     ensures { Next image.old frame.now p out.old image.new out.new result }
 {
     let at = p.at;
     let used = p.used;
     let n = part_to(frame, at, b'\n').len();
-    let written = serve_line(image, frame, at, p.line, &mut out[used..]);
+    let written = serve_line(image, frame, at, p.line, &mut out[used..used + 128]);
     FramePlace {
         at: at + n + 1,
         line: p.line + 1,

@@ -6,8 +6,7 @@ use native.Mathlib.Omega.{arith}
 use mathlib.Core.Bool.{false}
 use Rattle.graph.specs.Sessions.{Session}
 use Rattle.graph.specs.Valid.{Valid}
-use Rattle.panel.specs.declared.returned.Returned.TheVariants.{Refused}
-use Rattle.panel.specs.Returned.{returned_number}
+use Rattle.panel.specs.Returned.{answer_number}
 use Rattle.valid.specs.Values.{encode}
 use Rattle.host.specs.Entries.{ImageOf, Enters, other_length, other_bytes, other_line, served}
 use Rattle.host.proofs.Determined.{same_session, image_size}
@@ -25,6 +24,6 @@ module _ {F R : Type 0} {Is : F → Type 0} {refuse : ℕ → R} {serve : Sessio
   entered (served u i f is e) = subst P (sym (e ∙ ap (λ (x : Session). serve x f) (same_session i (own s v)))) (serves f is)
 
 -- a refusal is below 0
-pub refused_served : (n : ℕ) → 1 ≤ n → is_served (returned_number (Refused n)) ≡ false
+pub refused_served : (n : ℕ) → 1 ≤ n → is_served (answer_number (refused n)) ≡ false
 refused_served zero h = absurd (omega arith)
 refused_served (suc n) h = refl

@@ -30,9 +30,8 @@ use Rattle.text.proofs.Decimals.{len_ten}
 use Rattle.lines.specs.Forms.{work, field, step_text, step_numbers, step_keys, claim_text, IsStep, IsClaim, step_form_tests}
 use Rattle.lines.proofs.Claims.{claim_unique}
 use Rattle.print.specs.Printed.{result_text}
-use Rattle.panel.specs.declared.returned.Returned.TheVariants.{Refused}
 use Rattle.panel.specs.declared.tally.Tally.{Tally}
-use Rattle.panel.specs.Returned.{returned_number, refusal_in}
+use Rattle.panel.specs.Returned.{answer_number, refusal_in}
 use Rattle.panel.specs.Tally.{counted}
 use Rattle.valid.specs.Values.{encode}
 use Rattle.host.specs.Entries.{served, ClaimMade, claim_refused, claim_written, claim_served, step_served, Steps}
@@ -41,7 +40,7 @@ use Rattle.runs.specs.Demand.{StepLines, ended, stepped}
 use Rattle.runs.proofs.Entered.{own, entered}
 use Rattle.graph.proofs.Found.{none_some, Where, first_of, later, where_found}
 
-refusal_of : (n : ℕ) → refusal_in (returned_number (Refused n)) ≡ n
+refusal_of : (n : ℕ) → refusal_in (answer_number (refused n)) ≡ n
 refusal_of zero = refl
 refusal_of (suc n) = refl
 

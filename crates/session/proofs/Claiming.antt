@@ -20,17 +20,17 @@ use Rattle.state.specs.Inner.State.{flat_in, Shows, with_results}
 use Rattle.state.specs.Inner.Results.{taken_at}
 use Rattle.state.specs.Inner.ValidImage.{ValidImage}
 use Rattle.state.proofs.Serving.{session_held, shows_encode}
-use Rattle.calls.specs.declared.claim.Claim.{Claim}
-use Rattle.calls.specs.declared.claim.Claim.TheVariants.{Refused, At}
+use Rattle.graph.specs.declared.refusal.Refusal.{Refusal}
+use Rattle.std.specs.Prelude.{Result, Ok, Err}
 use Rattle.calls.specs.Inner.Claiming.{FindsFlat}
 use Rattle.session.specs.Inner.Claims.{Claimable, Finds}
 
 bridge : (l : ℕ) (image : List ℕ) → ValidImage image → flat_claim l (flat_in image) ≡ claim l (session_of image)
 bridge l image v = ap (flat_claim l) (sym v.flat) ∙ claim_bridge l (nest (flat_in image)) ∙ ap (claim l) (sym (session_held image))
 
-pub found : (l : ℕ) (image : List ℕ) → ValidImage image → (c : Claim) → FindsFlat l (flat_in image) c → Finds l image c
-found l image v (Refused n) f = sym (bridge l image v) ∙ f
-found l image v (At p) f = record { within = f.0; taken = sym (bridge l image v) ∙ f.1 }
+pub found : (l : ℕ) (image : List ℕ) → ValidImage image → (c : Result ℕ Refusal) → FindsFlat l (flat_in image) c → Finds l image c
+found l image v (Err r) f = sym (bridge l image v) ∙ f
+found l image v (Ok p) f = record { within = f.0; taken = sym (bridge l image v) ∙ f.1 }
 
 pub removed : (at : ℕ) (before after : List ℕ) → ValidImage before → Bytes after → Claimable before at → Shows (with_results (flat_in before) (remove_at at (flat_in before).results)) after
     → after ≡ encode (keeping (session_of before) (remove_at at (flat_in before).results))

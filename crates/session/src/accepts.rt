@@ -1,22 +1,22 @@
 // Acceptance of a call that was read, on an image that holds a valid session.
 ghost use Rattle.graph.specs.Acceptance.{accept};
+ghost use Rattle.graph.specs.Refused.{number_in};
 ghost use Rattle.valid.specs.Inner.Decoded.{session_of};
-ghost use Rattle.lines.specs.Inner.Answers.{call_form};
 ghost use Rattle.state.specs.Inner.ValidImage.{ValidImage, Serves};
-ghost use Rattle.calls.specs.Inner.Accepting.{named_in};
-ghost use Rattle.session.specs.Inner.Accepts.{Good};
+ghost use Rattle.session.specs.Inner.Accepts.{Good, call_of};
 
 use calls::accept::{accept_add, accept_operation};
 use graph::act::Act;
 use graph::affine::Affine;
-use graph::remaining::Remaining;
-use lines::call::CallKind;
+use graph::refusal::Refusal;
+use lines::call::{Call, CallKind};
 
-// Gives the call the next label and a place at the end of the top stream, and gives 0; or refuses it with 13, 14 or 15.
-pub fn accept(image: &mut [u8], kind: CallKind, x: u32, y: u32, to: Remaining) -> u32
-    requires { (ValidImage image.old) × (Good (call_form kind x y (named_in to)) to) }
-    ensures { (Serves (accept (call_form kind x y (named_in to)) (session_of image.old)) image.old image.new result) × (ValidImage image.new) }
+// Gives the call the next label and a place at the end of the top stream; or refuses it with 13, 14 or 15.
+pub fn accept(image: &mut [u8], call: Call) -> Result<(), Refusal>
+    requires { (ValidImage image.old) × (Good (call_of call) call.to) }
+    ensures { (Serves (accept (call_of call) (session_of image.old)) image.old image.new (number_in result)) × (ValidImage image.new) }
 {
+    let Call { kind, x, y, to } = call;
     match kind {
         CallKind::Add => accept_add(image, x),
         CallKind::Map => accept_operation(image, Act::Map(Affine { a: x, b: y }), 0, to),

@@ -10,12 +10,13 @@ ghost use Rattle.state.specs.Inner.State.{flat_in};
 ghost use Rattle.state.specs.Inner.ValidImage.{ValidImage};
 ghost use Rattle.session.specs.Inner.Claims.{Finds, Claimable};
 
-use calls::claim::{Claim, claim_place};
+use calls::claim::claim_place;
+use graph::refusal::Refusal;
 use state::results;
 use state::results::CallResult;
 
 // Where the result with that label stands; or why it can't be claimed.
-pub fn find(image: &[u8], label: u32) -> Claim
+pub fn find(image: &[u8], label: u32) -> Result<usize, Refusal>
     requires { ValidImage image.now }
     ensures { Finds label image.now result }
 {

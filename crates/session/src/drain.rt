@@ -12,7 +12,7 @@ use headsteps::{act_at, finish_at, first_for, move_unit};
 use state::ops;
 
 // The admits, realises, moves and finishes that were taken.
-#[derive(Clone, Copy)]
+#[derive(Clone, Copy, Debug, PartialEq, Eq)]
 pub struct Counts {
     pub admit: u32,
     pub realise: u32,
@@ -21,7 +21,7 @@ pub struct Counts {
 }
 
 // The kind of a step that drain took.
-#[derive(Clone, Copy)]
+#[derive(Clone, Copy, Debug, PartialEq, Eq)]
 pub enum StepTaken {
     Admit,
     Realise,
@@ -56,34 +56,23 @@ fn drain_one(image: &mut [u8]) -> StepTaken
 {
     let k = ops::place_at(image, 0);
     if k == 65 {
-        admit(image);
+        admit(image).unwrap();
         return StepTaken::Admit;
     }
     drain_at(image, k)
 }
 
-// The counts with one more of this kind.
-fn raised(c: Counts, taken: StepTaken) -> Counts
-    requires { (c.admit < 4294967295) × (c.realise < 4294967295) × (c.moved < 4294967295) × (c.finish < 4294967295) }
-    ensures { result ≡ raised_counts c taken }
-{
-    let mut n = c;
-    match taken {
-        StepTaken::Admit => {
-            n.admit = c.admit + 1;
-            n
-        }
-        StepTaken::Realise => {
-            n.realise = c.realise + 1;
-            n
-        }
-        StepTaken::Move => {
-            n.moved = c.moved + 1;
-            n
-        }
-        StepTaken::Finish => {
-            n.finish = c.finish + 1;
-            n
+impl Counts {
+    // One more of this kind.
+    fn raise(&mut self, taken: StepTaken)
+        requires { (self.old.admit < 4294967295) × (self.old.realise < 4294967295) × (self.old.moved < 4294967295) × (self.old.finish < 4294967295) }
+        ensures { self.new ≡ raised_counts self.old taken }
+    {
+        match taken {
+            StepTaken::Admit => self.admit += 1,
+            StepTaken::Realise => self.realise += 1,
+            StepTaken::Move => self.moved += 1,
+            StepTaken::Finish => self.finish += 1,
         }
     }
 }
@@ -101,7 +90,7 @@ pub fn drain(image: &mut [u8]) -> Counts
     };
     while ops::total(image) != 0 {
         let taken = drain_one(image);
-        c = raised(c, taken);
+        c.raise(taken);
     }
     c
 }

@@ -6,20 +6,23 @@
 #![tactic(auto)]
 
 use graph::keys::Keys;
-use lines::call::{CallAnswer, CallKind, parse_call};
-use lines::claim::{ClaimLine, parse_claim};
-use lines::step::{StepLine, WorkStep, parse_step, tally_place};
+use graph::refusal::Refusal;
+use graph::remaining::Remaining;
+use lines::call::parse_call;
+use lines::claim::parse_claim;
+use lines::step::{StepRequest, WorkStep, parse_step, tally_place};
 use print::lines::{head_len, node_len, put_head, put_node, put_refusal, put_result, result_len};
 use streams::read_full;
 
 // A write that fails is passed over.
 #[tactic(auto, using(print::proofs::Refusals::refusal_fits))]
-fn show_refusal(rt: &impl Print, line: u32, refusal: u32) {
+fn show_refusal(rt: &impl Print, line: u32, refusal: Refusal) {
     let mut out = [0u8; 128];
-    let n = put_refusal(&mut out, 0, line as u64, refusal);
+    let n = put_refusal(&mut out, 0, u64::from(line), refusal.number());
     let _ = rt.write_all(&out[..n]);
 }
 
+// These three are not one function over a closure: its contract would have to say that the line has room.
 fn show_result(rt: &impl Print, label: u32, value: u32, left: Keys) {
     let n = result_len(label, value, left);
     let mut out = [0u8; 128];
@@ -41,58 +44,41 @@ fn show_head(rt: &impl Print, nodes: u32, results: u32, pending: u32) {
     let _ = rt.write_all(&out[..n]);
 }
 
-fn call_number(kind: CallKind) -> u32 {
-    match kind {
-        CallKind::Add => 0,
-        CallKind::Map => 1,
-        CallKind::Link => 2,
-        CallKind::Unlink => 3,
-        CallKind::Sum => 4,
-        CallKind::Top => 5,
-        CallKind::Pick => 6,
-        CallKind::Near => 7,
-        CallKind::Unmap => 8,
-    }
-}
-
 fn show_call(rt: &impl Print, line: &[u8], number: u32) {
-    let c = parse_call(line);
-    let answer = c.answer;
-    let to = c.to;
-    match answer {
-        CallAnswer::Refused(refusal) => show_refusal(rt, number, refusal),
-        CallAnswer::Is(kind, x, y) => {
-            show_result(rt, number, x, to.keys);
-            show_node(rt, call_number(kind), y, to.keys);
-            if to.all {
-                let _ = rt.write_all(b"to=all\n");
-            }
+    match parse_call(line) {
+        Err(refusal) => show_refusal(rt, number, refusal),
+        Ok(call) => {
+            let (keys, note) = match call.to {
+                Remaining::Listed(keys) => (keys, ""),
+                Remaining::All { .. } => (Keys::none(), "to=all\n"),
+            };
+            show_result(rt, number, call.x, keys);
+            show_node(rt, call.kind as u32, call.y, keys);
+            let _ = rt.print(note);
         }
     }
 }
 
 fn show_numbers(rt: &impl Print, w: WorkStep) {
-    match w {
-        WorkStep::Admit => show_head(rt, 0, 0, 0),
-        WorkStep::Realise(at) => show_head(rt, at as u32, 0, 0),
-        WorkStep::Move(at) => show_head(rt, at as u32, 0, 0),
-        WorkStep::Finish(at) => show_head(rt, at as u32, 0, 0),
-        WorkStep::Join(at, unit) => show_head(rt, at as u32, unit, 0),
-        WorkStep::Split(at, unit, after) => show_head(rt, at as u32, unit, after),
-        WorkStep::Swap(at, unit) => show_head(rt, at as u32, unit, 0),
-        WorkStep::Fuse(at, unit) => show_head(rt, at as u32, unit, 0),
-    }
+    let (at, unit, after) = match w {
+        WorkStep::Admit => (0, 0, 0),
+        WorkStep::Realise(at) | WorkStep::Move(at) | WorkStep::Finish(at) => (at, 0, 0),
+        WorkStep::Join(at, unit) | WorkStep::Swap(at, unit) | WorkStep::Fuse(at, unit) => (
+            at, unit, 0,
+        ),
+        WorkStep::Split(at, unit, after) => (at, unit, after),
+    };
+    show_head(rt, u32::from(at), unit, after);
 }
 
 fn show_step(rt: &impl Print, line: &[u8], number: u32) {
-    let s = parse_step(line);
-    match s {
-        StepLine::Refused(refusal) => show_refusal(rt, number, refusal),
-        StepLine::Work(w) => {
-            show_result(rt, number, tally_place(w) as u32, Keys::none());
+    match parse_step(line) {
+        Err(refusal) => show_refusal(rt, number, refusal),
+        Ok(StepRequest::Work(w)) => {
+            show_result(rt, number, u32::from(tally_place(w)), Keys::none());
             show_numbers(rt, w);
         }
-        StepLine::Drain => {
+        Ok(StepRequest::Drain) => {
             show_result(rt, number, 8, Keys::none());
             show_head(rt, 0, 0, 0);
         }
@@ -100,10 +86,9 @@ fn show_step(rt: &impl Print, line: &[u8], number: u32) {
 }
 
 fn show_claim(rt: &impl Print, line: &[u8], number: u32) {
-    let c = parse_claim(line);
-    match c {
-        ClaimLine::Refused(refusal) => show_refusal(rt, number, refusal),
-        ClaimLine::Label(label) => show_result(rt, number, label, Keys::none()),
+    match parse_claim(line) {
+        Err(refusal) => show_refusal(rt, number, refusal),
+        Ok(label) => show_result(rt, number, label, Keys::none()),
     }
 }
 

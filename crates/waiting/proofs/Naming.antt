@@ -3,7 +3,7 @@
 use mathlib.Core.Path.{◌≡◌, refl, sym, ap, ◌∙◌}
 use Prim.Native.Nat.{ℕ, zero, suc, ◌-◌, ◌≤◌}
 use native.Mathlib.Omega.{arith}
-use mathlib.Core.Bool.{Bool, false, ◌||◌, or-false}
+use mathlib.Core.Bool.{Bool, true, false, ◌||◌, or-false}
 use mathlib.Core.List.{List, [], ◌∷◌}
 use lib.Dec.{eqb}
 use lib.ListN.{length, get_or, replicate, length-take}
@@ -49,8 +49,14 @@ zeros_none : (x : ℕ) → 1 ≤ x → (n : ℕ) → contains x (replicate n 0) 
 zeros_none x h zero = refl
 zeros_none x h (suc n) = rw (ne_eqb x 0 (λ e. omega arith)) (zeros_none x h n)
 
-in_four : (x : ℕ) (l : List ℕ) → length l ≡ 4 → contains x l ≡ (eqb x (get_or l 0 0) || (eqb x (get_or l 1 0) || (eqb x (get_or l 2 0) || eqb x (get_or l 3 0))))
-in_four x (a ∷ b ∷ c ∷ d ∷ []) e = ap (λ (t : Bool). eqb x a || (eqb x b || (eqb x c || t))) (or-false (eqb x d))
+four_tests : (a b c d : Bool) → (a || (b || (c || (d || false)))) ≡ (((a || b) || c) || d)
+four_tests true b c d = refl
+four_tests false true c d = refl
+four_tests false false true d = refl
+four_tests false false false d = or-false d
+
+in_four : (x : ℕ) (l : List ℕ) → length l ≡ 4 → contains x l ≡ (((eqb x (get_or l 0 0) || eqb x (get_or l 1 0)) || eqb x (get_or l 2 0)) || eqb x (get_or l 3 0))
+in_four x (a ∷ b ∷ c ∷ d ∷ []) e = four_tests (eqb x a) (eqb x b) (eqb x c) (eqb x d)
 in_four x [] e = absurd (omega arith)
 in_four x (a ∷ []) e = absurd (omega arith)
 in_four x (a ∷ b ∷ []) e = absurd (omega arith)
@@ -58,7 +64,7 @@ in_four x (a ∷ b ∷ c ∷ []) e = absurd (omega arith)
 in_four x (a ∷ b ∷ c ∷ d ∷ f ∷ l) e = absurd (omega arith)
 
 pub named_in : (l : Labels) → l ≡ packed_labels (labels_of l) → length l.label ≡ 4 → (x : ℕ) → 1 ≤ x
-    → (eqb x (get_or l.label 0 0) || (eqb x (get_or l.label 1 0) || (eqb x (get_or l.label 2 0) || eqb x (get_or l.label 3 0)))) ≡ contains x (labels_of l)
+    → (((eqb x (get_or l.label 0 0) || eqb x (get_or l.label 1 0)) || eqb x (get_or l.label 2 0)) || eqb x (get_or l.label 3 0)) ≡ contains x (labels_of l)
 unfolding packed_labels
 named_in l e four x h =
     sym (in_four x l.label four)

@@ -1,6 +1,6 @@
 -- The listing line by line, on the flat session, and its length.
 -- Assumes nothing.
-use Rattle.std.specs.Prelude.{ℕ, ◌≤◌, ◌≡◌, cond, List, ◌++◌, map, reverse, length}
+use Rattle.std.specs.Prelude.{ℕ, ◌≤◌, ◌≡◌, List, ◌++◌, map, reverse, length}
 use Rattle.graph.specs.Sessions.{Session}
 use Rattle.flat.specs.Flat.{Flat}
 use Rattle.flat.specs.Inner.Queues.{queued}
@@ -8,6 +8,7 @@ use Rattle.text.specs.Text.{texts}
 use Rattle.print.specs.Printed.{head_text, node_text, result_text}
 use Rattle.print.specs.Inner.Values.{node_by_value, result_by_value}
 use Rattle.listing.specs.declared.rows.Row.{Row}
+use Rattle.listing.specs.declared.rows.Row.TheVariants.{Node, Result}
 use Rattle.listing.specs.Listed.{listing_of}
 
 -- the head and up to 128 lines, each of up to 128 bytes
@@ -25,7 +26,8 @@ rows_of f = map node_text (reverse f.nodes) ++ map result_text f.results
 
 -- one of them, by value
 abbrev pub row_text : Row → List ℕ
-row_text r = cond r.node (node_text (node_by_value r.name r.value r.keys)) (result_text (result_by_value r.name r.value r.keys))
+row_text (Node b) = node_text (node_by_value b.key b.value b.links)
+row_text (Result r) = result_text (result_by_value r.label r.value r.left)
 
 -- lines one after another
 abbrev pub joined : List (List ℕ) → List ℕ

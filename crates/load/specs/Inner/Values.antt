@@ -1,13 +1,13 @@
 -- What is drawn, by value.
 -- Assumes nothing.
-use Rattle.std.specs.Prelude.{ℕ, ◌≡◌, List, length}
+use Rattle.std.specs.Prelude.{ℕ, ◌≡◌, List, length, Result}
 use Rattle.graph.specs.Calls.{Call, add, map, link, unlink, sum, top, pick, near}
 use Rattle.graph.specs.Targets.{To, named}
-use Rattle.graph.specs.Refusals.{Answer, refused, done, unless}
+use Rattle.graph.specs.Refusals.{map_done, unless}
 use Rattle.graph.specs.Packed.{listed, packed}
 use Rattle.text.specs.Inner.Put.{TextPut}
-use Rattle.panel.specs.declared.returned.Returned.{Returned}
-use Rattle.panel.specs.declared.returned.Returned.TheVariants.{Done, Refused}
+use Rattle.graph.specs.Refused.{answered}
+use Rattle.graph.specs.declared.refusal.Refusal.{Refusal}
 use Rattle.load.specs.declared.targets.DrawnKeys.{DrawnKeys}
 use Rattle.load.specs.declared.calls.DrawnCall.{DrawnCall}
 use Rattle.load.specs.declared.write.Written.{Written}
@@ -51,11 +51,7 @@ pub record LineWritten (was : List ℕ) (at state : ℕ) (out : List ℕ) (r : W
 
 -- ---- what is answered, by value
 
-abbrev pub returned_of : Answer (List ℕ) → Returned
-returned_of (refused n) = Refused n
-returned_of (done lines) = Done (length lines)
-
--- the answer, and the output after it. Not by number: `returned_number` does not tell `Refused 0` from `Done 0`
-pub record LoadReturned (seed count : ℕ) (was : List ℕ) (r : Returned) (out : List ℕ) : Type 0 where
-  pub answer : r ≡ returned_of (unless (load_tests seed count (length was)) (load_text seed count))
+-- the answer, and the output after it
+pub record LoadReturned (seed count : ℕ) (was : List ℕ) (r : Result ℕ Refusal) (out : List ℕ) : Type 0 where
+  pub answer : answered (λ n. n) r ≡ map_done length (unless (load_tests seed count (length was)) (load_text seed count))
   pub output : out ≡ (loaded seed count was).output

@@ -4,10 +4,9 @@ use Rattle.std.specs.Prelude.{ℕ, ◌+◌, ◌<◌, ◌≤◌, min, cond, ◌&&
 use Rattle.graph.specs.KeyLists.{are_keys, rising}
 use Rattle.graph.specs.Targets.{named}
 use Rattle.keylists.specs.Inner.ListsRead.{last_or, ReadSoFar}
-use Rattle.lines.specs.Inner.Answers.{CallRead, call_line, refused_call}
-use Rattle.lines.specs.declared.call.CallAnswer.{CallAnswer}
-use Rattle.lines.specs.declared.call.CallAnswer.TheVariants.{Refused, Is}
-use Rattle.lines.specs.declared.call.CallLine.{CallLine}
+use Rattle.graph.specs.Refusals.{Answer, refused, done}
+use Rattle.lines.specs.Inner.Answers.{CallRead, call_line}
+use Rattle.lines.specs.declared.call.Call.{Call as Asked}
 use Rattle.longlines.specs.declared.longline.LongLine.{LongLine}
 
 -- ---- the cut after an equals sign
@@ -50,10 +49,10 @@ pub record LongOf (line : List ℕ) (l : LongLine) : Type 0 where
 -- ---- the answer
 
 -- by the targets ts: 11 where one is no key, 12 where they are more than eight or do not rise, else r
-abbrev pub by_targets : List ℕ → CallLine → CallLine
-by_targets ts r = cond (are_keys ts) (cond (leb (length ts) 8 && rising ts) r (refused_call 12)) (refused_call 11)
+abbrev pub by_targets : List ℕ → Answer Asked → Answer Asked
+by_targets ts r = cond (are_keys ts) (cond (leb (length ts) 8 && rising ts) r (refused 12)) (refused 11)
 
 -- the answer to a call with the targets ts, by that to the call with none: 10 and 11 come before what refuses the targets, 40 after it
-abbrev pub retargeted : CallAnswer → List ℕ → CallLine
-retargeted (Refused n) ts = cond (ltb n 40) (refused_call n) (by_targets ts (refused_call n))
-retargeted (Is kind x y) ts = by_targets ts (call_line kind x y (named ts))
+abbrev pub retargeted : Answer Asked → List ℕ → Answer Asked
+retargeted (refused n) ts = cond (ltb n 40) (refused n) (by_targets ts (refused n))
+retargeted (done c) ts = by_targets ts (done (call_line c.kind c.x c.y (named ts)))

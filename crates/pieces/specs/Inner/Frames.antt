@@ -1,10 +1,8 @@
 -- What serving the lines of the line buffer gives and leaves.
 -- Assumes nothing.
-use Rattle.std.specs.Prelude.{ℕ, ◌+◌, ◌*◌, ◌-◌, ◌≤◌, ◌<◌, ◌≡◌, List, ◌++◌, length, take, drop}
-use Rattle.lines.specs.Forms.{line_at}
-use Rattle.program.specs.Lines.{Line}
+use Rattle.std.specs.Prelude.{ℕ, ◌+◌, ◌*◌, ◌-◌, ◌≤◌, ◌≡◌, List, ◌++◌, length, take, drop}
 use Rattle.program.specs.Transcript.{lines_of, LineRun}
-use Rattle.pieces.specs.declared.frame.FramePlace.{FramePlace}
+use Rattle.program.specs.declared.frame.FramePlace.{FramePlace}
 
 -- the first lines of the bytes were served, numbered from n on, and text is printed of them; what is left of the bytes goes on with
 -- what follows. m is the number of the next line
@@ -12,19 +10,6 @@ pub record LinesTaken (image : List ℕ) (n : ℕ) (bytes after : List ℕ) (m :
   pub lines : List (List ℕ)
   pub runs : LineRun image n lines after m text
   pub parts : (rest : List ℕ) → lines_of (bytes ++ rest) ≡ lines ++ lines_of (left ++ rest)
-
--- a whole line stands next, and the output has room for what is printed of it
-abbrev pub Ready : (frame : List ℕ) → FramePlace → (out : List ℕ) → Type 0
-Ready frame p out = (p.at + length (line_at frame p.at) < length frame) × (p.used + 128 ≤ length out)
-
--- the line that stands next was served, and what is printed of it stands behind what was there
-pub record Next (image frame : List ℕ) (p : FramePlace) (out after written : List ℕ) (q : FramePlace) : Type 0 where
-  pub text : List ℕ
-  pub served : Line image (line_at frame p.at) p.line after text
-  pub bytes : take q.used written ≡ take p.used out ++ text
-  pub short : q.used ≤ p.used + 128
-  pub past : q.at ≡ p.at + length (line_at frame p.at) + 1
-  pub number : q.line ≡ p.line + 1
 
 -- the lines of the frame from p on were served up to q, and what is printed of them stands behind what was there; each line left may
 -- print 128 bytes more

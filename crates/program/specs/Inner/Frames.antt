@@ -27,6 +27,7 @@ pub record Next (image frame : List ℕ) (p : FramePlace) (out after written : L
   pub served : Line image (line_at frame p.at) p.line after text
   pub bytes : take q.used written ≡ take p.used out ++ text
   pub fits : q.used ≤ length written
+  pub short : q.used ≤ p.used + 128
   pub past : q.at ≡ p.at + length (line_at frame p.at) + 1
   pub number : q.line ≡ p.line + 1
 

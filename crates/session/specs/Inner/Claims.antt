@@ -1,13 +1,13 @@
--- What a claim finds: the number of its refusal, or the result that is claimed.
+-- What a claim finds: its refusal, or the result that is claimed.
 -- Assumes nothing.
-use Rattle.std.specs.Prelude.{ℕ, ◌<◌, ◌≡◌, List, length}
+use Rattle.std.specs.Prelude.{ℕ, ◌<◌, ◌≡◌, List, length, Result, Ok, Err}
 use Rattle.graph.specs.Refusals.{refused, done}
+use Rattle.graph.specs.Refused.{refusal_number}
+use Rattle.graph.specs.declared.refusal.Refusal.{Refusal}
 use Rattle.graph.specs.Acceptance.{claim}
 use Rattle.valid.specs.Inner.Decoded.{session_of}
 use Rattle.state.specs.Inner.State.{flat_in}
 use Rattle.state.specs.Inner.Results.{taken_at}
-use Rattle.calls.specs.declared.claim.Claim.{Claim}
-use Rattle.calls.specs.declared.claim.Claim.TheVariants.{Refused, At}
 
 -- the claim of this label takes the result at this place
 pub record TakesResult (label : ℕ) (image : List ℕ) (at : ℕ) : Type 0 where
@@ -19,7 +19,7 @@ pub record Claimable (image : List ℕ) (at : ℕ) : Type 0 where
   pub label : ℕ
   pub takes : TakesResult label image at
 
--- the claim is refused by this number, or takes the result at this place
-abbrev pub Finds : ℕ → List ℕ → Claim → Type 0
-Finds label image (Refused n) = claim label (session_of image) ≡ refused n
-Finds label image (At p) = TakesResult label image p
+-- the claim takes the result at this place, or is refused
+abbrev pub Finds : ℕ → List ℕ → Result ℕ Refusal → Type 0
+Finds label image (Err r) = claim label (session_of image) ≡ refused (refusal_number r)
+Finds label image (Ok p) = TakesResult label image p

@@ -5,4 +5,4 @@ use Rattle.print.proofs.Refusals.{refusal_fits}
 use Rattle.testlines.proofs.show_refusal.Goals as goal
 
 pub slice_bounds-write_all-end : goal.slice_bounds-write_all-end
-slice_bounds-write_all-end g c = search (rules, refusal_fits c.args.line c.args.refusal (search rules) (search rules))
+slice_bounds-write_all-end g c = search (rules, refusal_fits c.from.result c.number.result (search rules) (search rules))

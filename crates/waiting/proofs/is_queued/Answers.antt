@@ -1,33 +1,17 @@
--- The loop's invariant: the label is not among those before i.
+-- Some call has the label where the queue's labels have it.
 -- Assumes nothing.
-use mathlib.Core.Path.{refl, sym, ◌∙◌}
-use Prim.Native.Nat.{◌≤◌, ◌<◌}
-use native.Mathlib.Omega.{arith}
-use lib.ListN.{length}
+use Rattle.std.proofs.Common.{◌∙◌, refl, arith, rules, tests}
+use Rattle.std.proofs.lemmas.Iterator.{YieldsList-from_range}
+use Rattle.std.proofs.lemmas.Iterator.Search.{any_from_yields_List}
+use Rattle.graph.specs.KeyLists.{contains}
+use Rattle.flat.specs.Inner.Queues.{labels_in}
 use Rattle.state.specs.Inner.State.{flat_in}
-use Rattle.waiting.proofs.Loops.{names_hit, names_miss, names_end}
+use Rattle.waiting.proofs.Loops.{names_any, call_at}
 use Rattle.waiting.proofs.is_queued.Goals as goal
-
-pub loop-i-init : goal.loop-i-init
-loop-i-init c = (omega arith, refl)
-
-pub names-requires : goal.names-requires
-names-requires c = (c.requires.0, omega (arith, c.total-n.ensures.is), c.requires.1)
-
-pub returns-then-names : goal.returns-then-names
-returns-then-names c =
-    let a = c.args in
-    let h : c.loop-i.i < length (flat_in a.image.now).queue = omega (arith, c.total-n.ensures.is) in
-    sym (names_hit (flat_in a.image.now).queue c.loop-i.i h a.label (sym c.names.ensures ∙ c.if-names.true)) ∙ c.loop-i.invariant.1
-
-pub loop-i-preserved : goal.loop-i-preserved
-loop-i-preserved c =
-    let a = c.args in
-    let h : c.loop-i.i < length (flat_in a.image.now).queue = omega (arith, c.total-n.ensures.is) in
-    (omega arith, sym (names_miss (flat_in a.image.now).queue c.loop-i.i h a.label (sym c.names.ensures ∙ c.if-names.false)) ∙ c.loop-i.invariant.1)
 
 pub returns : goal.returns
 returns c =
-    let a = c.args in
-    let h : length (flat_in a.image.now).queue ≤ c.loop-i.i = omega (arith, c.total-n.ensures.is) in
-    sym (names_end (flat_in a.image.now).queue c.loop-i.i h a.label) ∙ c.loop-i.invariant.1
+    let q = (flat_in c.args.image.now).queue in
+    let n = c.total.result in
+    any_from_yields_List (λ i. contains c.args.label (labels_in (call_at q i))) _ _ _ c.any.ensures.ran (YieldsList-from_range 0 n n refl (omega arith)) (λ x r f k. search (rules, tests))
+    ∙ names_any q c.args.label n c.total.ensures.is

@@ -7,10 +7,10 @@ use Rattle.state.proofs.QueueHeld.{in_view, reads_at}
 use Rattle.waiting.proofs.Naming.{names_of}
 use Rattle.waiting.proofs.labels_at.Goals as goal
 
-pub op_at-r-requires : goal.op_at-r-requires
-op_at-r-requires c = (c.requires.0.sound, in_view c.args.image.now c.requires.0 c.args.i c.requires.1)
+pub op_at-requires : goal.op_at-requires
+op_at-requires c = (c.requires.0.sound, in_view c.args.image.now c.requires.0 c.args.i c.requires.1)
 
 pub returns : goal.returns
 returns c =
     let g = reads_at c.args.image.now c.requires.0 c.args.i c.requires.1 in
-    names_of (get_or (flat_in c.args.image.now).queue c.args.i no_op) c.op_at-r.result (rw c.op_at-r.ensures g)
+    names_of (get_or (flat_in c.args.image.now).queue c.args.i no_op) c.op_at.result (rw c.op_at.ensures g)

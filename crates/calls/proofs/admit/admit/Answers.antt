@@ -3,7 +3,7 @@
 use mathlib.Core.Path.{◌≡◌, refl, sym, ◌∙◌}
 use Prim.Native.Nat.{ℕ, ◌<◌}
 use lib.ListN.{length}
-use borrow.Author.Tests.{not-true, not-false}
+use borrow.Author.Tests.{not-true}
 use Rattle.graph.specs.Refusals.{done}
 use Rattle.graph.specs.Steps.{admit}
 use Rattle.flat.specs.Flat.{Flat}
@@ -15,12 +15,6 @@ use Rattle.calls.proofs.Room.{node_room, result_room}
 use Rattle.state.proofs.Working.{works_refused, works_done}
 use Rattle.calls.proofs.admit.admit.Goals as goal
 use Rattle.calls.proofs.admit.admit.Goals.{Else-w-total, Start}
-
-pub first_at-w-requires : goal.first_at-w-requires
-first_at-w-requires c = c.requires.proper
-
-pub total-requires : goal.total-requires
-total-requires c = c.requires.proper
 
 pub returns-then-w-total : goal.returns-then-w-total
 returns-then-w-total c = works_refused (admit_refused (flat_in c.args.image.now) (sym c.first_at-w.ensures ∙ c.if-w-total.true ∙ c.total.ensures.is)) refl
@@ -50,11 +44,6 @@ admit_add-requires c =
 
 pub returns-then-is_add_at : goal.returns-then-is_add_at
 returns-then-is_add_at c = works_done (admits (goal.at.returns-then-is_add_at c).Else-w-total) c.admit_add.ensures
-
-pub admit_operation-requires : goal.admit_operation-requires
-admit_operation-requires c =
-    let s = (goal.at.admit_operation-requires c).Else-w-total in
-    (s.requires, waits (goal.at.admit_operation-requires c).Else-w-total, not-false _ (sym c.is_add_at.ensures ∙ c.if-is_add_at.false))
 
 pub returns : goal.returns
 returns c = works_done (admits (goal.at.returns c).Else-w-total) c.admit_operation.ensures

@@ -10,11 +10,6 @@ use Rattle.calls.proofs.Admitting.{add_shown}
 use Rattle.waiting.proofs.Naming.{none_listed}
 use Rattle.calls.proofs.admit.admit_add.Goals as goal
 
-pub remove-requires : goal.remove-requires
-remove-requires c =
-    let node = c.append_body.ensures in
-    (node.proper, rw (ap (λ (f : Flat). length f.queue) node.shows) c.requires.1)
-
 pub store_one-requires : goal.store_one-requires
 store_one-requires c =
     let node = c.append_body.ensures in

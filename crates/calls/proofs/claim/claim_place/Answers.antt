@@ -10,15 +10,9 @@ use Rattle.graph.specs.Sessions.{labels_of_results}
 use Rattle.flat.specs.Flat.{Flat}
 use Rattle.state.specs.Inner.Results.{no_result}
 use Rattle.state.specs.Inner.State.{flat_in}
-use Rattle.calls.proofs.Claims.{finds_zero, finds_above, finds_pending, finds_claimed, finds_at}
+use Rattle.calls.proofs.Claims.{finds_claimed, finds_at}
 use Rattle.calls.proofs.claim.claim_place.Goals as goal
 use Rattle.calls.proofs.claim.claim_place.Goals.{After-is_queued, Start}
-
-pub returns-then-label-eq0 : goal.returns-then-label-eq0
-returns-then-label-eq0 c = finds_zero c.args.label (flat_in c.args.image.now) c.if-label-eq0.true
-
-pub returns-then-from-label : goal.returns-then-from-label
-returns-then-from-label c = finds_above c.args.label (flat_in c.args.image.now) (omega (arith, c.from.ensures, c.last.ensures, c.if-from-label.true))
 
 -- the label was given; whether it waits is what `is_queued` said
 module _ (q : After-is_queued) where
@@ -33,12 +27,6 @@ module _ (q : After-is_queued) where
 
   order : rising (labels_of_results f.results) ≡ true
   order = q.requires.valid.order
-
-pub returns-then-is_queued : goal.returns-then-is_queued
-returns-then-is_queued c = finds_pending c.args.label (f (goal.at.returns-then-is_queued c).After-is_queued) (low (goal.at.returns-then-is_queued c).After-is_queued) (high (goal.at.returns-then-is_queued c).After-is_queued) (sym c.is_queued.ensures ∙ c.if-is_queued.true)
-
-pub label_at-requires : goal.label_at-requires
-label_at-requires c = ((goal.at.label_at-requires c).After-is_queued.requires.proper, omega (arith, c.total.ensures.is, c.if-at-total.true))
 
 pub returns-then-label_at-l : goal.returns-then-label_at-l
 returns-then-label_at-l c =

@@ -1,13 +1,10 @@
 -- The loop's invariant: of the keys below this one, those that were drawn are kept.
 -- Assumes nothing.
 use mathlib.Core.Path.{◌≡◌}
-use Prim.Native.Nat.{◌≤◌, ◌-◌}
+use Prim.Native.Nat.{◌-◌}
 use Rattle.graph.specs.Packed.{listed, packed}
 use Rattle.load.specs.Load.{kept_from}
 use Rattle.load.proofs.targets.sorted.Given as goal
 
 abbrev pub invariant-loop-k : goal.invariant-loop-k
-invariant-loop-k l = (1 ≤ l.k) × (l.k ≤ 65) × (l.keys ≡ packed (kept_from (l.k - 1) 1 (listed l.drawn)))
-
-abbrev pub decreases-loop-k : goal.decreases-loop-k
-decreases-loop-k l = 65 - l.k
+invariant-loop-k l = l.keys ≡ packed (kept_from (l.k - 1) 1 (listed l.drawn))

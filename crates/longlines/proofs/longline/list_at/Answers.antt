@@ -1,20 +1,11 @@
--- `longlines::longline::list_at` meets its contract. The loop's invariant: no equals sign stands from `at` on.
+-- `longlines::longline::list_at` meets its contract: what `rposition` finds is the last equals sign.
 -- Assumes nothing.
-use Rattle.longlines.proofs.Cuts.{not_here, cut_here, no_cut, search_all}
-use native.Mathlib.Omega.{arith}
 use borrow.Author.Rules.{rules}
+use Rattle.longlines.proofs.Cuts.{last_equals, no_equals_sign}
 use Rattle.longlines.proofs.longline.list_at.Goals as goal
 
-pub loop-at-init : goal.loop-at-init
-loop-at-init c = (search rules, search_all c.args.line.now)
+pub returns-in-Some : goal.returns-in-Some
+returns-in-Some c = last_equals c.args.line.now c.in-Some.k (search rules) (search rules) (search rules)
 
-pub returns-then-line-at-eq61 : goal.returns-then-line-at-eq61
-returns-then-line-at-eq61 c =
-    cut_here _ _ c.loop-at.invariant.0 c.loop-at.invariant.1 c.loop-at-test.true c.if-line-at-eq61.true
-
-pub loop-at-preserved : goal.loop-at-preserved
-loop-at-preserved c =
-    (omega arith, not_here _ _ c.loop-at.invariant.0 c.loop-at.invariant.1 c.loop-at-test.true c.if-line-at-eq61.false)
-
-pub returns : goal.returns
-returns c = no_cut _ _ c.loop-at.invariant.0 c.loop-at.invariant.1 c.loop-at-test.false
+pub returns-in-None : goal.returns-in-None
+returns-in-None c = no_equals_sign c.args.line.now (search rules)

@@ -54,27 +54,10 @@ serve_last-last-requires c =
     let all : length (take 128 c.args.out.now) ≡ 128 = length-take-le 128 c.args.out.now (omega (arith, c.requires.1)) in
     (c.requires.0, omega (arith, all), c.requires.2)
 
-pub slice_bounds-serve_end-count : goal.slice_bounds-serve_end-count
-slice_bounds-serve_end-count c =
-    let a = (goal.at.slice_bounds-serve_end-count c).After-serve_last-last in
-    omega (arith, used a, room a)
-
-pub slice_bounds-serve_end-start : goal.slice_bounds-serve_end-start
-slice_bounds-serve_end-start c =
-    let a = (goal.at.slice_bounds-serve_end-start c).After-serve_last-last in
-    omega (arith, used a, room a)
-
 pub serve_end-n-requires : goal.serve_end-n-requires
 serve_end-n-requires c =
     let a = (goal.at.serve_end-n-requires c).After-serve_last-last in
     omega (arith, used a, room a, mid_len c.serve_last-last.result (length (filled a)) (filled a) (omega arith))
-
-pub overflow_add-result : goal.overflow_add-result
-overflow_add-result c =
-    let a = (goal.at.overflow_add-result c).After-serve_last-last in
-    let h = total a c.serve_end-n.new.out c.serve_end-n.result c.serve_end-n.ensures.within c.serve_end-n.auto.out in
-    let size = whole a in
-    omega (arith, h, size)
 
 pub returns : goal.returns
 returns c =

@@ -3,18 +3,13 @@
 use mathlib.Core.Path.{◌≡◌, sym, ap, ◌∙◌}
 use Prim.Native.Nat.{ℕ, ◌≤◌}
 use lib.ListN.{length, take}
-use lib.Seq.{length-take-le}
-use Rattle.pieces.proofs.Feeding.{is_long, is_short_law, some_long, none_left, last_left, bytes_left}
+use Rattle.pieces.proofs.Feeding.{is_long, is_short_law, none_left, last_left, bytes_left}
 use native.Mathlib.Omega.{arith}
-use borrow.Author.Rules.{rules}
 use Rattle.pieces.proofs.ends.serve_last.Goals as goal
 use Rattle.pieces.proofs.ends.serve_last.Goals.{Else-kept-eq0}
 
 kept_few : (c : Else-kept-eq0) → c.args.s.kept ≤ length c.args.buffer.now
 kept_few c = let few = (is_short_law c.requires.2.taken.kept c.if-s.false).0 in omega (arith, few, c.requires.0)
-
-pub serve_long-requires : goal.serve_long-requires
-serve_long-requires c = (search rules, some_long c.requires.2 c.if-s.true)
 
 pub returns-then-s : goal.returns-then-s
 returns-then-s c =
@@ -34,9 +29,6 @@ returns-then-kept-eq0 c =
           none_left t (sym (is_short_law t.kept c.if-s.false).1 ∙ ap (λ (k : ℕ). take k c.args.buffer.now) empty) c.args.out.now;
       within = omega arith;
     }
-
-pub slice_bounds-serve_line-end : goal.slice_bounds-serve_line-end
-slice_bounds-serve_line-end c = sym (length-take-le _ _ (omega (arith, kept_few (goal.at.slice_bounds-serve_line-end c).Else-kept-eq0)))
 
 pub returns : goal.returns
 returns c =

@@ -1,11 +1,8 @@
 -- The bytes that are fed are those that were kept, and the piece.
 -- Assumes nothing.
-use Rattle.pieces.proofs.Feeding.{some_long, long_input, long_within, short_input}
+use Rattle.pieces.proofs.Feeding.{long_input, long_within, short_input}
 use native.Mathlib.Omega.{arith}
 use Rattle.pieces.proofs.feed.feed.Goals as goal
-
-pub feed_long-requires : goal.feed_long-requires
-feed_long-requires c = (c.requires.0, omega (arith, c.requires.1), c.requires.2, c.requires.3, some_long c.requires.4 c.if-s.true)
 
 pub returns-then-s : goal.returns-then-s
 returns-then-s c =
@@ -15,9 +12,6 @@ returns-then-s c =
       within = long_within c.args.got c.requires.4 c.if-s.true f.0;
       fewer = omega (arith, f.1, c.requires.1);
     }
-
-pub feed_lines-requires : goal.feed_lines-requires
-feed_lines-requires c = (c.requires.0, omega arith, c.requires.1, omega (arith, c.requires.1, c.requires.2), omega (arith, c.requires.3))
 
 pub returns : goal.returns
 returns c =

@@ -36,12 +36,6 @@ module _ (c : After-serve_long-used) where
   room : 8192 ≤ length (lent ++ drop 128 out)
   room = omega (arith, length-append lent (drop 128 out), lent_size, length-drop 128 out, c.requires.2)
 
-pub slice_bounds-part_to-end : goal.slice_bounds-part_to-end
-slice_bounds-part_to-end c = omega (arith, c.requires.0, c.requires.1)
-
-pub slice_bounds-part_to-end-2 : goal.slice_bounds-part_to-end-2
-slice_bounds-part_to-end-2 c = sym (length-take-le _ _ (omega (arith, c.requires.0, c.requires.1)))
-
 pub slice_bounds-go_on-end : goal.slice_bounds-go_on-end
 slice_bounds-go_on-end c =
     let a = (goal.at.slice_bounds-go_on-end c).After-part_to-n in
@@ -68,9 +62,6 @@ serve_long-used-requires c =
     let some = c.requires.4 in
     let all : length (take 128 c.args.out.now) ≡ 128 = length-take-le 128 c.args.out.now (omega (arith, c.requires.2)) in
     (omega (arith, all), (_, c.go_on-l.ensures some.0 some.1))
-
-pub overflow_add-p : goal.overflow_add-p
-overflow_add-p c = omega (arith, c.requires.3)
 
 pub feed_lines-requires : goal.feed_lines-requires
 feed_lines-requires c =

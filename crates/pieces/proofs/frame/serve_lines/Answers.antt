@@ -3,10 +3,9 @@
 use mathlib.Core.Path.{refl, sym, ◌∙◌}
 use Prim.Native.Nat.{◌+◌, ◌<◌}
 use lib.ListN.{length}
-use borrow.Author.Tests.{ltb-true, ltb-false}
+use borrow.Author.Tests.{ltb-true}
 use Rattle.lines.specs.Forms.{line_at}
-use Rattle.pieces.proofs.Framing.{served_none, served_ready, served_next}
-use native.Mathlib.Omega.{arith}
+use Rattle.pieces.proofs.Framing.{served_none, served_next}
 use borrow.Author.Rules.{rules}
 use Rattle.pieces.proofs.frame.serve_lines.Goals as goal
 use Rattle.pieces.proofs.frame.serve_lines.Goals.{In-loop-image}
@@ -19,22 +18,7 @@ module _ (c : In-loop-image) where
 pub loop-image-init : goal.loop-image-init
 loop-image-init c = (served_none _ _ _ _ c.requires.0 c.requires.1, refl, refl)
 
-pub is_whole-requires : goal.is_whole-requires
-is_whole-requires c = c.loop-image.invariant.0.inside
-
-pub serve_next-p-requires : goal.serve_next-p-requires
-serve_next-p-requires c =
-    let w = c.loop-image.invariant.0 in
-    let next = whole (goal.at.serve_next-p-requires c).In-loop-image in
-    (served_ready w next, omega (arith, next, w.fewer, c.requires.2))
-
-pub loop-image-smaller : goal.loop-image-smaller
-loop-image-smaller c = omega (arith, whole (goal.at.loop-image-smaller c).In-loop-image, c.serve_next-p.ensures.past)
-
 pub loop-image-preserved : goal.loop-image-preserved
 loop-image-preserved c =
     let next = whole (goal.at.loop-image-preserved c).In-loop-image in
     (served_next c.loop-image.invariant.0 next (search rules) c.serve_next-p.ensures, search rules, search rules)
-
-pub returns : goal.returns
-returns c = (c.loop-image.invariant.0, ltb-false _ _ (sym c.is_whole.ensures ∙ c.loop-image-test.false))

@@ -1,71 +1,45 @@
 -- Each arm accepts the call of its kind, an unmap's the map that undoes; a key fits in a byte.
 -- Assumes nothing.
-use mathlib.Core.Path.{refl, sym}
-use mathlib.Core.Bool.{true≢false}
 use Rattle.calls.specs.Inner.Accepting.{named_in}
 use Rattle.lines.specs.Inner.Answers.{call_form}
 use Rattle.lines.specs.declared.call.CallKind.TheVariants.{Add, Map, Link, Unlink, Sum, Top, Pick, Near}
-use Rattle.session.proofs.Accepting.{accepts, labelled_as, unmap_as, key_small}
+use Rattle.session.proofs.Accepting.{accepts, labelled_as, unmap_as}
 use Rattle.session.proofs.accepts.accept.Goals as goal
-
-pub overflow_cast-x : goal.overflow_cast-x
-overflow_cast-x c =
-    record { fits = key_small c.args.kind Link c.args.x c.args.y (named_in c.args.to) _ _ c.in-Link.is c.requires.1.form refl }
-
-pub overflow_cast-x-in-Unlink : goal.overflow_cast-x-in-Unlink
-overflow_cast-x-in-Unlink c =
-    record { fits = key_small c.args.kind Unlink c.args.x c.args.y (named_in c.args.to) _ _ c.in-Unlink.is c.requires.1.form refl }
-
-pub accept_operation-requires-in-Sum : goal.accept_operation-requires-in-Sum
-accept_operation-requires-in-Sum c = (c.requires.0, c.requires.1.targets, λ e. absurd (true≢false (sym e)))
-
-pub accept_operation-requires-in-Top : goal.accept_operation-requires-in-Top
-accept_operation-requires-in-Top c = (c.requires.0, c.requires.1.targets, λ e. absurd (true≢false (sym e)))
-
-pub accept_operation-requires-in-Pick : goal.accept_operation-requires-in-Pick
-accept_operation-requires-in-Pick c = (c.requires.0, c.requires.1.targets, λ e. absurd (true≢false (sym e)))
-
-pub overflow_cast-x-in-Near : goal.overflow_cast-x-in-Near
-overflow_cast-x-in-Near c =
-    record { fits = key_small c.args.kind Near c.args.x c.args.y (named_in c.args.to) _ _ c.in-Near.is c.requires.1.form refl }
-
-pub accept_operation-requires-in-Near : goal.accept_operation-requires-in-Near
-accept_operation-requires-in-Near c = (c.requires.0, c.requires.1.targets, λ e. absurd (true≢false (sym e)))
 
 pub returns-in-Add : goal.returns-in-Add
 returns-in-Add c =
-    accepts (call_form c.args.kind c.args.x c.args.y (named_in c.args.to)) _ c.args.image.now _ _ c.requires.1.form c.requires.0 (λ i. (c.slice_known-in-Add-1.given i).fits) (labelled_as c.args.kind Add c.args.x c.args.y (named_in c.args.to) c.in-Add.is _) c.accept_add.ensures
+    accepts (call_form c.args.call.kind c.args.call.x c.args.call.y (named_in c.args.call.to)) _ c.args.image.now _ _ c.requires.1.form c.requires.0 (λ i. (c.slice_known-in-Add-1.given i).fits) (labelled_as c.args.call.kind Add c.args.call.x c.args.call.y (named_in c.args.call.to) c.in-Add.is _) c.accept_add.ensures
 
 pub returns-in-Map : goal.returns-in-Map
 returns-in-Map c =
-    accepts (call_form c.args.kind c.args.x c.args.y (named_in c.args.to)) _ c.args.image.now _ _ c.requires.1.form c.requires.0 (λ i. (c.slice_known-in-Map-1.given i).fits) (labelled_as c.args.kind Map c.args.x c.args.y (named_in c.args.to) c.in-Map.is _) c.accept_operation.ensures
+    accepts (call_form c.args.call.kind c.args.call.x c.args.call.y (named_in c.args.call.to)) _ c.args.image.now _ _ c.requires.1.form c.requires.0 (λ i. (c.slice_known-in-Map-1.given i).fits) (labelled_as c.args.call.kind Map c.args.call.x c.args.call.y (named_in c.args.call.to) c.in-Map.is _) c.accept_operation.ensures
 
 pub returns-in-Link : goal.returns-in-Link
 returns-in-Link c =
-    accepts (call_form c.args.kind c.args.x c.args.y (named_in c.args.to)) _ c.args.image.now _ _ c.requires.1.form c.requires.0 (λ i. (c.slice_known-in-Link-1.given i).fits) (labelled_as c.args.kind Link c.args.x c.args.y (named_in c.args.to) c.in-Link.is _) c.accept_operation-in-Link.ensures
+    accepts (call_form c.args.call.kind c.args.call.x c.args.call.y (named_in c.args.call.to)) _ c.args.image.now _ _ c.requires.1.form c.requires.0 (λ i. (c.slice_known-in-Link-1.given i).fits) (labelled_as c.args.call.kind Link c.args.call.x c.args.call.y (named_in c.args.call.to) c.in-Link.is _) c.accept_operation-in-Link.ensures
 
 pub returns-in-Unlink : goal.returns-in-Unlink
 returns-in-Unlink c =
-    accepts (call_form c.args.kind c.args.x c.args.y (named_in c.args.to)) _ c.args.image.now _ _ c.requires.1.form c.requires.0 (λ i. (c.slice_known-in-Unlink-1.given i).fits) (labelled_as c.args.kind Unlink c.args.x c.args.y (named_in c.args.to) c.in-Unlink.is _) c.accept_operation-in-Unlink.ensures
+    accepts (call_form c.args.call.kind c.args.call.x c.args.call.y (named_in c.args.call.to)) _ c.args.image.now _ _ c.requires.1.form c.requires.0 (λ i. (c.slice_known-in-Unlink-1.given i).fits) (labelled_as c.args.call.kind Unlink c.args.call.x c.args.call.y (named_in c.args.call.to) c.in-Unlink.is _) c.accept_operation-in-Unlink.ensures
 
 pub returns-in-Sum : goal.returns-in-Sum
 returns-in-Sum c =
-    accepts (call_form c.args.kind c.args.x c.args.y (named_in c.args.to)) _ c.args.image.now _ _ c.requires.1.form c.requires.0 (λ i. (c.slice_known-in-Sum-1.given i).fits) (labelled_as c.args.kind Sum c.args.x c.args.y (named_in c.args.to) c.in-Sum.is _) c.accept_operation-in-Sum.ensures
+    accepts (call_form c.args.call.kind c.args.call.x c.args.call.y (named_in c.args.call.to)) _ c.args.image.now _ _ c.requires.1.form c.requires.0 (λ i. (c.slice_known-in-Sum-1.given i).fits) (labelled_as c.args.call.kind Sum c.args.call.x c.args.call.y (named_in c.args.call.to) c.in-Sum.is _) c.accept_operation-in-Sum.ensures
 
 pub returns-in-Top : goal.returns-in-Top
 returns-in-Top c =
-    accepts (call_form c.args.kind c.args.x c.args.y (named_in c.args.to)) _ c.args.image.now _ _ c.requires.1.form c.requires.0 (λ i. (c.slice_known-in-Top-1.given i).fits) (labelled_as c.args.kind Top c.args.x c.args.y (named_in c.args.to) c.in-Top.is _) c.accept_operation-in-Top.ensures
+    accepts (call_form c.args.call.kind c.args.call.x c.args.call.y (named_in c.args.call.to)) _ c.args.image.now _ _ c.requires.1.form c.requires.0 (λ i. (c.slice_known-in-Top-1.given i).fits) (labelled_as c.args.call.kind Top c.args.call.x c.args.call.y (named_in c.args.call.to) c.in-Top.is _) c.accept_operation-in-Top.ensures
 
 pub returns-in-Pick : goal.returns-in-Pick
 returns-in-Pick c =
-    accepts (call_form c.args.kind c.args.x c.args.y (named_in c.args.to)) _ c.args.image.now _ _ c.requires.1.form c.requires.0 (λ i. (c.slice_known-in-Pick-1.given i).fits) (labelled_as c.args.kind Pick c.args.x c.args.y (named_in c.args.to) c.in-Pick.is _) c.accept_operation-in-Pick.ensures
+    accepts (call_form c.args.call.kind c.args.call.x c.args.call.y (named_in c.args.call.to)) _ c.args.image.now _ _ c.requires.1.form c.requires.0 (λ i. (c.slice_known-in-Pick-1.given i).fits) (labelled_as c.args.call.kind Pick c.args.call.x c.args.call.y (named_in c.args.call.to) c.in-Pick.is _) c.accept_operation-in-Pick.ensures
 
 pub returns-in-Near : goal.returns-in-Near
 returns-in-Near c =
-    accepts (call_form c.args.kind c.args.x c.args.y (named_in c.args.to)) _ c.args.image.now _ _ c.requires.1.form c.requires.0 (λ i. (c.slice_known-in-Near-1.given i).fits) (labelled_as c.args.kind Near c.args.x c.args.y (named_in c.args.to) c.in-Near.is _) c.accept_operation-in-Near.ensures
+    accepts (call_form c.args.call.kind c.args.call.x c.args.call.y (named_in c.args.call.to)) _ c.args.image.now _ _ c.requires.1.form c.requires.0 (λ i. (c.slice_known-in-Near-1.given i).fits) (labelled_as c.args.call.kind Near c.args.call.x c.args.call.y (named_in c.args.call.to) c.in-Near.is _) c.accept_operation-in-Near.ensures
 
 pub returns-in-Unmap : goal.returns-in-Unmap
 returns-in-Unmap c =
-    accepts (call_form c.args.kind c.args.x c.args.y (named_in c.args.to)) _ c.args.image.now _ _ c.requires.1.form c.requires.0 (λ i. (c.slice_known-in-Unmap-1.given i).fits)
-    (unmap_as c.args.kind c.args.x c.args.y (named_in c.args.to) c.in-Unmap.is _ c.inverse.ensures _)
+    accepts (call_form c.args.call.kind c.args.call.x c.args.call.y (named_in c.args.call.to)) _ c.args.image.now _ _ c.requires.1.form c.requires.0 (λ i. (c.slice_known-in-Unmap-1.given i).fits)
+    (unmap_as c.args.call.kind c.args.call.x c.args.call.y (named_in c.args.call.to) c.in-Unmap.is _ c.inverse.ensures _)
     c.accept_operation-in-Unmap.ensures

@@ -1,23 +1,14 @@
 -- What is counted, with what is still to be taken, is what drain takes.
 -- Assumes nothing.
 use mathlib.Core.Path.{sym, subst}
-use Rattle.session.proofs.DrainLoop.{Goes, Loop, loop_first, loop_next, loop_done, counts_fit}
+use Rattle.session.proofs.DrainLoop.{Goes, Loop, loop_next, loop_done, counts_fit}
 use native.Mathlib.Omega.{arith}
 use borrow.Author.Rules.{rules}
 use Rattle.session.proofs.drain.drain.Goals as goal
 use Rattle.session.proofs.drain.drain.Goals.{After-slice_known-in-loop-image-1}
 
-pub loop-image-init : goal.loop-image-init
-loop-image-init c = loop_first _ c.requires (λ i. (c.slice_known-1.given i).fits)
-
-pub total-requires : goal.total-requires
-total-requires c = c.loop-image.invariant.image_valid_law.proper
-
-pub drain_one-taken-requires : goal.drain_one-taken-requires
-drain_one-taken-requires c = (c.loop-image.invariant.image_valid_law, omega (arith, c.total.ensures.is, c.loop-image-test.true))
-
-pub raised-c-requires : goal.raised-c-requires
-raised-c-requires c =
+pub raise-requires : goal.raise-requires
+raise-requires c =
     counts_fit c.args.image.now c.loop-image.image c.loop-image.c c.requires c.loop-image.invariant
 
 -- a turn took a step
@@ -29,7 +20,7 @@ pub loop-image-smaller : goal.loop-image-smaller
 loop-image-smaller c = (turn (goal.at.loop-image-smaller c).After-slice_known-in-loop-image-1).lighter
 
 pub loop-image-preserved : goal.loop-image-preserved
-loop-image-preserved c = subst (Loop _ _) (sym c.raised-c.ensures) (turn (goal.at.loop-image-preserved c).After-slice_known-in-loop-image-1).loop
+loop-image-preserved c = subst (Loop _ _) (sym c.raise.ensures) (turn (goal.at.loop-image-preserved c).After-slice_known-in-loop-image-1).loop
 
 pub returns : goal.returns
 returns c =
