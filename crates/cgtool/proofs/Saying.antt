@@ -14,7 +14,7 @@ use Rattle.text.proofs.Pasting.{take_pasted, written_size}
 use Rattle.print.specs.Printed.{numbered, newline}
 use Rattle.cgtool.specs.Commands.{said}
 use Rattle.cgtool.specs.Inner.Outputs.{Says}
-use Rattle.cgtool.specs.declared.answers.ExitStatus.TheVariants.{Refused}
+use Rattle.cgtool.specs.declared.answers.ExitStatus.TheVariants.{Failed}
 
 abbrev pub refusal_line : ℕ → List ℕ
 refusal_line n = numbered (ascii "refused=") n ++ newline
@@ -23,7 +23,7 @@ pub refusal_fits : (n : ℕ) → n < modulus → (s : List ℕ) → 19 ≤ lengt
 unfolding ascii
 refusal_fits n h s room = simp length-append (omega (arith, len_ten n h))
 
-pub refusal_written : (n : ℕ) {k : ℕ} → n ≡ k → {s o : List ℕ} {p : ℕ} → 0 + length (refusal_line n) ≤ length s → TextPut s 0 (refusal_line n) o p → Says o (record { length = p; status = Refused }) (said (refused k))
+pub refusal_written : (n : ℕ) {k : ℕ} → n ≡ k → {s o : List ℕ} {p : ℕ} → 0 + length (refusal_line n) ≤ length s → TextPut s 0 (refusal_line n) o p → Says o (record { length = p; status = Failed }) (said (refused k))
 refusal_written n same {s} {o} {p} fits w =
     record {
       within = omega (arith, w.place, written_size w fits);

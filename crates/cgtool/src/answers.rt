@@ -13,11 +13,11 @@ use page::write::page;
 use print::lines::put_field;
 use text::put::put_bytes;
 
-// What the process exits with, where its output could be written.
+// What the process exits with. Failed: something was refused, or the output could not be written.
 #[derive(Clone, Copy, Debug, PartialEq, Eq)]
 pub enum ExitStatus {
     Done = 0,
-    Refused = 1,
+    Failed = 1,
     WrongArguments = 2,
 }
 
@@ -45,7 +45,7 @@ fn refusal_said(out: &mut [u8], refusal: Refusal) -> Said
     let n = put_bytes(out, p, b"\n");
     Said {
         length: n,
-        status: ExitStatus::Refused,
+        status: ExitStatus::Failed,
     }
 }
 

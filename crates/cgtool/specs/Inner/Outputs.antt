@@ -7,7 +7,7 @@ use Rattle.cgtool.specs.declared.commands.Asked.{Asked}
 use Rattle.cgtool.specs.declared.commands.Asked.TheVariants.{Load, Page, Nodes}
 use Rattle.cgtool.specs.declared.answers.Said.{Said}
 use Rattle.cgtool.specs.declared.answers.ExitStatus.{ExitStatus}
-use Rattle.cgtool.specs.declared.answers.ExitStatus.TheVariants.{Done, Refused, WrongArguments}
+use Rattle.cgtool.specs.declared.answers.ExitStatus.TheVariants.{Done, Failed, WrongArguments}
 
 -- the command that the arguments are of, or None where they are of none
 abbrev pub AskedFor : Arguments → Option Asked → Type 0
@@ -32,7 +32,7 @@ answer_in out = map_done (λ n. take n out)
 -- the number that the process exits with
 abbrev pub status_number : ExitStatus → ℕ
 status_number Done = 0
-status_number Refused = 1
+status_number Failed = 1
 status_number WrongArguments = 2
 
 -- what is printed of an output
