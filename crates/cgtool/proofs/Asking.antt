@@ -8,7 +8,7 @@ use lib.Dec.{eqb}
 use lib.ListN.{get_or}
 use Rattle.graph.specs.Words.{modulus}
 use Rattle.text.specs.Text.{ascii, decimal}
-use Rattle.lines.proofs.KeyLists.{words_below, below_words}
+use Rattle.keylists.proofs.KeyLists.{words_below, below_words}
 use Rattle.cgtool.specs.Commands.{Arguments, Command, load, page, nodes, IsCommand}
 
 -- two verbs are told apart by their first byte

@@ -16,7 +16,6 @@ use Rattle.graph.specs.Valid.{Valid}
 use Rattle.text.specs.Text.{texts}
 use Rattle.text.proofs.Pasting.{length_pasted, take_pasted}
 use Rattle.print.specs.Printed.{node_text}
-use Rattle.graph.specs.declared.refusal.Refusal.{Refusal}
 use Rattle.pagelines.specs.Page.{page_text, PageOf}
 use Rattle.host.specs.Entries.{other_length, other_bytes, other_line, served as entered}
 use Rattle.page.specs.Entries.{text_served, WritesPage, ReadsPage, of_nodes, other_page}
@@ -58,9 +57,9 @@ answer_of x = answer_in x.output x.answer
 abbrev Inside : Returns → Type 0
 Inside x = Within x.output x.answer
 
-pub record AnswerIn (c : Command) (lent out : List ℕ) (r : Result ℕ Refusal) : Type 0 where
-  pub within : Within out r
-  pub answers : AnswerTo c lent (answer_in out r)
+pub record AnswerIn (c : Command) (lent out : List ℕ) (a : Answer ℕ) : Type 0 where
+  pub within : Within out a
+  pub answers : AnswerTo c lent (answer_in out a)
 
 module _ (out text : List ℕ) (fits : length text ≤ length out) where
   inside : Inside (text_served returns out text)
@@ -69,8 +68,8 @@ module _ (out text : List ℕ) (fits : length text ≤ length out) where
   answer : answer_of (text_served returns out text) ≡ done text
   answer = rw (le-leb (length text) (length out) fits) (ap done (take_pasted out text (length text) (omega arith)))
 
-module _ (out : List ℕ) (room : 3584 ≤ length out) (r : Result ℕ Refusal) {after : List ℕ} where
-  pub page_answered_law : {image : List ℕ} → WritesPage returns image out (returns r after) → AnswerIn page image after r
+module _ (out : List ℕ) (room : 3584 ≤ length out) (a : Answer ℕ) {after : List ℕ} where
+  pub page_answered_law : {image : List ℕ} → WritesPage returns image out (returns a after) → AnswerIn page image after a
   page_answered_law (other_length h e) = record { within = subst Inside (sym e) tt; answers = other_length h (ap answer_of e) }
   page_answered_law (other_bytes l h e) = record { within = subst Inside (sym e) tt; answers = other_bytes l h (ap answer_of e) }
   page_answered_law (other_line s h never e) = absurd (never tt tt)
@@ -79,7 +78,7 @@ module _ (out : List ℕ) (room : 3584 ≤ length out) (r : Result ℕ Refusal) 
       let fits : length text ≤ length out = omega (arith, page_fits s h.valid, room) in
       record { within = subst Inside (sym e) (inside out text fits); answers = entered s h f i (ap answer_of e ∙ answer out text fits) }
 
-  pub nodes_answered_law : {text : List ℕ} → ReadsPage returns text out (returns r after) → AnswerIn nodes text after r
+  pub nodes_answered_law : {text : List ℕ} → ReadsPage returns text out (returns a after) → AnswerIn nodes text after a
   nodes_answered_law (of_nodes ns p e) =
       let lines = texts node_text ns in
       let fits : length lines ≤ length out = omega (arith, nodes_fit p, room) in

@@ -1,7 +1,7 @@
 // What the program prints, and the status that it ends with, by what it is asked for.
 ghost use Rattle.std.specs.Prelude.{◌≡◌, ◌≤◌, length};
 ghost use Rattle.graph.specs.Refusals.{refused};
-ghost use Rattle.graph.specs.Refused.{refusal_number};
+ghost use Rattle.graph.specs.Refused.{refusal_number, answered};
 ghost use Rattle.cgtool.specs.Commands.{said, load_answer, page, nodes};
 ghost use Rattle.cgtool.specs.Inner.Outputs.{Within, answer_in, Says, SaysTo, Answers};
 
@@ -13,11 +13,11 @@ use page::write::page;
 use print::lines::put_field;
 use text::put::put_bytes;
 
-// What the process exits with, where its output could be written.
+// What the process exits with. Failed: something was refused, or the output could not be written.
 #[derive(Clone, Copy, Debug, PartialEq, Eq)]
 pub enum ExitStatus {
     Done = 0,
-    Refused = 1,
+    Failed = 1,
     WrongArguments = 2,
 }
 
@@ -45,14 +45,14 @@ fn refusal_said(out: &mut [u8], refusal: Refusal) -> Said
     let n = put_bytes(out, p, b"\n");
     Said {
         length: n,
-        status: ExitStatus::Refused,
+        status: ExitStatus::Failed,
     }
 }
 
 // What a function returned that wrote to `out`.
 fn returned_said(returned: Result<u32, Refusal>, out: &mut [u8]) -> Said
-    requires { (19 ≤ length out.old) × Within out.old returned }
-    ensures { Says out.new result (said (answer_in out.old returned)) }
+    requires { (19 ≤ length out.old) × Within out.old (answered (λ n. n) returned) }
+    ensures { Says out.new result (said (answer_in out.old (answered (λ n. n) returned))) }
 {
     match returned {
         Err(refusal) => refusal_said(out, refusal),

@@ -1,6 +1,6 @@
 -- What each kind of writer makes of a region, and of the whole image.
 -- Assumes nothing.
-use mathlib.Core.Path.{◌≡◌, sym, ap, subst, ◌∙◌}
+use mathlib.Core.Path.{◌≡◌, refl, sym, ap, subst, ◌∙◌}
 use Prim.Native.Nat.{ℕ, suc, ◌+◌, ◌*◌, ◌-◌, ◌^◌, ◌≤◌, ◌<◌}
 use native.Mathlib.Nat.{mul-suc, mul-le-mul_left}
 use native.Mathlib.Omega.{arith}
@@ -19,10 +19,10 @@ use Rattle.records.specs.declared.node.NodeRecord.{NodeRecord}
 use Rattle.records.specs.declared.op.OpRecord.{OpRecord}
 use Rattle.records.specs.declared.result.ResultRecord.{ResultRecord}
 use Rattle.image.specs.Inner.Regions.{Region, place, record_at, listed_in, blank, Zeros, insert_at, Sound, ViewWritten, view, node_region, op_region, result_region, view_with_nodes, view_with_ops, view_with_results, view_with_last}
-use Rattle.image.specs.Inner.Moves.{MovedDown, MovedUp, Zeroed}
+use Rattle.image.specs.Inner.Moves.{MovedDown, MovedUp, Zeroed, Removed}
 use Rattle.image.specs.Layout.{View}
 use Rattle.image.proofs.Parts.{next_place, length_remove, remove_below, remove_above, length_insert, insert_below, insert_at_law, insert_above}
-use Rattle.image.proofs.Regions.{Same, After, after, kept, record_of, record_same, record_kept, put_same, put_other, put_after}
+use Rattle.image.proofs.Regions.{Same, After, after, kept, count_of, record_of, record_same, record_kept, put_same, put_other, put_after}
 
 module _ {A : Type 0} (R : Region A) where
   -- t is s with xs in the region, and nothing else changed
@@ -206,6 +206,23 @@ module _ {A : Type 0} (R : Region A) where
         (λ i l.
         let full : R.size * o ≤ R.size * 64 = mul-le-mul_left {m = o} {n = 64} R.size f.few in
         c.above i (omega arith) ∙ m.above i (omega arith))
+
+-- by the count in the image
+module _ {A : Type 0} (R : Region A) (s : List ℕ) (f : Fits R s) where
+  pub appended : (bs : List ℕ) (x : A) → length bs ≡ R.size → R.decode bs ≡ x → length (listed_in R s) < 64
+      → Change R s (set (pasted s (place R (get_or s R.slot 0)) bs) R.slot (get_or s R.slot 0 + 1)) (listed_in R s ++ (x ∷ []))
+  appended bs x size back less =
+      subst (λ (k : ℕ). Change R s (set (pasted s (place R k) bs) R.slot (k + 1)) (listed_in R s ++ (x ∷ []))) (count_of R s)
+      (append_change R s f bs x size back less (length (listed_in R s) + 1) refl)
+
+  pub removed : (t : List ℕ) (p : ℕ) → p < length (listed_in R s) → Removed R.slot R.base R.size p s t → Change R s t (remove_at p (listed_in R s))
+  removed t p h r =
+      let n = sym (count_of R s) in
+      rw r.after
+      (remove_change R s r.moved r.cleared f p h
+      (subst (λ (k : ℕ). MovedDown (place R p) (place R k) R.size s r.moved) n r.down)
+      (subst (λ (k : ℕ). Zeroed (place R k - R.size) (place R k) r.moved r.cleared) n r.zeros)
+      (get_or s R.slot 0 - 1) (ap (λ (k : ℕ). k - 1) (sym (count_of R s))))
 
 -- THE WHOLE IMAGE
 pub written : (s t : List ℕ) (v : View) → length t ≡ 4112 → get_or t 0 0 ≡ get_or s 0 0 → Same s t 6 16 → le16 t 4 ≡ v.last

@@ -2,5 +2,6 @@
 #![tactic(auto)]
 
 pub mod read;
+pub mod region;
 pub mod shift;
 pub mod write;

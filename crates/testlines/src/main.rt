@@ -22,6 +22,7 @@ fn show_refusal(rt: &impl Print, line: u32, refusal: Refusal) {
     let _ = rt.write_all(&out[..n]);
 }
 
+// These three are not one function over a closure: its contract would have to say that the line has room.
 fn show_result(rt: &impl Print, label: u32, value: u32, left: Keys) {
     let n = result_len(label, value, left);
     let mut out = [0u8; 128];

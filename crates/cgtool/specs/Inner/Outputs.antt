@@ -1,15 +1,13 @@
 -- What the arguments ask for, and what stands in the program's output.
 -- Assumes nothing.
-use Rattle.std.specs.Prelude.{ℕ, ◌≤◌, ◌≡◌, List, length, take, Option, Some, None, Result, Ok, Err}
-use Rattle.graph.specs.Refusals.{Answer}
-use Rattle.graph.specs.Refused.{answered}
-use Rattle.graph.specs.declared.refusal.Refusal.{Refusal}
+use Rattle.std.specs.Prelude.{ℕ, ◌≤◌, ◌≡◌, List, length, take, Option, Some, None}
+use Rattle.graph.specs.Refusals.{Answer, refused, done, map_done}
 use Rattle.cgtool.specs.Commands.{Ended, said, Arguments, Command, load, page, nodes, IsCommand, AnswerTo, Ends}
 use Rattle.cgtool.specs.declared.commands.Asked.{Asked}
 use Rattle.cgtool.specs.declared.commands.Asked.TheVariants.{Load, Page, Nodes}
 use Rattle.cgtool.specs.declared.answers.Said.{Said}
 use Rattle.cgtool.specs.declared.answers.ExitStatus.{ExitStatus}
-use Rattle.cgtool.specs.declared.answers.ExitStatus.TheVariants.{Done, Refused, WrongArguments}
+use Rattle.cgtool.specs.declared.answers.ExitStatus.TheVariants.{Done, Failed, WrongArguments}
 
 -- the command that the arguments are of, or None where they are of none
 abbrev pub AskedFor : Arguments → Option Asked → Type 0
@@ -21,20 +19,20 @@ AskedFor a None = (c : Command) → IsCommand a c → ⊥
 -- ---- a function's answer and its output
 
 -- a written length lies within the output
-abbrev pub Within : List ℕ → Result ℕ Refusal → Type 0
-Within out (Ok n) = n ≤ length out
-Within out (Err r) = Unit {0}
+abbrev pub Within : List ℕ → Answer ℕ → Type 0
+Within out (done n) = n ≤ length out
+Within out (refused n) = Unit {0}
 
 -- the bytes that a length counts, or the refusal
-abbrev pub answer_in : List ℕ → Result ℕ Refusal → Answer (List ℕ)
-answer_in out = answered (λ n. take n out)
+abbrev pub answer_in : List ℕ → Answer ℕ → Answer (List ℕ)
+answer_in out = map_done (λ n. take n out)
 
 -- ---- what the program prints
 
 -- the number that the process exits with
 abbrev pub status_number : ExitStatus → ℕ
 status_number Done = 0
-status_number Refused = 1
+status_number Failed = 1
 status_number WrongArguments = 2
 
 -- what is printed of an output

@@ -5,5 +5,5 @@ use Rattle.cgtool.proofs.answers.page_said.Goals as goal
 
 pub returns : goal.returns
 returns c =
-    let a = page_answered_law c.args.out.now c.requires c.page-returned.result c.page-returned.ensures in
+    let a = page_answered_law c.args.out.now c.requires _ c.page-returned.ensures in
     record { answer = _; answers = a.answers; says = c.returned_said.ensures }

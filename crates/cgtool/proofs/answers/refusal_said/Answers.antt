@@ -10,15 +10,15 @@ use Rattle.cgtool.proofs.answers.refusal_said.Goals as goal
 pub put_field-p-requires : goal.put_field-p-requires
 unfolding ascii
 put_field-p-requires c =
-    front_fits 0 (numbered (ascii "refused=") c.args.refusal) newline (refusal_fits c.args.refusal (search rules) c.args.out.now c.requires)
+    front_fits 0 (numbered (ascii "refused=") c.number.result) newline (refusal_fits c.number.result (search rules) c.args.out.now c.requires)
 
 pub put_bytes-n-requires : goal.put_bytes-n-requires
 unfolding ascii
 put_bytes-n-requires c =
-    written_room c.put_field-p.ensures newline (refusal_fits c.args.refusal (search rules) c.args.out.now c.requires)
+    written_room c.put_field-p.ensures newline (refusal_fits c.number.result (search rules) c.args.out.now c.requires)
 
 pub returns : goal.returns
 unfolding ascii
 returns c =
-    let room = refusal_fits c.args.refusal (search rules) c.args.out.now c.requires in
-    refusal_written c.args.refusal room (written_then c.put_field-p.ensures c.put_bytes-n.ensures room)
+    let room = refusal_fits c.number.result (search rules) c.args.out.now c.requires in
+    refusal_written c.number.result c.number.ensures room (written_then c.put_field-p.ensures c.put_bytes-n.ensures room)

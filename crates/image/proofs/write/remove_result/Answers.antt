@@ -1,21 +1,16 @@
 -- `write::remove_result` meets its contract.
 -- Assumes nothing.
-use mathlib.Core.Path.{refl, ◌∙◌}
-use lib.ListN.{length-set}
+use native.Mathlib.Omega.{arith}
 use Rattle.image.specs.Inner.Regions.{result_region}
-use Rattle.image.proofs.Writers.{remove_change, results_fit, results_written}
+use Rattle.image.proofs.Regions.{count_of}
+use Rattle.image.proofs.Writers.{removed, results_fit, results_written}
 use Rattle.image.proofs.write.remove_result.Goals as goal
 
-pub shape_of-image : goal.shape_of-image
-shape_of-image c = simp length-set (c.clear.ensures.size ∙ c.move_down.ensures.size)
+pub remove-requires : goal.remove-requires
+remove-requires c = omega (arith, count_of result_region c.args.image.now, c.requires.0.size)
 
 pub returns : goal.returns
 returns c =
-    let m = c.result_count-m in
-    let down = c.move_down.ensures in
-    let cleared = c.clear.ensures in
     let a = c.args in
     let sound = c.requires.0 in
-    rw m.ensures
-    (results_written a.image.now sound _ _
-    (remove_change result_region a.image.now _ _ (results_fit a.image.now sound) a.p c.requires.1 (rw m.ensures at down) (rw m.ensures at cleared) _ refl))
+    results_written a.image.now sound _ _ (removed result_region a.image.now (results_fit a.image.now sound) _ a.p c.requires.1 c.remove.ensures)

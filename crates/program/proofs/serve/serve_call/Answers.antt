@@ -4,4 +4,4 @@ use Rattle.program.proofs.Serving.{call_served_law}
 use Rattle.program.proofs.serve.serve_call.Goals as goal
 
 pub returns : goal.returns
-returns c = call_served_law c.requires.1 c.requires.2 c.call_at-answer.ensures c.put_answer.ensures
+returns c = call_served_law c.requires.1 c.requires.2 c.call_at.ensures c.put_answer.ensures

@@ -10,8 +10,8 @@ serve_step-requires c = (c.requires, starts_line (ascii "step=") c.part_to-text.
 
 pub serve_claim-requires : goal.serve_claim-requires
 unfolding ascii
-serve_claim-requires c = (c.requires, starts_line (ascii "claim=") c.part_to-text.ensures c.starts_with-2.ensures c.if-starts_with-2.true)
+serve_claim-requires c = (c.requires, starts_line (ascii "claim=") c.part_to-text.ensures c.starts_with-else-starts_with.ensures c.if-starts_with-2.true)
 
 pub serve_call-requires : goal.serve_call-requires
 unfolding ascii
-serve_call-requires c = (c.requires, starts_line (ascii "step=") c.part_to-text.ensures c.starts_with.ensures c.if-starts_with.false, starts_line (ascii "claim=") c.part_to-text.ensures c.starts_with-2.ensures c.if-starts_with-2.false)
+serve_call-requires c = (c.requires, starts_line (ascii "step=") c.part_to-text.ensures c.starts_with.ensures c.if-starts_with.false, starts_line (ascii "claim=") c.part_to-text.ensures c.starts_with-else-starts_with.ensures c.if-starts_with-2.false)

@@ -6,4 +6,4 @@ use Rattle.program.proofs.Serving.{step_served_law}
 use Rattle.program.proofs.serve.serve_step.Goals as goal
 
 pub returns : goal.returns
-returns c = step_served_law c.requires.1 (takes_steps c.step_at.result c.step_at.ensures zeros).1 (rw c.step_answer-answer.ensures at c.put_answer.ensures)
+returns c = step_served_law c.requires.1 (takes_steps c.step_at.result c.step_at.ensures zeros).1 (rw c.step_answer.ensures at c.put_answer.ensures)

@@ -1,36 +1,10 @@
 -- Each arm accepts the call of its kind, an unmap's the map that undoes; a key fits in a byte.
 -- Assumes nothing.
-use mathlib.Core.Path.{refl, sym}
-use mathlib.Core.Bool.{true≢false}
 use Rattle.calls.specs.Inner.Accepting.{named_in}
 use Rattle.lines.specs.Inner.Answers.{call_form}
 use Rattle.lines.specs.declared.call.CallKind.TheVariants.{Add, Map, Link, Unlink, Sum, Top, Pick, Near}
-use Rattle.session.proofs.Accepting.{accepts, labelled_as, unmap_as, key_small}
+use Rattle.session.proofs.Accepting.{accepts, labelled_as, unmap_as}
 use Rattle.session.proofs.accepts.accept.Goals as goal
-
-pub overflow_cast-x : goal.overflow_cast-x
-overflow_cast-x c =
-    record { fits = key_small c.args.call.kind Link c.args.call.x c.args.call.y (named_in c.args.call.to) _ _ c.in-Link.is c.requires.1.form refl }
-
-pub overflow_cast-x-in-Unlink : goal.overflow_cast-x-in-Unlink
-overflow_cast-x-in-Unlink c =
-    record { fits = key_small c.args.call.kind Unlink c.args.call.x c.args.call.y (named_in c.args.call.to) _ _ c.in-Unlink.is c.requires.1.form refl }
-
-pub accept_operation-requires-in-Sum : goal.accept_operation-requires-in-Sum
-accept_operation-requires-in-Sum c = (c.requires.0, c.requires.1.targets, λ e. absurd (true≢false (sym e)))
-
-pub accept_operation-requires-in-Top : goal.accept_operation-requires-in-Top
-accept_operation-requires-in-Top c = (c.requires.0, c.requires.1.targets, λ e. absurd (true≢false (sym e)))
-
-pub accept_operation-requires-in-Pick : goal.accept_operation-requires-in-Pick
-accept_operation-requires-in-Pick c = (c.requires.0, c.requires.1.targets, λ e. absurd (true≢false (sym e)))
-
-pub overflow_cast-x-in-Near : goal.overflow_cast-x-in-Near
-overflow_cast-x-in-Near c =
-    record { fits = key_small c.args.call.kind Near c.args.call.x c.args.call.y (named_in c.args.call.to) _ _ c.in-Near.is c.requires.1.form refl }
-
-pub accept_operation-requires-in-Near : goal.accept_operation-requires-in-Near
-accept_operation-requires-in-Near c = (c.requires.0, c.requires.1.targets, λ e. absurd (true≢false (sym e)))
 
 pub returns-in-Add : goal.returns-in-Add
 returns-in-Add c =

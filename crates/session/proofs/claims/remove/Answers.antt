@@ -3,9 +3,6 @@
 use Rattle.session.proofs.Claiming.{removed}
 use Rattle.session.proofs.claims.remove.Goals as goal
 
-pub remove-requires : goal.remove-requires
-remove-requires c = (c.requires.0.proper, c.requires.1.takes.within)
-
 pub returns : goal.returns
 returns c =
     removed c.args.at c.args.image.now _ c.requires.0 (λ i. (c.slice_known-2-1.given i).fits) c.requires.1 c.remove.ensures

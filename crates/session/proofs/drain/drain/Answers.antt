@@ -1,20 +1,11 @@
 -- What is counted, with what is still to be taken, is what drain takes.
 -- Assumes nothing.
 use mathlib.Core.Path.{sym, subst}
-use Rattle.session.proofs.DrainLoop.{Goes, Loop, loop_first, loop_next, loop_done, counts_fit}
+use Rattle.session.proofs.DrainLoop.{Goes, Loop, loop_next, loop_done, counts_fit}
 use native.Mathlib.Omega.{arith}
 use borrow.Author.Rules.{rules}
 use Rattle.session.proofs.drain.drain.Goals as goal
 use Rattle.session.proofs.drain.drain.Goals.{After-slice_known-in-loop-image-1}
-
-pub loop-image-init : goal.loop-image-init
-loop-image-init c = loop_first _ c.requires (λ i. (c.slice_known-1.given i).fits)
-
-pub total-requires : goal.total-requires
-total-requires c = c.loop-image.invariant.image_valid_law.proper
-
-pub drain_one-taken-requires : goal.drain_one-taken-requires
-drain_one-taken-requires c = (c.loop-image.invariant.image_valid_law, omega (arith, c.total.ensures.is, c.loop-image-test.true))
 
 pub raise-requires : goal.raise-requires
 raise-requires c =

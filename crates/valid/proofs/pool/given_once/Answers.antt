@@ -25,9 +25,9 @@ returns-then-x-lt1 c =
     let up : c.loop-i.i ≤ a.n = omega arith in
     elim c.then-x-lt1.branch [
       | then-x-lt1-via-then-x-lt1 w ↦ turn_zero a.n a.last a.s.now c.requires c.loop-i.i up c.loop-i-test.true w.if-x-lt1.true
-      | then-x-lt1-via-else-x-lt1+then-last-x w ↦ turn_late a.n a.last a.s.now c.requires c.loop-i.i up c.loop-i-test.true w.if-x-lt1.false w.if-last-x.true
+      | then-x-lt1-via-else-x-lt1+then-last-x w ↦ turn_late a.n a.last a.s.now c.requires c.loop-i.i up c.loop-i-test.true w.if-x-lt1.false (omega arith)
       | then-x-lt1-via-else-x-lt1+else-last-x+then-is_among w ↦
-          turn_twice a.n a.last a.s.now c.requires c.loop-i.i up c.loop-i-test.true w.if-x-lt1.false w.if-last-x.false (search rules)
+          turn_twice a.n a.last a.s.now c.requires c.loop-i.i up c.loop-i-test.true w.if-x-lt1.false (omega arith) (search rules)
     ]
 
 pub loop-i-preserved : goal.loop-i-preserved
@@ -36,7 +36,7 @@ loop-i-preserved c =
     let x : ℕ = get_or a.s.now (c.loop-i.i - 1) 0 in
     let unfound : get_or c.loop-i.seen (x % 256) false ≡ true → contains x (take 64 (drop (c.loop-i.i - 1 + 1) a.s.now)) ≡ false = λ q. search rules in
     rw c.from-low.ensures
-    (turn_next a.n a.last a.s.now c.requires c.loop-i.i (omega arith) c.loop-i-test.true c.if-x-lt1.false c.if-last-x.false c.loop-i.seen c.loop-i.invariant.1 c.loop-i.invariant.0 unfound)
+    (turn_next a.n a.last a.s.now c.requires c.loop-i.i (omega arith) c.loop-i-test.true c.if-x-lt1.false (omega arith) c.loop-i.seen c.loop-i.invariant.1 c.loop-i.invariant.0 unfound)
 
 pub returns : goal.returns
 returns c =
