@@ -10,14 +10,14 @@ use Rattle.text.specs.Text.{texts}
 use Rattle.text.specs.Inner.Put.{TextPut}
 use Rattle.print.specs.Printed.{node_text}
 use Rattle.graph.specs.Refusals.{refused, done}
-use Rattle.std.specs.Prelude.{Some, None}
+use Rattle.std.specs.Prelude.{Some}
 use Rattle.valid.specs.Inner.Decoded.{session_of}
 use Rattle.state.specs.Inner.State.{flat_in}
 use Rattle.host.specs.Entries.{ImageOf, served}
 use Rattle.host.proofs.Entering.{session_valid}
 use Rattle.pagelines.specs.Page.{page_text}
-use Rattle.page.specs.Entries.{WritesPage, ReadsPage, of_nodes, other_page}
-use Rattle.page.specs.Inner.Measuring.{PageMeasured, RoomForNodes, NodesPut}
+use Rattle.page.specs.Entries.{WritesPage, ReadsPage, of_nodes}
+use Rattle.page.specs.Inner.Measuring.{PageMeasured, NodesPut}
 use Rattle.page.specs.Inner.Returning.{returns}
 use Rattle.page.proofs.ImagePages.{nodes_in, page_size}
 
@@ -34,13 +34,7 @@ module _ (image out : List ℕ) (h : ImageOf image (session_of image)) where
 -- ---- a page read back
 
 module _ (page out : List ℕ) where
-  pub no_page_law : PageMeasured page None → ReadsPage returns page out (returns (refused 35) out)
-  no_page_law never = other_page never refl
-
   module _ (n : ℕ) (m : PageMeasured page (Some n)) where
-    pub nodes_room : n ≤ length out → RoomForNodes page out
-    nodes_room h = record { ns = m.0; is = m.1; room = omega (arith, m.2.text) }
-
     pub no_nodes_room : length out < n → ReadsPage returns page out (returns (refused 34) out)
     no_nodes_room short = of_nodes m.0 m.1 (rw (lt-leb (length (texts node_text m.0)) (length out) (omega (arith, m.2.text))) refl)
 

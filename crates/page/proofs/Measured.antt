@@ -11,15 +11,12 @@ use Rattle.pagelines.specs.Page.{page_head, page_line}
 use Rattle.pagelines.specs.Inner.Columns.{HeadRead}
 use Rattle.pagelines.proofs.Widths.{lines_length}
 use Rattle.pagelines.proofs.LinesOnce.{head_once}
-use Rattle.page.specs.Inner.Measuring.{WholeLines, LinesMeasured, PageMeasured}
+use Rattle.page.specs.Inner.Measuring.{LinesMeasured, PageMeasured}
 use Rattle.page.proofs.PagesRead.{whole_length}
 
 module _ (page : List ℕ) where
   pub too_short : length page < 38 → PageMeasured page None
   too_short h ns p = omega (arith, whole_length p)
-
-  pub no_head : HeadRead page None → PageMeasured page None
-  no_head never ns p = never (length ns) p.few (texts page_line ns) p.same
 
   module _ (n : ℕ) (h : HeadRead page (Some n)) where
     pub other_length_law : (length page ≡ 38 * (n + 1) → ⊥) → PageMeasured page None
@@ -28,9 +25,6 @@ module _ (page : List ℕ) where
         ne (omega (arith, whole_length p))
 
     module _ (e : length page ≡ 38 * (n + 1)) where
-      pub whole_lines : WholeLines page
-      whole_lines = record { count = n; few = h.fits; whole = e }
-
       pub page_measured : (r : Option ℕ) → LinesMeasured page r → PageMeasured page r
       page_measured (Some k) (ns, within, len) =
           let count : n ≡ length ns = omega (arith, length-drop 38 page, ap length within.text, lines_length ns within.nodes) in (

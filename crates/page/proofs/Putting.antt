@@ -38,9 +38,6 @@ module _ (page out : List ℕ) (r : RoomForNodes page out) where
 
   module _ (after : List ℕ) (p i : ℕ) (s : Put page out r.ns after p i) where
     module _ (more : i < length page / 38) where
-      pub line_room : 38 * i + 38 ≤ length page
-      line_room = omega (arith, whole_length r.is)
-
       next : i - 1 < length r.ns
       next = omega (arith, s.below, whole_length r.is)
 

@@ -20,7 +20,7 @@ use Rattle.print.specs.Inner.Lengths.{LineLength}
 use Rattle.pagelines.specs.Page.{page_line, PageNode, keys_of, PageOf}
 use Rattle.pagelines.specs.Inner.Columns.{Stands, Missing}
 use Rattle.pagelines.proofs.LinesOnce.{lines_once}
-use Rattle.page.specs.Inner.Measuring.{WholeLines, NodesIn, LengthOf}
+use Rattle.page.specs.Inner.Measuring.{WholeLines}
 use Rattle.page.proofs.PagesRead.{whole_length, after_lines, nodes_after_law, once_after}
 
 -- the lines from i on are read
@@ -56,9 +56,6 @@ scanned_none page w =
 
 -- line j is read next
 module _ {page : List ℕ} {seen : List Bool} {sum i : ℕ} (s : Scanned page seen sum i) (j : ℕ) (more : 1 ≤ j) (next : i ≡ j + 1) where
-  pub scan_room : 38 * j + 38 ≤ length page
-  scan_room = omega (arith, s.whole)
-
   place : 38 * j ≡ 38 * (j - 1 + 1)
   place = omega arith
 
@@ -114,12 +111,3 @@ module _ {page : List ℕ} {seen : List Bool} {sum i : ℕ} (s : Scanned page se
             ap (λ (b : Bool). cond b 1 0) (ap (λ (j : ℕ). get_or (set seen n.key true) j false) q ∙ get_or-set_same seen n.key true false (omega (arith, s.size, key_inside)))
             ∙ (let none : 1 ≡ 1 + count k (keys_of s.ns) = omega (arith, absent, ap (λ (j : ℕ). count j (keys_of s.ns)) q) in none)
         go_mark k h false e = omega (arith, ap {B = ℕ} (λ (b : Bool). cond b 1 0) (get_or-set_other seen n.key k true false (eqb-false k n.key e)), s.marks k h)
-
--- no line is left: the head stands before the lines read
-pub scanned_all : {page : List ℕ} {seen : List Bool} {sum i : ℕ} → Scanned page seen sum i → i ≤ 1 → (ns : List Node) × NodesIn page ns × LengthOf ns sum
-scanned_all {page} {i = i} s h =
-    let k : 38 ≡ 38 * i = omega (arith, s.below) in (
-      s.ns,
-      record { nodes = s.nodes; distinct = s.distinct; text = ap (λ (j : ℕ). drop j page) k ∙ s.text },
-      record { text = s.total; few = omega (arith, s.small, s.few) },
-    )

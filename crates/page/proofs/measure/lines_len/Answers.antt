@@ -1,14 +1,8 @@
 -- The loop's invariant: the lines from line i on are read, and their keys are marked.
 -- Assumes nothing.
 use Rattle.std.proofs.Common.{◌-◌, arith}
-use Rattle.pagelines.specs.declared.read.NodeLine.{NodeLine}
-use Rattle.graph.specs.Nodes.{Node}
-use Rattle.print.specs.Inner.Values.{node_by_value}
 use Rattle.page.proofs.Scanning.{scanned_none, scan_missing, scan_repeated, scan_more}
 use Rattle.page.proofs.measure.lines_len.Goals as goal
-
-node : NodeLine → Node
-node n = node_by_value n.key n.value n.links
 
 pub loop-i-init : goal.loop-i-init
 loop-i-init c = scanned_none _ c.requires
