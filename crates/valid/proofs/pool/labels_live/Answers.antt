@@ -1,15 +1,12 @@
 -- `pool::labels_live` meets its contract.
 -- Assumes nothing.
-use mathlib.Core.Path.{◌≡◌, refl, ap, ◌∙◌}
-use Prim.Native.Nat.{ℕ, ◌+◌, ◌-◌, ◌≤◌}
-use lib.ListN.{length, take, replicate, length-append}
-use mathlib.Core.List.{List, ◌++◌}
+use mathlib.Core.Path.{◌≡◌, refl}
+use Prim.Native.Nat.{◌+◌, ◌-◌, ◌≤◌}
+use lib.ListN.{length, replicate}
 use borrow.Author.Rules.{rules}
-use borrow.Author.Tests.{le-leb, lt-leb}
 use borrow.Rule.Slice.PartMut.{put_mid}
-use Rattle.image.specs.Inner.Regions.{view}
-use Rattle.valid.specs.Inner.Tests.{op_labels, result_labels, live_labels, given_once, Gathers}
-use Rattle.valid.proofs.Turns.{kept, padded, put_part}
+use Rattle.valid.specs.Inner.Tests.{Gathers}
+use Rattle.valid.proofs.Turns.{padded, put_part}
 use native.Mathlib.Omega.{arith}
 use Rattle.valid.proofs.pool.labels_live.Goals as goal
 use Rattle.valid.proofs.pool.labels_live.Goals.{After-fill}

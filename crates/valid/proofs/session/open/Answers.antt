@@ -2,7 +2,7 @@
 -- Assumes nothing.
 use mathlib.Core.Path.{ap, ◌∙◌}
 use lib.ListN.{length}
-use borrow.Author.Tests.{eq-eqb, ne_eqb}
+use borrow.Author.Tests.{eq-eqb}
 use Rattle.text.specs.Text.{pasted}
 use Rattle.valid.proofs.Unused.{opened}
 use Rattle.valid.proofs.session.open.Goals as goal
