@@ -10,7 +10,7 @@ import sys
 from pathlib import Path
 
 TOP = Path(__file__).resolve().parent.parent
-OUTSIDE = re.compile(r"\.\./shared|/work/|\bDESIGN\b|[Dd]ocument 0(?!1\b)|[Rr]equest S-|design's")
+OUTSIDE = re.compile(r"\.\./shared|/work/|\bDESIGN\b(?!-PASS)|[Dd]ocument 0(?!1\b)|[Rr]equest S-|design's")
 PATH = re.compile(r"[\w.-]+(?:/[\w.-]+)+\.(?:antt|rt|md|py|sh|c|h|txt|rs|svg|toml)\b")
 SKIPPED = {".git", "target", "build", "out", "__pycache__"}
 SOURCES = {".antt", ".rt", ".edit", ".md", ".py", ".sh", ".rs", ".c", ".h", ".txt", ".toml", ".in", ".gen", ""}

@@ -1,9 +1,9 @@
 -- A call line: refused in reading, or the call that the session is asked to accept.
 -- Assumes nothing.
-use mathlib.Core.Path.{◌≡◌, refl, sym, ap, subst, ◌∙◌}
+use mathlib.Core.Path.{◌≡◌, refl, sym, ap, ◌∙◌}
 use Prim.Native.Nat.{ℕ}
 use native.Mathlib.Omega.{arith}
-use mathlib.Core.List.{List, []}
+use mathlib.Core.List.{List}
 use Rattle.graph.specs.Calls.{Call, add, map, link, unlink, sum, top, pick, near, unmap, to_of, form_tests}
 use Rattle.graph.specs.OneAtATime.{is_add}
 use Rattle.graph.specs.declared.remaining.Remaining.{Remaining}

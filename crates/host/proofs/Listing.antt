@@ -7,6 +7,7 @@ use mathlib.Core.List.{List}
 use lib.ListN.{length}
 use borrow.Author.Tests.{le-leb, lt-leb}
 use Rattle.text.specs.Inner.Put.{TextPut}
+use Rattle.graph.specs.Refusals.{done}
 use Rattle.panel.specs.Returned.{answer_number}
 use Rattle.valid.specs.Inner.Decoded.{session_of}
 use Rattle.listing.specs.Listed.{listing_of}

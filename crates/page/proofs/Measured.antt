@@ -6,35 +6,27 @@ use mathlib.Core.List.{List, ◌++◌}
 use native.Mathlib.Omega.{arith}
 use lib.ListN.{length, drop, length-drop}
 use Rattle.text.specs.Text.{texts}
-use Rattle.text.specs.declared.number.Number.TheVariants.{Is as NumberIs, Not as NoNumber}
+use Rattle.std.specs.Prelude.{Option, Some, None}
 use Rattle.pagelines.specs.Page.{page_head, page_line}
 use Rattle.pagelines.specs.Inner.Columns.{HeadRead}
 use Rattle.pagelines.proofs.Widths.{lines_length}
 use Rattle.pagelines.proofs.LinesOnce.{head_once}
-use Rattle.page.specs.Inner.Measuring.{WholeLines, LinesMeasured, PageMeasured}
-use Rattle.page.specs.declared.measure.NodesLength.{NodesLength}
-use Rattle.page.specs.declared.measure.NodesLength.TheVariants.{Is, Not}
+use Rattle.page.specs.Inner.Measuring.{LinesMeasured, PageMeasured}
 use Rattle.page.proofs.PagesRead.{whole_length}
 
 module _ (page : List ℕ) where
-  pub too_short : length page < 38 → PageMeasured page Not
+  pub too_short : length page < 38 → PageMeasured page None
   too_short h ns p = omega (arith, whole_length p)
 
-  pub no_head : HeadRead page NoNumber → PageMeasured page Not
-  no_head never ns p = never (length ns) p.few (texts page_line ns) p.same
-
-  module _ (n : ℕ) (h : HeadRead page (NumberIs n)) where
-    pub other_length_law : (length page ≡ 38 * (n + 1) → ⊥) → PageMeasured page Not
+  module _ (n : ℕ) (h : HeadRead page (Some n)) where
+    pub other_length_law : (length page ≡ 38 * (n + 1) → ⊥) → PageMeasured page None
     other_length_law ne ns p =
         let same : n ≡ length ns = head_once n (length ns) (drop 38 page) (texts page_line ns) h.fits p.few (sym h.same ∙ p.same) in
         ne (omega (arith, whole_length p))
 
     module _ (e : length page ≡ 38 * (n + 1)) where
-      pub whole_lines : WholeLines page
-      whole_lines = record { count = n; few = h.fits; whole = e }
-
-      pub page_measured : (r : NodesLength) → LinesMeasured page r → PageMeasured page r
-      page_measured (Is k) (ns, within, len) =
+      pub page_measured : (r : Option ℕ) → LinesMeasured page r → PageMeasured page r
+      page_measured (Some k) (ns, within, len) =
           let count : n ≡ length ns = omega (arith, length-drop 38 page, ap length within.text, lines_length ns within.nodes) in (
             ns,
             record {
@@ -45,4 +37,4 @@ module _ (page : List ℕ) where
             },
             len,
           )
-      page_measured Not never = never
+      page_measured None never = never

@@ -4,7 +4,7 @@ use Rattle.std.specs.Prelude.{ℕ, ◌≡◌, List, [], ◌∷◌, ◌++◌, rep
 use Rattle.graph.specs.Nodes.{Node}
 use Rattle.text.specs.Text.{ascii, texts}
 use Rattle.print.specs.Printed.{newline, node_text}
-use Rattle.panel.specs.declared.returned.Returned.TheVariants.{Done, Refused}
+use Rattle.graph.specs.Refusals.{refused, done}
 use Rattle.pagelines.specs.Page.{page_text}
 use Rattle.page.specs.Entries.{written, text_served}
 
@@ -34,5 +34,5 @@ pub record Cases : Type 0 where
   -- the page of no nodes is its head, and reads back as nothing
   pub none : page_text [] ≡ line_of_text (ascii "nodes                               0")
   -- "34 an output shorter than what is to be written": 37 bytes are too few for a head, and of 39 the last stays
-  pub no_room : text_served written (replicate 37 35) (page_text []) ≡ written (Refused 34) (replicate 37 35)
-  pub room : text_served written (replicate 39 35) (page_text []) ≡ written (Done 38) (page_text [] ++ ascii "#")
+  pub no_room : text_served written (replicate 37 35) (page_text []) ≡ written (refused 34) (replicate 37 35)
+  pub room : text_served written (replicate 39 35) (page_text []) ≡ written (done 38) (page_text [] ++ ascii "#")

@@ -5,9 +5,8 @@ use Rattle.graph.specs.Nodes.{Node}
 use Rattle.graph.specs.Sessions.{graph_of}
 use Rattle.text.specs.Text.{pasted, texts}
 use Rattle.print.specs.Printed.{node_text}
-use Rattle.panel.specs.declared.returned.Returned.{Returned}
-use Rattle.panel.specs.declared.returned.Returned.TheVariants.{Done, Refused}
-use Rattle.panel.specs.Returned.{returned_number}
+use Rattle.graph.specs.Refusals.{Answer, refused, done}
+use Rattle.panel.specs.Returned.{answer_number}
 use Rattle.host.specs.Entries.{Enters}
 use Rattle.pagelines.specs.Page.{page_text, PageOf}
 
@@ -16,20 +15,20 @@ pub record Written : Type 0 where
   pub answer : ℤ
   pub output : List ℕ
 
-abbrev pub written : Returned → List ℕ → Written
-written r out = record { answer = returned_number r; output = out }
+abbrev pub written : Answer ℕ → List ℕ → Written
+written a out = record { answer = answer_number a; output = out }
 
 -- "It refuses with 34 an output shorter than what is to be written"; a refusal leaves the output as it was, and bytes after what is
 -- written stay. `give` makes of an answer and an output what is given and left
-abbrev pub text_served : {R : Type 0} (give : Returned → List ℕ → R) (out text : List ℕ) → R
-text_served give out text = cond (leb (length text) (length out)) (give (Done (length text)) (pasted out 0 text)) (give (Refused 34) out)
+abbrev pub text_served : {R : Type 0} (give : Answer ℕ → List ℕ → R) (out text : List ℕ) → R
+text_served give out text = cond (leb (length text) (length out)) (give (done (length text)) (pasted out 0 text)) (give (refused 34) out)
 
 -- `cg_page`: 1 and 2, "the image checks", then 34. There is no line, and so one form. "A line for each node in station order"
-abbrev pub WritesPage : {R : Type 0} (give : Returned → List ℕ → R) (image out : List ℕ) → R → Type 0
+abbrev pub WritesPage : {R : Type 0} (give : Answer ℕ → List ℕ → R) (image out : List ℕ) → R → Type 0
 WritesPage give image out r =
-    Enters image (λ (f : Unit {0}). Unit {0}) (λ n. give (Refused n) out) (λ s f. text_served give out (page_text (graph_of s.stations))) r
+    Enters image (λ (f : Unit {0}). Unit {0}) (λ n. give (refused n) out) (λ s f. text_served give out (page_text (graph_of s.stations))) r
 
 -- `cg_page_nodes`: "A page reads back as the listing's `key=` lines for the same nodes", 34 "after 35", "and with 35 any other page"
-pub data ReadsPage {R : Type 0} (give : Returned → List ℕ → R) (page out : List ℕ) (r : R) : Type 0 where
+pub data ReadsPage {R : Type 0} (give : Answer ℕ → List ℕ → R) (page out : List ℕ) (r : R) : Type 0 where
   of_nodes : (ns : List Node) → PageOf page ns → r ≡ text_served give out (texts node_text ns) → ReadsPage give page out r
-  other_page : ((ns : List Node) → PageOf page ns → ⊥) → r ≡ give (Refused 35) out → ReadsPage give page out r
+  other_page : ((ns : List Node) → PageOf page ns → ⊥) → r ≡ give (refused 35) out → ReadsPage give page out r

@@ -2,15 +2,13 @@
 -- Assumes nothing.
 use mathlib.Core.Path.{◌≡◌, refl, sym, ap, subst, ◌∙◌}
 use mathlib.Core.Bool.{Bool, true, false}
-use mathlib.Core.Logic.{inl}
 use mathlib.Core.List.{List, [], ◌∷◌, ◌++◌, append_assoc, append-nil}
 use Prim.Native.Nat.{ℕ, suc, ◌+◌, ◌-◌, ◌≤◌, ◌<◌}
 use native.Mathlib.Omega.{arith}
 use native.Mathlib.Numerals.{add-one}
-use lib.Dec.{eqb, ltb}
+use lib.Dec.{eqb}
 use lib.ListN.{length, take, drop, length-drop}
 use lib.Seq.{length-take-le, take-append-le, take-append-add, drop-drop}
-use borrow.Author.Tests.{ltb-true, ltb-false, lt-ltb, le-ltb}
 use borrow.Rule.Slice.PartMut.{mid_of, post_of, put_mid, mid_len, same_len_mid}
 use Rattle.text.specs.Text.{up_to}
 use Rattle.lines.specs.Forms.{line_at}
@@ -56,18 +54,6 @@ behind out part used k r fits within =
     ∙ ap (λ (x : List ℕ). take used out ++ x) (take-append-le r part (post_of used k out) within)
 
 -- ---- the next line: whether it is whole, and serving it
-
--- the line ends before the frame does
-pub whole_by : (at len : ℕ) (line part : List ℕ) → part ≡ line → at ≤ len → ltb (length part) (len - at) ≡ ltb (at + length line) len
-whole_by at len line part e h = ap (λ (x : List ℕ). ltb (length x) (len - at)) e ∙ go (ltb (length line) (len - at)) refl
-  where
-    go : (b : Bool) → ltb (length line) (len - at) ≡ b → ltb (length line) (len - at) ≡ ltb (at + length line) len
-    go true q = q ∙ sym (lt-ltb (at + length line) len (omega (arith, ltb-true (length line) (len - at) q)))
-    go false q = q ∙ sym (le-ltb (at + length line) len (omega (arith, ltb-false (length line) (len - at) q)))
-
-pub ready_by : (frame : List ℕ) (p : FramePlace) (out : List ℕ) (b : Bool) → b ≡ ltb (p.at + length (line_at frame p.at)) (length frame) → 128 ≤ length out - p.used → Ready frame p out b
-ready_by frame p out true e h = (ltb-true _ _ (sym e), omega arith)
-ready_by frame p out false e h = inl (ltb-false _ _ (sym e))
 
 pub next_served : {image frame out after part : List ℕ} {p : FramePlace} {n r : ℕ} → Ready frame p out true → n ≡ length (line_at frame p.at) → length part ≡ length (mid_of p.used (p.used + 128 - p.used) out)
     → Served image (line_at frame p.at) p.line after part r

@@ -16,7 +16,7 @@ use Rattle.graph.specs.Valid.{Each, ValidNode, ValidStation, ValidResult, KeysFa
 use Rattle.graph.proofs.Labels.{length_labels}
 use Rattle.graph.proofs.Limits.{each_right}
 use Rattle.graph.proofs.Demand3.{graph_length}
-use Rattle.lines.proofs.Lengths.{commas_short}
+use Rattle.text.proofs.CommaLists.{commas_short}
 use Rattle.print.specs.Printed.{line_of, result_text, node_text, head_text}
 use Rattle.listing.specs.Listed.{listing_of}
 

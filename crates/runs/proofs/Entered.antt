@@ -6,6 +6,7 @@ use native.Mathlib.Omega.{arith}
 use mathlib.Core.Bool.{false}
 use Rattle.graph.specs.Sessions.{Session}
 use Rattle.graph.specs.Valid.{Valid}
+use Rattle.graph.specs.Refusals.{refused}
 use Rattle.panel.specs.Returned.{answer_number}
 use Rattle.valid.specs.Values.{encode}
 use Rattle.host.specs.Entries.{ImageOf, Enters, other_length, other_bytes, other_line, served}

@@ -117,10 +117,6 @@ module _ (s : List ℕ) (proper : Proper s) where
   unfolding flat_in
   results_stand = record { things = refl; records = ap (λ (v : View). v.results) proper.clean }
 
-  pub last_held : (view s).last ≡ (flat_in s).last
-  unfolding flat_in
-  last_held = refl
-
   -- at most 64 of each
   pub few_nodes : length (flat_in s).nodes ≤ 64
   few_nodes = rw (stands_length decoded_node node_record nodes_stand) at proper.sound.nodes

@@ -4,8 +4,8 @@ use mathlib.Core.Path.{◌≡◌, refl, sym, ap, ◌∙◌, subst}
 use Prim.Native.Nat.{ℕ, zero, suc, ◌<◌}
 use native.Mathlib.Omega.{arith}
 use mathlib.Core.List.{List, [], ◌∷◌, ◌++◌}
-use lib.ListN.{length, get_or, set, length-set}
-use Rattle.flat.specs.Flat.{Tagged, Flat}
+use lib.ListN.{length, get_or, set}
+use Rattle.flat.specs.Flat.{Tagged}
 use Rattle.flat.specs.Inner.Queues.{remove_at}
 use Rattle.flat.specs.Inner.FlatSteps.{alter, no_op, with_queue}
 use Rattle.records.specs.declared.op.OpRecord.{OpRecord}
@@ -56,19 +56,6 @@ module _ (s : List ℕ) (proper : Proper s) where
     pub shown_as : {l m : List Tagged} → l ≡ m → Shows (with_queue (flat_in s) l) t → Shows (with_queue (flat_in s) m) t
     shown_as e w = subst (λ (l : List Tagged). Shows (with_queue (flat_in s) l) t) e w
 
-    pub append_as : {r : OpRecord} {x : Tagged} → RecordFor x r → Shows (with_queue (flat_in s) ((flat_in s).queue ++ (tagged_of r ∷ []))) t
-        → Shows (with_queue (flat_in s) ((flat_in s).queue ++ (x ∷ []))) t
-    append_as e w = shown_as (ap (λ (y : Tagged). (flat_in s).queue ++ (y ∷ [])) (sym e.is)) w
-
     pub alter_shown : (f : Tagged → Tagged) (i : ℕ) (x : Tagged) → i < length (flat_in s).queue → get_or (flat_in s).queue i no_op ≡ x
         → Shows (with_queue (flat_in s) (set (flat_in s).queue i (f x))) t → Shows (with_queue (flat_in s) (alter i f (flat_in s).queue)) t
     alter_shown f i x h e w = shown_as (ap (λ (y : Tagged). set (flat_in s).queue i (f y)) (sym e) ∙ alter_set f (flat_in s).queue i no_op h) w
-
-    -- two in turn: u is the image after the second
-    module _ (i : ℕ) (x : Tagged) (first : Shows (with_queue (flat_in s) (set (flat_in s).queue i x)) t) where
-      pub still_in : (j : ℕ) → j < length (flat_in s).queue → j < length (flat_in t).queue
-      still_in j h = rw (ap (λ (f : Flat). length f.queue) first.shows ∙ length-set (flat_in s).queue i x) h
-
-      pub twice_shown : (u : List ℕ) (j : ℕ) (y : Tagged) → Shows (with_queue (flat_in t) (set (flat_in t).queue j y)) u
-          → Shows (with_queue (flat_in s) (set (set (flat_in s).queue i x) j y)) u
-      twice_shown u j y w = subst (λ (f : Flat). Shows (with_queue f (set f.queue j y)) u) first.shows w

@@ -8,7 +8,7 @@ use mathlib.Core.Bool.{Bool, true, false, cond}
 use mathlib.Core.List.{List, [], ◌∷◌, ◌++◌}
 use lib.Dec.{ltb}
 use lib.ListN.{length, get_or, take, length-take}
-use lib.Seq.{take-suc, take_all, length-take-le}
+use lib.Seq.{take-suc, length-take-le}
 use borrow.Author.Tests.{eq-eqb, ne_eqb, ltb-true, ltb-false}
 use Rattle.graph.specs.declared.keys.Keys.{Keys}
 use Rattle.graph.specs.Packed.{listed, packed}
@@ -139,10 +139,6 @@ module _ (s each : List ℕ) (v : ℕ) (ts : List ℕ) where
 
     pub stored_next : (u : List ℕ) → Shows (with_results (flat_in t) (insert (result_with (get_or each i 0) v ts) (flat_in t).results)) u → Stored (i + 1) u
     stored_next u w = rw (add-one i, take-suc each i 0 h, store_next v ts (take i each) (get_or each i 0) (flat_in s).results) (rw x.shows at w)
-
-  -- and at the end, of all of them
-  pub stored_all : (i : ℕ) (t : List ℕ) → length each ≤ i → Stored i t → Shows (with_results (flat_in s) (store (results_for each v ts) (flat_in s).results)) t
-  stored_all i t h x = rw (take_all i each h) at x
 
 pub labels_count : (l : Labels) → l ≡ packed_labels (labels_of l) → l.count ≡ length (labels_of l)
 unfolding packed_labels

@@ -40,11 +40,10 @@ pub fn body_at(image: &[u8], i: usize) -> Body
     ensures { IsBody (get_or (flat_in image.now).nodes i no_node) result }
 {
     let n = node_at(image, i);
-    let links = n.links;
     Body {
         key: n.key,
         value: n.value,
-        links: links,
+        links: n.links,
     }
 }
 
@@ -58,9 +57,9 @@ pub fn put_body(image: &mut [u8], i: usize, value: u32, links: Keys)
         image,
         i,
         NodeRecord {
-            value: value,
+            value,
             key: n.key,
-            links: links,
+            links,
             spare: 0,
         },
     );
@@ -71,15 +70,13 @@ pub fn append_body(image: &mut [u8], value: u32)
     requires { (Proper image.old) × (length (flat_in image.old).nodes < 64) }
     ensures { Shows (with_nodes (flat_in image.old) ((flat_in image.old).nodes ++ (new_node (length (flat_in image.old).nodes) value ∷ []))) image.new }
 {
-    let n = node_count(image);
-    let key = (n + 1) as u8;
-    let links = Keys::none();
+    let key = (node_count(image) + 1) as u8;
     append_node(
         image,
         NodeRecord {
-            value: value,
-            key: key,
-            links: links,
+            value,
+            key,
+            links: Keys::none(),
             spare: 0,
         },
     );

@@ -63,8 +63,8 @@ fn with_key(kind: u8, key: u8, held: u32) -> ActFields
     ensures { fields_value result ≡ fields kind key 0 held }
 {
     ActFields {
-        kind: kind,
-        key: key,
+        kind,
+        key,
         a: 0,
         b: held,
     }

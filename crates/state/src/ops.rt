@@ -35,24 +35,21 @@ pub fn place_at(image: &[u8], i: usize) -> u8
     requires { (Proper image.now) × (i < length (flat_in image.now).queue) }
     ensures { result ≡ (get_or (flat_in image.now).queue i no_op).place }
 {
-    let r = record_at(image, i);
-    r.station
+    record_at(image, i).station
 }
 
 pub fn opens_at(image: &[u8], i: usize) -> bool
     requires { (Proper image.now) × (i < length (flat_in image.now).queue) }
     ensures { result ≡ (get_or (flat_in image.now).queue i no_op).opens }
 {
-    let r = record_at(image, i);
-    r.opens == 1
+    record_at(image, i).opens == 1
 }
 
 pub fn is_add_at(image: &[u8], i: usize) -> bool
     requires { (Proper image.now) × (i < length (flat_in image.now).queue) }
     ensures { result ≡ not (is_op (get_or (flat_in image.now).queue i no_op).call) }
 {
-    let r = record_at(image, i);
-    r.kind == 0
+    record_at(image, i).kind == 0
 }
 
 // Kinds 4 to 7 are folds.
@@ -60,8 +57,7 @@ pub fn is_fold_at(image: &[u8], i: usize) -> bool
     requires { (Proper image.now) × (i < length (flat_in image.now).queue) }
     ensures { result ≡ of_op false (λ o. is_fold o.act) (get_or (flat_in image.now).queue i no_op).call }
 {
-    let r = record_at(image, i);
-    3 < r.kind
+    3 < record_at(image, i).kind
 }
 
 // The targets that remain; an add has none.
@@ -69,16 +65,14 @@ pub fn targets_at(image: &[u8], i: usize) -> Remaining
     requires { (Proper image.now) × (i < length (flat_in image.now).queue) }
     ensures { TargetsHeld (of_op (these []) (λ o. o.targets) (get_or (flat_in image.now).queue i no_op).call) result }
 {
-    let r = record_at(image, i);
-    remaining_of(r)
+    remaining_of(record_at(image, i))
 }
 
 pub fn operation_at(image: &[u8], i: usize) -> Operation
     requires { (Proper image.now) × (i < length (flat_in image.now).queue) × (is_op (get_or (flat_in image.now).queue i no_op).call ≡ true) }
     ensures { Carries (get_or (flat_in image.now).queue i no_op).call result }
 {
-    let r = record_at(image, i);
-    operation_of(r)
+    operation_of(record_at(image, i))
 }
 
 pub fn add_at(image: &[u8], i: usize) -> Added
@@ -86,10 +80,8 @@ pub fn add_at(image: &[u8], i: usize) -> Added
     ensures { (get_or (flat_in image.now).queue i no_op).call ≡ add_value result }
 {
     let r = record_at(image, i);
-    let labels = r.labels;
-    let label = labels.label;
     Added {
-        label: label[0],
+        label: r.labels.label[0],
         value: r.b,
     }
 }
@@ -131,9 +123,8 @@ pub fn set_place(image: &mut [u8], i: usize, k: u8)
     requires { (Proper image.old) × (i < length (flat_in image.old).queue) }
     ensures { Shows (with_queue (flat_in image.old) (alter i (move_to k) (flat_in image.old).queue)) image.new }
 {
-    let mut r = record_at(image, i);
-    r.station = k;
-    put_record(image, i, r);
+    let r = record_at(image, i);
+    put_record(image, i, OpRecord { station: k, ..r });
 }
 
 // To station k as a move takes it: an all-call goes on without its mark.
@@ -141,19 +132,31 @@ pub fn move_op(image: &mut [u8], i: usize, k: u8)
     requires { (Proper image.old) × (i < length (flat_in image.old).queue) }
     ensures { Shows (with_queue (flat_in image.old) (alter i (move_on k) (flat_in image.old).queue)) image.new }
 {
-    let mut r = record_at(image, i);
-    r.station = k;
-    r.mark = 0;
-    put_record(image, i, r);
+    let r = record_at(image, i);
+    put_record(
+        image,
+        i,
+        OpRecord {
+            station: k,
+            mark: 0,
+            ..r
+        },
+    );
 }
 
 pub fn set_opens(image: &mut [u8], i: usize, b: bool)
     requires { (Proper image.old) × (i < length (flat_in image.old).queue) }
     ensures { Shows (with_queue (flat_in image.old) (alter i (open_as b) (flat_in image.old).queue)) image.new }
 {
-    let mut r = record_at(image, i);
-    r.opens = u8::from(b);
-    put_record(image, i, r);
+    let r = record_at(image, i);
+    put_record(
+        image,
+        i,
+        OpRecord {
+            opens: u8::from(b),
+            ..r
+        },
+    );
 }
 
 // The operation at i becomes o, in its place of its unit.
@@ -162,8 +165,7 @@ pub fn put_operation(image: &mut [u8], i: usize, o: Operation)
     ensures { Shows (with_queue (flat_in image.old) (set (flat_in image.old).queue i (with_op (get_or (flat_in image.old).queue i no_op) (op_value o)))) image.new }
 {
     let old = record_at(image, i);
-    let r = record_of(old.station, old.opens, o);
-    put_record(image, i, r);
+    put_record(image, i, record_of(old.station, old.opens, o));
 }
 
 pub fn exchange(image: &mut [u8], i: usize, j: usize)
@@ -195,8 +197,7 @@ pub fn append_add(image: &mut [u8], label: u16, value: u32)
     requires { (Proper image.old) × (length (flat_in image.old).queue < 64) }
     ensures { Shows (with_queue (flat_in image.old) ((flat_in image.old).queue ++ (record { place = 65; opens = true; call = add_of label value } ∷ []))) image.new }
 {
-    let r = add_record(label, value);
-    append_record(image, r);
+    append_record(image, add_record(label, value));
 }
 
 // An operation at the end of the top stream.
@@ -204,6 +205,5 @@ pub fn append_operation(image: &mut [u8], o: Operation)
     requires { (Proper image.old) × (length (flat_in image.old).queue < 64) × (Normal o) }
     ensures { Shows (with_queue (flat_in image.old) ((flat_in image.old).queue ++ (record { place = 65; opens = true; call = op_of (op_value o) } ∷ []))) image.new }
 {
-    let r = record_of(65, 1, o);
-    append_record(image, r);
+    append_record(image, record_of(65, 1, o));
 }

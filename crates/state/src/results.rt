@@ -50,11 +50,10 @@ pub fn call_result_at(image: &[u8], i: usize) -> CallResult
     ensures { IsCallResult (get_or (flat_in image.now).results i no_result) result }
 {
     let r = result_at(image, i);
-    let left = r.left;
     CallResult {
         label: r.label,
         value: r.value,
-        left: left,
+        left: r.left,
     }
 }
 
@@ -62,8 +61,7 @@ pub fn label_at(image: &[u8], i: usize) -> u16
     requires { (Proper image.now) × (i < length (flat_in image.now).results) }
     ensures { result ≡ (get_or (flat_in image.now).results i no_result).label }
 {
-    let r = result_at(image, i);
-    r.label
+    result_at(image, i).label
 }
 
 // Where a result with this label goes: the first place with a label above it, or the end.
@@ -85,9 +83,9 @@ pub fn store_one(image: &mut [u8], label: u16, value: u32, left: Keys)
         image,
         p,
         ResultRecord {
-            label: label,
-            value: value,
-            left: left,
+            label,
+            value,
+            left,
             spare: 0,
         },
     );

@@ -1,6 +1,6 @@
 -- The operation goes, and its results are stored.
 -- Assumes nothing.
-use mathlib.Core.Path.{sym, ap, ◌∙◌}
+use mathlib.Core.Path.{ap}
 use lib.ListN.{length}
 use Rattle.graph.specs.Targets.{left_of}
 use Rattle.graph.specs.Packed.{targets_in}
@@ -11,18 +11,12 @@ use Rattle.headsteps.proofs.Parts.{room_for, finish_shown}
 use native.Mathlib.Omega.{arith}
 use Rattle.headsteps.proofs.finish_at.Goals as goal
 
-pub left-requires : goal.left-requires
-left-requires c = c.operation_at-o.ensures.normal.targets
-
 pub store_all-requires : goal.store_all-requires
 store_all-requires c =
     let o = c.operation_at-o in
     let out = c.take_out.ensures in
     let room = room_for c.args.image.now c.args.p o.result c.requires.0 (omega (arith, c.requires.1, c.requires.2)) o.ensures in
     (out.proper, o.ensures.normal.names, rw (ap (λ (f : Flat). length f.results) out.shows) room, normal (left_of (targets_in o.result.targets)) c.left.ensures)
-
-pub shape_of-image : goal.shape_of-image
-shape_of-image c = c.store_all.ensures.proper.sound.size ∙ sym c.requires.0.proper.sound.size
 
 pub returns : goal.returns
 returns c =

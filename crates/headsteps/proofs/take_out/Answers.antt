@@ -1,11 +1,11 @@
 -- First the next is to open the unit, then the operation goes.
 -- Assumes nothing.
-use mathlib.Core.Path.{sym, ap, ◌∙◌}
+use mathlib.Core.Path.{ap, ◌∙◌}
 use lib.ListN.{length, get_or}
 use Rattle.flat.specs.Flat.{Flat}
 use Rattle.flat.specs.Inner.FlatSteps.{no_op}
 use Rattle.state.specs.Inner.State.{flat_in}
-use Rattle.headsteps.proofs.Parts.{hand_length, taken_shown}
+use Rattle.headsteps.proofs.Parts.{hand_length}
 use native.Mathlib.Omega.{arith}
 use Rattle.headsteps.proofs.take_out.Goals as goal
 
@@ -13,11 +13,3 @@ pub remove-requires : goal.remove-requires
 remove-requires c =
     let hand = c.hand_on.ensures in
     (hand.proper, rw (ap (λ (f : Flat). length f.queue) hand.shows ∙ hand_length c.args.p c.args.e (get_or (flat_in c.args.image.now).queue c.args.p no_op) (flat_in c.args.image.now).queue) (omega (arith, c.requires.1, c.requires.2)))
-
-pub shape_of-image : goal.shape_of-image
-shape_of-image c = c.remove.ensures.proper.sound.size ∙ sym c.requires.0.sound.size
-
-pub returns : goal.returns
-returns c =
-    let a = c.args in
-    taken_shown (flat_in a.image.now) a.p a.e _ _ c.hand_on.ensures c.remove.ensures

@@ -163,7 +163,9 @@ lacks_inverse_of Unmap x = not (is_odd x)
 -- the targets of a call just read, refused by 11, then 12
 abbrev pub targets_named : To → Answer Remaining
 targets_named to =
-    cond (are_keys (keys_listed to)) (cond (leb (length (keys_listed to)) 8 && rising (keys_listed to)) (done (packed_targets (untouched to))) (refused 12)) (refused 11)
+    cond (are_keys (keys_listed to))
+    (cond (leb (length (keys_listed to)) 8 && rising (keys_listed to)) (done (packed_targets (untouched to))) (refused 12))
+    (refused 11)
 
 -- the answer to a call by its numbers and targets: 11, then 12, then 40, else the call
 abbrev pub call_made : CallKind → ℕ → ℕ → To → Answer Asked

@@ -1,14 +1,12 @@
 -- What measuring a page says.
 -- Assumes nothing.
-use Rattle.std.specs.Prelude.{ℕ, ◌+◌, ◌*◌, ◌≤◌, ◌≡◌, List, length, drop}
+use Rattle.std.specs.Prelude.{ℕ, ◌+◌, ◌*◌, ◌≤◌, ◌≡◌, List, length, drop, Option, Some, None}
 use Rattle.graph.specs.KeyLists.{count}
 use Rattle.graph.specs.Nodes.{Node}
 use Rattle.graph.specs.Valid.{Each}
 use Rattle.text.specs.Text.{texts, pasted}
 use Rattle.print.specs.Printed.{node_text}
 use Rattle.pagelines.specs.Page.{page_line, PageNode, keys_of, PageOf}
-use Rattle.page.specs.declared.measure.NodesLength.{NodesLength}
-use Rattle.page.specs.declared.measure.NodesLength.TheVariants.{Is, Not}
 
 -- a page's length: a head and so many lines
 pub record WholeLines (page : List ℕ) : Type 0 where
@@ -27,13 +25,13 @@ pub record LengthOf (ns : List Node) (n : ℕ) : Type 0 where
   pub text : n ≡ length (texts node_text ns)
   pub few : n ≤ 8192
 
-abbrev pub LinesMeasured : List ℕ → NodesLength → Type 0
-LinesMeasured page (Is n) = (ns : List Node) × NodesIn page ns × LengthOf ns n
-LinesMeasured page Not = (ns : List Node) → PageOf page ns → ⊥
+abbrev pub LinesMeasured : List ℕ → Option ℕ → Type 0
+LinesMeasured page (Some n) = (ns : List Node) × NodesIn page ns × LengthOf ns n
+LinesMeasured page None = (ns : List Node) → PageOf page ns → ⊥
 
-abbrev pub PageMeasured : List ℕ → NodesLength → Type 0
-PageMeasured page (Is n) = (ns : List Node) × PageOf page ns × LengthOf ns n
-PageMeasured page Not = (ns : List Node) → PageOf page ns → ⊥
+abbrev pub PageMeasured : List ℕ → Option ℕ → Type 0
+PageMeasured page (Some n) = (ns : List Node) × PageOf page ns × LengthOf ns n
+PageMeasured page None = (ns : List Node) → PageOf page ns → ⊥
 
 -- the bytes are a page, and the output has room for the lines of its nodes
 pub record RoomForNodes (page out : List ℕ) : Type 0 where

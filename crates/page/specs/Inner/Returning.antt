@@ -1,12 +1,12 @@
 -- What the functions return by value.
 -- Assumes nothing.
 use Rattle.std.specs.Prelude.{ℕ, List}
-use Rattle.panel.specs.declared.returned.Returned.{Returned}
+use Rattle.graph.specs.Refusals.{Answer}
 
 -- what a function returns, and the output after it
 pub record Returns : Type 0 where
-  pub answer : Returned
+  pub answer : Answer ℕ
   pub output : List ℕ
 
-abbrev pub returns : Returned → List ℕ → Returns
-returns r out = record { answer = r; output = out }
+abbrev pub returns : Answer ℕ → List ℕ → Returns
+returns a out = record { answer = a; output = out }

@@ -1,20 +1,12 @@
 -- The loop's invariant: counted from p, what is left of the number is the unit that is looked for.
 -- Assumes nothing.
 use Rattle.std.proofs.Common.{◌≡◌, ℕ, ◌+◌, ◌-◌, ◌<◌, ◌≤◌, ◌∙◌, sym, ap, arith}
-use Rattle.flat.specs.Inner.Queues.{first_index}
 use Rattle.flat.specs.Inner.Nested.{at_place}
 use Rattle.flat.specs.Inner.FlatSteps.{unit_start}
 use Rattle.flat.proofs.Places.{find_within}
 use Rattle.state.specs.Inner.State.{flat_in}
-use Rattle.units.proofs.Located.{start_next, start_none, at_within}
+use Rattle.units.proofs.Located.{start_next, start_none}
 use Rattle.units.proofs.unit_start.Goals as goal
-
-pub returns-then-unit-eq0 : goal.returns-then-unit-eq0
-returns-then-unit-eq0 c =
-    let a = c.args in
-    let q = (flat_in a.image.now).queue in
-    let n = c.total-n.ensures in
-    record { is = n.is ∙ ap (λ (u : ℕ). unit_start a.k u (first_index (at_place a.k) q) q) (sym c.if-unit-eq0.true); within = omega (arith, n.is) }
 
 pub loop-init : goal.loop-init
 loop-init c =
@@ -30,9 +22,6 @@ returns-then-not-is_at c =
     let n = c.total-n.ensures in
     let left : 1 < a.unit + 1 - c.loop.counter = omega arith in
     record { is = n.is ∙ sym (start_none a.k q _ c.loop.p left (sym c.if-not-is_at.ensures)) ∙ c.loop.invariant.1; within = omega (arith, n.is) }
-
-pub unit_end-p-requires : goal.unit_end-p-requires
-unit_end-p-requires c = (c.requires, at_within c.args.k (flat_in c.args.image.now).queue c.loop.p (sym c.if-not-is_at.ensures))
 
 pub loop-preserved : goal.loop-preserved
 loop-preserved c =

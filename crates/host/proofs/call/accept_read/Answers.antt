@@ -4,6 +4,7 @@ use mathlib.Core.Path.{refl, ◌∙◌}
 use Rattle.std.proofs.lemmas.Result.{err_from_is_err_and}
 use Rattle.calls.proofs.Refusing.{refusal_some}
 use Rattle.valid.specs.Inner.Decoded.{session_of}
+use Rattle.session.specs.Inner.Accepts.{call_of}
 use Rattle.host.specs.Entries.{ImageOf}
 use Rattle.host.proofs.Entering.{tested_refused, tested_session, session_valid}
 use Rattle.host.proofs.Calling.{line_refused, line_good, line_accepts, not_accepted, is_accepted}
@@ -20,16 +21,20 @@ returns-in_err-image_refusal c = λ line read.
     rw (p.1, p.2) (tested_refused c.in_err-image_refusal.ensures (refusal_some _))
 
 pub returns-in_err-call : goal.returns-in_err-call
-returns-in_err-call c = ?
+returns-in_err-call c = λ line read.
+    let p = err_from_is_err_and c.from_residual-in_err-call.result c.from_residual-in_err-call.ensures.1 in
+    rw (p.1, p.2) (line_refused line _ _ (holds (goal.at.returns-in_err-call c).In_ok-image_refusal) (rw c.in_err-call.was at read))
 
 pub accept-requires : goal.accept-requires
-accept-requires c = ?
+accept-requires c = (session_valid (holds (goal.at.accept-requires c).In_ok-image_refusal), line_good _ _ (rw c.in_ok-call.was at c.requires.1))
 
 pub returns-in_err-accept : goal.returns-in_err-accept
-returns-in_err-accept c = ?
+returns-in_err-accept c = λ line read.
+    let p = err_from_is_err_and c.from_residual-in_err-accept.result c.from_residual-in_err-accept.ensures.1 in
+    rw (p.1, p.2) (line_accepts line _ (rw c.in_ok-call.was at read) _ _ (holds (goal.at.returns-in_err-accept c).In_ok-image_refusal) (not_accepted _ _ (call_of c.in_ok-call.call) _ c.in_err-accept.ensures.0 (refusal_some _)))
 
 pub last-requires : goal.last-requires
-last-requires c = ?
+last-requires c = c.in_ok-accept.ensures.1.proper
 
 pub returns : goal.returns
-returns c = ?
+returns c = λ line read. line_accepts line _ (rw c.in_ok-call.was at read) _ _ (holds (goal.at.returns c).In_ok-image_refusal) (is_accepted _ _ (call_of c.in_ok-call.call) _ c.in_ok-accept.ensures.0 _ (holds (goal.at.returns c).In_ok-image_refusal) refl (c.from.ensures ∙ c.last.ensures))

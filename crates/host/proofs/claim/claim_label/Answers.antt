@@ -6,8 +6,8 @@ use Rattle.host.proofs.Entering.{session_valid}
 use Rattle.host.proofs.Claiming.{claim_served_law}
 use Rattle.host.proofs.claim.claim_label.Goals as goal
 
-pub find-at-requires : goal.find-at-requires
-find-at-requires c = session_valid c.requires
+pub find-requires : goal.find-requires
+find-requires c = session_valid c.requires
 
 pub returns-in_err-at : goal.returns-in_err-at
 returns-in_err-at c =

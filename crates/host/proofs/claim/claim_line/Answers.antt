@@ -20,7 +20,9 @@ returns-in_err-image_refusal c =
     rw (p.1, p.2) (tested_refused c.in_err-image_refusal.ensures (refusal_some _))
 
 pub returns-in_err-label : goal.returns-in_err-label
-returns-in_err-label c = ?
+returns-in_err-label c =
+    let p = err_from_is_err_and c.from_residual-in_err-label.result c.from_residual-in_err-label.ensures.1 in
+    rw (p.1, p.2) (line_refused _ _ _ (holds (goal.at.returns-in_err-label c).In_ok-image_refusal) _ c.in_err-label.ensures)
 
 pub claim_label-requires : goal.claim_label-requires
 claim_label-requires c = holds (goal.at.claim_label-requires c).In_ok-image_refusal

@@ -7,10 +7,10 @@ pub returns-then-n-out : goal.returns-then-n-out
 returns-then-n-out c =
     let o = c.call_result-o in
     let a = c.args in
-    no_room a.image.now a.out.now a.at o.result o.ensures _ c.result_len-n.ensures c.if-n-out.true
+    no_room a.image.now a.out.now a.at o.result o.ensures _ (rw c.from-label.ensures at c.result_len-n.ensures) c.if-n-out.true
 
 pub returns : goal.returns
 returns c =
     let o = c.call_result-o in
     let a = c.args in
-    is_claimed a.image.now a.out.now a.at o.result o.ensures _ c.result_len-n.ensures _ _ _ c.if-n-out.false c.put_result.ensures c.remove.ensures
+    is_claimed a.image.now a.out.now a.at o.result o.ensures _ (rw c.from-label.ensures at c.result_len-n.ensures) _ _ _ c.if-n-out.false (rw c.from-label.ensures at c.put_result.ensures) c.remove.ensures

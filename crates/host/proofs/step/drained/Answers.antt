@@ -15,7 +15,7 @@ pub returns : goal.returns
 returns c ts d =
     let t : Tally = c.args.t in
     let n = c.args.c in
-    c.raised.ensures
-    ∙ ap (λ (u : Tally). raised u 3 n.finish) (c.raised-moves.ensures ∙ ap (λ (u : Tally). raised u 2 n.moved) (c.raised-realises.ensures ∙ ap (λ (u : Tally). raised u 1 n.realise) c.raised-admits.ensures))
+    c.raised-4.ensures
+    ∙ ap (λ (u : Tally). raised u 3 n.finish) (c.raised-3.ensures ∙ ap (λ (u : Tally). raised u 2 n.moved) (c.raised-2.ensures ∙ ap (λ (u : Tally). raised u 1 n.realise) c.raised.ensures))
     ∙ (λ i. raised (raised (raised (raised t 0 (d.counts.admits i)) 1 (d.counts.realises i)) 2 (d.counts.moves i)) 3 (d.counts.finishes i))
     ∙ counted_at_once t ts (in_bits (goal.at.returns c).Start) d.works

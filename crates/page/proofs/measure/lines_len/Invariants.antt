@@ -1,10 +1,7 @@
--- The loop's invariant: the lines from `at` on are read, and their keys are marked.
+-- The loop's invariant: the lines from line i on are read, and their keys are marked.
 -- Assumes nothing.
 use Rattle.page.proofs.Scanning.{Scanned}
 use Rattle.page.proofs.measure.lines_len.Given as goal
 
-abbrev pub invariant-loop-at : goal.invariant-loop-at
-invariant-loop-at l = Scanned l.page l.seen l.sum l.at
-
-abbrev pub decreases-loop-at : goal.decreases-loop-at
-decreases-loop-at l = l.at
+abbrev pub invariant-loop-i : goal.invariant-loop-i
+invariant-loop-i l = Scanned l.page l.seen l.sum l.i

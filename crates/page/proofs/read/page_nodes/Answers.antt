@@ -1,33 +1,17 @@
 -- Each answer is a case of `ReadsPage`.
 -- Assumes nothing.
-use mathlib.Core.List.{List}
-use Prim.Native.Nat.{ℕ}
+use Rattle.std.proofs.Common.{◌≡◌, arith}
+use Rattle.std.specs.Prelude.{Some}
 use Rattle.page.specs.Inner.Measuring.{PageMeasured}
-use Rattle.page.specs.declared.measure.NodesLength.TheVariants.{Is}
-use Rattle.page.proofs.Answering.{no_page_law, nodes_room, no_nodes_room, nodes_written}
-use native.Mathlib.Omega.{arith}
+use Rattle.page.proofs.Answering.{no_nodes_room, nodes_written}
 use Rattle.page.proofs.read.page_nodes.Goals as goal
-use Rattle.page.proofs.read.page_nodes.Goals.{In-Is}
+use Rattle.page.proofs.read.page_nodes.Goals.{In_ok-n}
 
-module _ (c : In-Is) where
-  abbrev page : List ℕ
-  page = c.args.page.now
-
-  measured : PageMeasured page (Is c.in-Is.n)
-  measured = rw c.in-Is.is at c.nodes_len.ensures
-
-pub returns-in_default : goal.returns-in_default
-returns-in_default c = no_page_law _ _ (rw c.in_default.is at c.nodes_len.ensures)
+measured : (c : In_ok-n) → PageMeasured c.args.page.now (Some c.in_ok-n.n)
+measured c = let e : c.nodes_len.result ≡ Some c.in_ok-n.n = grind arith in rw e at c.nodes_len.ensures
 
 pub returns-then-out-n : goal.returns-then-out-n
-returns-then-out-n c = no_nodes_room _ _ _ (measured (goal.at.returns-then-out-n c).In-Is) c.if-out-n.true
-
-pub put_nodes-requires : goal.put_nodes-requires
-put_nodes-requires c = nodes_room _ _ _ (measured (goal.at.put_nodes-requires c).In-Is) (omega (arith, c.if-out-n.false))
-
-pub overflow_cast-result : goal.overflow_cast-result
-overflow_cast-result c = omega (arith, (measured (goal.at.overflow_cast-result c).In-Is).2.few)
+returns-then-out-n c = no_nodes_room _ _ _ (measured (goal.at.returns-then-out-n c).In_ok-n) c.if-out-n.true
 
 pub returns : goal.returns
-returns c =
-    nodes_written _ _ _ (measured (goal.at.returns c).In-Is) _ (omega (arith, c.if-out-n.false)) c.put_nodes.ensures
+returns c = nodes_written _ _ _ (measured (goal.at.returns c).In_ok-n) _ c.if-out-n.false c.put_nodes.ensures

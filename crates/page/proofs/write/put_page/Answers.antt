@@ -7,9 +7,6 @@ use Rattle.pagelines.proofs.Widths.{head_length}
 use Rattle.page.proofs.ImagePages.{nodes_few, head_counted, page_room}
 use Rattle.page.proofs.write.put_page.Goals as goal
 
-pub total-n-requires : goal.total-n-requires
-total-n-requires c = c.requires.0.proper
-
 pub put_lines-requires : goal.put_lines-requires
 put_lines-requires c =
     let n = c.total-n in

@@ -3,16 +3,11 @@
 use mathlib.Core.Path.{ap, ◌∙◌}
 use Prim.Native.Nat.{◌+◌}
 use native.Mathlib.Numerals.{add-one}
-use native.Mathlib.Omega.{arith}
 use Rattle.state.proofs.NodeLaws.{node_count_law, body_appended}
 use Rattle.state.proofs.nodes.append_body.Goals as goal
 
-pub append_node-requires : goal.append_node-requires
-append_node-requires c =
-    (c.requires.0.sound, omega (arith, node_count_law c.args.image.now c.requires.0))
-
 pub returns : goal.returns
 returns c =
-    let n = c.node_count-n in
+    let n = c.node_count in
     let k = ap (λ m. m + 1) (n.ensures ∙ node_count_law c.args.image.now c.requires.0) ∙ add-one _ in
-    body_appended c.args.image.now c.requires.0 _ (n.result + 1) c.args.value _ k c.none-links.ensures c.append_node.ensures
+    body_appended c.args.image.now c.requires.0 _ (n.result + 1) c.args.value _ k c.none.ensures c.append_node.ensures

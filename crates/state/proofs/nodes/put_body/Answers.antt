@@ -1,15 +1,7 @@
 -- `nodes::put_body` meets its contract.
 -- Assumes nothing.
-use Rattle.state.proofs.NodeLaws.{in_view, body_put}
+use Rattle.state.proofs.NodeLaws.{body_put}
 use Rattle.state.proofs.nodes.put_body.Goals as goal
-
-pub node_at-n-requires : goal.node_at-n-requires
-node_at-n-requires c =
-    (c.requires.0.sound, in_view c.args.image.now c.requires.0 c.args.i c.requires.1)
-
-pub put_node-requires : goal.put_node-requires
-put_node-requires c =
-    (c.requires.0.sound, in_view c.args.image.now c.requires.0 c.args.i c.requires.1)
 
 pub returns : goal.returns
 returns c =

@@ -1,19 +1,10 @@
 -- The record with another station and no mark.
 -- Assumes nothing.
-use mathlib.Core.Path.{sym, ◌∙◌}
 use Rattle.flat.specs.Inner.FlatSteps.{move_on}
 use Rattle.valid.specs.Inner.Decoded.{tagged_of}
 use Rattle.state.proofs.QueueRecords.{reads_moved}
 use Rattle.state.proofs.QueueHeld.{alter_shown}
 use Rattle.state.proofs.ops.move_op.Goals as goal
-
-pub put_record-requires : goal.put_record-requires
-put_record-requires c =
-    let r = c.record_at-r in
-    (c.requires.0, c.requires.1, (reads_moved r.result r.ensures.clean c.args.k).clean)
-
-pub shape_of-image : goal.shape_of-image
-shape_of-image c = c.put_record.ensures.proper.sound.size ∙ sym c.requires.0.sound.size
 
 pub returns : goal.returns
 returns c =

@@ -1,10 +1,7 @@
 -- The record at i is clean, and stands for the operation there.
 -- Assumes nothing.
-use Rattle.state.proofs.QueueHeld.{in_view, reads_at}
+use Rattle.state.proofs.QueueHeld.{reads_at}
 use Rattle.state.proofs.ops.record_at.Goals as goal
-
-pub op_at-requires : goal.op_at-requires
-op_at-requires c = (c.requires.0.sound, in_view c.args.image.now c.requires.0 c.args.i c.requires.1)
 
 pub returns : goal.returns
 returns c =

@@ -7,12 +7,6 @@ use Rattle.state.proofs.QueueRecords.{reads_opened}
 use Rattle.state.proofs.QueueHeld.{alter_shown}
 use Rattle.state.proofs.ops.set_opens.Goals as goal
 
-pub put_record-requires : goal.put_record-requires
-put_record-requires c =
-    let r = c.record_at-r in
-    let flag : c.from.result ≡ cond c.args.b 1 0 = search rules in
-    (c.requires.0, c.requires.1, rw flag (reads_opened r.result r.ensures.clean c.args.b).clean)
-
 pub returns : goal.returns
 returns c =
     let r = c.record_at-r in

@@ -1,11 +1,7 @@
 -- `results::call_result_at` meets its contract.
 -- Assumes nothing.
-use Rattle.state.proofs.ResultLaws.{in_view, call_result_of}
+use Rattle.state.proofs.ResultLaws.{call_result_of}
 use Rattle.state.proofs.results.call_result_at.Goals as goal
-
-pub result_at-r-requires : goal.result_at-r-requires
-result_at-r-requires c =
-    (c.requires.0.sound, in_view c.args.image.now c.requires.0 c.args.i c.requires.1)
 
 pub returns : goal.returns
 returns c =

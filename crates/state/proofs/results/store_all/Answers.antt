@@ -1,9 +1,9 @@
 -- The loop's invariant: the results of the labels before the index are stored.
 -- Assumes nothing.
-use Rattle.std.proofs.Common.{arith, ◌≡◌, length, take, refl, ap}
+use Rattle.std.proofs.Common.{arith, ◌≡◌, length, take, ap}
 use Rattle.graph.specs.Packed.{listed}
 use Rattle.valid.specs.Inner.Decoded.{labels_of}
-use Rattle.state.proofs.ResultLaws.{stored_count, stored_next, stored_all, labels_count, labels_fit}
+use Rattle.state.proofs.ResultLaws.{stored_count, stored_next, labels_count, labels_fit}
 use Rattle.state.proofs.results.store_all.Goals as goal
 
 pub slice_bounds-each-end : goal.slice_bounds-each-end
@@ -11,9 +11,6 @@ slice_bounds-each-end c = rw c.from.ensures (labels_fit c.args.labels c.requires
 
 pub slice_bounds-label-items-end : goal.slice_bounds-label-items-end
 slice_bounds-label-items-end c = rw c.from.ensures (labels_count c.args.labels c.requires.1)
-
-pub loop-label-init : goal.loop-label-init
-loop-label-init c = record { proper = c.requires.0; shows = refl }
 
 pub store_one-requires : goal.store_one-requires
 store_one-requires c =
@@ -26,9 +23,3 @@ pub loop-label-preserved : goal.loop-label-preserved
 loop-label-preserved c =
     let a = c.args in
     stored_next a.image.now (take c.from.result a.labels.label) a.value (listed a.left) c.loop-label.label-index c.loop-label.image c.loop-label-test.true c.loop-label.invariant _ c.store_one.ensures
-
-pub returns : goal.returns
-returns c =
-    let a = c.args in
-    rw c.from.ensures at
-    (stored_all a.image.now (take c.from.result a.labels.label) a.value (listed a.left) c.loop-label.label-index c.loop-label.image c.loop-label-test.false c.loop-label.invariant)
