@@ -1,6 +1,6 @@
 -- The head unit of a station: the first operation in it that a step looks for, and what each step on it answers.
 -- Assumes nothing.
-use mathlib.Core.Path.{◌≡◌, refl, sym, ◌∙◌, ap}
+use mathlib.Core.Path.{◌≡◌, refl, ◌∙◌, ap}
 use Prim.Native.Nat.{ℕ, ◌-◌, ◌≤◌, ◌<◌}
 use native.Mathlib.Omega.{arith}
 use mathlib.Core.Bool.{Bool, true, false, cond}
@@ -23,7 +23,7 @@ use Rattle.state.specs.Inner.ValidImage.{ValidImage}
 use Rattle.units.specs.Inner.Numbered.{Span, locate}
 use Rattle.units.proofs.Located.{at_within, end_within, head_located, Stands, located_stands, stands}
 use Rattle.units.proofs.Standing.{op_at_law, unit_place}
-use Rattle.headsteps.specs.Inner.Heads.{NoAdds, found_before, first_for, locate_first}
+use Rattle.headsteps.specs.Inner.Heads.{NoAdds, first_for, locate_first}
 
 -- KEYS
 pub record InNodes (k : ℕ) (f : Flat) : Type 0 where
@@ -61,17 +61,6 @@ module _ (sought : Sought) (k : ℕ) (f : Flat) where
 
   pub first_none : {n : ℕ} → locate k 1 f ≡ refused n → locate_first sought k f ≡ refused n
   first_none e = ap (λ (y : Answer Span). and_then y (first_for sought k f.queue)) e
-
-  -- p is what the search gave
-  module _ (u : Span) (e : locate k 1 f ≡ done u) (p : ℕ) (is : p ≡ first_in (sought_at sought k) u.start u.end f.queue) where
-    found_by : locate_first sought k f ≡ found_before u.end p
-    found_by = ap (λ (y : Answer Span). and_then y (first_for sought k f.queue)) e ∙ ap (found_before u.end) (sym is)
-
-    pub first_past : u.end ≤ p → locate_first sought k f ≡ refused 22
-    first_past h = found_by ∙ rw (le-ltb p u.end h)
-
-    pub first_inside : p < u.end → locate_first sought k f ≡ done (record { start = p; end = u.end })
-    first_inside h = found_by ∙ rw (lt-ltb p u.end h)
 
   -- what is known of the one that was found
   record Found (s : Span) : Type 0 where

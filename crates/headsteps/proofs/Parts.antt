@@ -1,47 +1,36 @@
--- The parts of a step on a head unit: a search turn by turn, an act, a move turn by turn, a finish.
+-- The parts of a step on a head unit: an act, a move turn by turn, a finish.
 -- Assumes nothing.
 use mathlib.Core.Path.{◌≡◌, refl, sym, ◌∙◌, ap, subst}
 use Prim.Native.Nat.{ℕ, suc, ◌+◌, ◌-◌, ◌≤◌, ◌<◌}
 use native.Mathlib.Numerals.{add-one}
-use native.Mathlib.Omega.{arith}
-use mathlib.Core.Bool.{Bool, true, false, cond, true≢false}
-use mathlib.Core.List.{List, [], ◌++◌, map}
-use lib.Dec.{eqb, ltb}
-use lib.ListN.{length, take, drop, get_or, set, length-append, length-map, length-drop}
-use lib.Seq.{slice, length-slice, length-take-le}
-use borrow.Author.Tests.{lt-ltb, le-ltb}
+use mathlib.Core.Bool.{Bool, true, false, cond}
+use mathlib.Core.List.{List, []}
+use lib.Dec.{ltb}
+use lib.ListN.{length, get_or, set}
 use Rattle.graph.specs.declared.act.Act.{Act}
 use Rattle.graph.specs.declared.keys.Keys.{Keys}
-use Rattle.graph.specs.declared.task.TaskRule.TheVariants.{Propagate}
-use Rattle.graph.specs.Acts.{is_fold, is_map, new_value, new_links, new_held, result_value}
+use Rattle.graph.specs.Acts.{is_map, new_value, new_links, new_held, result_value}
 use Rattle.graph.specs.Nodes.{Node, Result, act_on, act_by, results_for, stored}
-use Rattle.graph.specs.Tasks.{rule_of, rule_for}
-use Rattle.graph.specs.OneAtATime.{Labelled, add_of, op_of, is_op}
+use Rattle.graph.specs.OneAtATime.{op_of}
 use Rattle.graph.specs.Packed.{listed, packed, targets_in}
-use Rattle.graph.specs.Targets.{these, left_of}
+use Rattle.graph.specs.Targets.{left_of}
 use Rattle.graph.specs.Sessions.{Session, store}
 use Rattle.graph.proofs.AffineLaws.{map_of}
 use Rattle.graph.proofs.KeyLaws.{listed_packed}
 use Rattle.flat.specs.Flat.{Tagged, Flat, flat}
 use Rattle.flat.specs.Inner.Nested.{nest, of_op}
-use Rattle.flat.specs.Inner.Queues.{labels_in, remove_at}
+use Rattle.flat.specs.Inner.Queues.{labels_in}
 use Rattle.flat.specs.Inner.FlatSteps.{alter, map_from, no_op, no_node, open_as, with_op, with_queue, act_at, take_out, finish_place, hand_on}
-use Rattle.flat.proofs.Turns.{alter_length, map_from_none, map_from_next}
+use Rattle.flat.proofs.Turns.{alter_length, map_from_next}
 use Rattle.flat.proofs.Facts.{labels_room}
 use Rattle.valid.specs.Inner.Decoded.{labels_of}
 use Rattle.state.specs.declared.nodes.Body.{Body}
 use Rattle.state.specs.declared.operation.Operation.{Operation}
 use Rattle.state.specs.Inner.Operations.{op_value, Carries}
 use Rattle.state.specs.Inner.Results.{IsBody, node_with}
-use Rattle.state.specs.Inner.State.{flat_in, Proper, Shows, with_nodes, with_results}
+use Rattle.state.specs.Inner.State.{flat_in, Shows, with_nodes, with_results}
 use Rattle.state.specs.Inner.ValidImage.{ValidImage}
 use Rattle.headsteps.specs.Inner.Heads.{body_value}
-
--- WHICH TASK RULE HOLDS: an operation's, by its kind and its targets
-pub rule_read : (k : ℕ) (w : Labelled) → is_op w ≡ true
-    → rule_of (of_op false (λ o. is_fold o.act) w) (of_op (these []) (λ o. o.targets) w) k (eqb k 1) ≡ of_op Propagate (λ o. rule_for o k (eqb k 1)) w
-rule_read k (add_of l v) e = absurd (true≢false (sym e))
-rule_read k (op_of o) e = refl
 
 -- AN ACT
 -- a map holds what it held
@@ -75,35 +64,12 @@ module _ (f : Flat) (k p : ℕ) (o : Operation) (b : Body) (carries : Carries (g
       ∙ (λ i. act_at k p (record { place = x.place; opens = x.opens; call = sym carries.is i }) n f))
       (subst (λ (g : Flat). Shows (with_queue g (set g.queue p (with_op (get_or g.queue p no_op) (op_value a)))) u) first.shows second)
 
--- new nodes leave the queue as it was
-pub still_queued : (f : Flat) (ns : List Node) (t : List ℕ) (p : ℕ) → Shows (with_nodes f ns) t → p < length f.queue → p < length (flat_in t).queue
-still_queued f ns t p first h = subst (λ (g : Flat). p < length g.queue) (sym first.shows) h
-
 -- A MOVE from h, which is at j: t is the image by then
 abbrev pub Moved : List ℕ → (Tagged → Tagged) → ℕ → ℕ → List ℕ → Type 0
 Moved s f h j t = Shows (with_queue (flat_in s) (map_from f h j (flat_in s).queue)) t
 
 module _ (s : List ℕ) (f : Tagged → Tagged) (h : ℕ) where
-  pub moved_none : Proper s → Moved s f h h s
-  moved_none proper = record { proper = proper; shows = ap (with_queue (flat_in s)) (sym (map_from_none f h (flat_in s).queue)) }
-
   module _ (j : ℕ) (t : List ℕ) (low : h ≤ j) (inside : j < length (flat_in s).queue) (so : Moved s f h j t) where
-    pub moved_in : j < length (flat_in t).queue
-    moved_in =
-        let q : List Tagged = (flat_in s).queue in
-        let m : List Tagged = map f (slice h j q) in
-        let e : length (flat_in t).queue ≡ length (take h q ++ (m ++ drop j q)) = ap (λ (g : Flat). length g.queue) so.shows in
-        omega (
-          arith,
-          e,
-          length-append (take h q) (m ++ drop j q),
-          length-append m (drop j q),
-          length-take-le h q (omega arith),
-          length-map (slice h j q) f,
-          length-slice h j q (omega arith),
-          length-drop j q,
-        )
-
     pub moved_next : (u : List ℕ) → Shows (with_queue (flat_in t) (alter j f (flat_in t).queue)) u → Moved s f h (j + 1) u
     moved_next u w =
         let q : List Tagged = (flat_in s).queue in
@@ -112,23 +78,12 @@ module _ (s : List ℕ) (f : Tagged → Tagged) (h : ℕ) where
 
 -- A FINISH
 module _ (p e : ℕ) (x : Tagged) (q : List Tagged) where
-  pub hand_none : e ≤ p + 1 → hand_on p e x q ≡ q
-  hand_none h = rw (le-ltb (suc p) e (omega arith))
-
-  pub hand_next : p + 1 < e → (b : Bool) → b ≡ x.opens → alter (p + 1) (open_as b) q ≡ hand_on p e x q
-  hand_next h b m = rw (lt-ltb (suc p) e (omega arith)) (λ i. alter (add-one p i) (open_as (m i)) q)
-
   pub hand_length : length (hand_on p e x q) ≡ length q
   hand_length = go (ltb (suc p) e)
     where
       go : (b : Bool) → length (cond b (alter (suc p) (open_as x.opens) q) q) ≡ length q
       go true = alter_length (open_as x.opens) (suc p) q
       go false = refl
-
--- the next is to open the unit first, and then the operation goes
-pub taken_shown : (f : Flat) (p e : ℕ) (t u : List ℕ) → Shows (with_queue f (hand_on p e (get_or f.queue p no_op) f.queue)) t
-    → Shows (with_queue (flat_in t) (remove_at p (flat_in t).queue)) u → Shows (with_queue f (take_out p e (get_or f.queue p no_op) f.queue)) u
-taken_shown f p e t u first second = subst (λ (g : Flat). Shows (with_queue g (remove_at p g.queue)) u) first.shows second
 
 -- the labels of an operation have room among the results
 pub room_for : (image : List ℕ) (p : ℕ) (o : Operation) → ValidImage image → p < length (flat_in image).queue → Carries (get_or (flat_in image).queue p no_op).call o

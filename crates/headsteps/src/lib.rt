@@ -46,15 +46,11 @@ fn acted(o: Operation, n: Body) -> Operation
     requires { Normal o }
     ensures { Carries (op_of (act_by (op_value o) (body_value n))) result }
 {
-    let act = o.act;
-    let links = n.links;
-    let targets = o.targets;
-    let labels = o.labels;
     Operation {
-        act: act,
-        held: act::held_after(act, o.held, n.value, links),
-        targets: targets.struck(n.key),
-        labels: labels,
+        act: o.act,
+        held: act::held_after(o.act, o.held, n.value, n.links),
+        targets: o.targets.struck(n.key),
+        labels: o.labels,
     }
 }
 
@@ -63,16 +59,13 @@ pub fn act_at(image: &mut [u8], k: u8, p: usize)
     requires { (Proper image.old) × (known k (flat_in image.old) ≡ true) × (p < length (flat_in image.old).queue) × (is_op (get_or (flat_in image.old).queue p no_op).call ≡ true) }
     ensures { Shows (act_at k p (get_or (flat_in image.old).queue p no_op) (get_or (flat_in image.old).nodes (k - 1) no_node) (flat_in image.old)) image.new }
 {
-    let i = (k - 1) as usize;
+    let i = usize::from(k - 1);
     let o = ops::operation_at(image, p);
     let n = nodes::body_at(image, i);
-    let act = o.act;
-    let links = n.links;
-    let value = act::value_after(act, n.value);
-    let linked = act::links_after(act, links);
-    nodes::put_body(image, i, value, linked);
-    let after = acted(o, n);
-    ops::put_operation(image, p, after);
+    let value = act::value_after(o.act, n.value);
+    let links = act::links_after(o.act, n.links);
+    nodes::put_body(image, i, value, links);
+    ops::put_operation(image, p, acted(o, n));
 }
 
 // The unit from h up to e goes to the next station's tail: in the queue only its place changes, and marks are cleared.
@@ -91,11 +84,10 @@ fn hand_on(image: &mut [u8], p: usize, e: usize)
     ensures { Shows (with_queue (flat_in image.old) (hand_on p e (get_or (flat_in image.old).queue p no_op) (flat_in image.old).queue)) image.new }
 {
     let next = p + 1;
-    if e <= next {
-        return;
+    if next < e {
+        let opens = ops::opens_at(image, p);
+        ops::set_opens(image, next, opens);
     }
-    let opens = ops::opens_at(image, p);
-    ops::set_opens(image, next, opens);
 }
 
 // The operation at p, of a unit that ends at e, leaves the queue.
@@ -114,11 +106,8 @@ pub fn finish_at(image: &mut [u8], p: usize, e: usize)
 {
     let o = ops::operation_at(image, p);
     take_out(image, p, e);
-    let act = o.act;
-    let value = act::result_value(act, o.held);
-    let labels = o.labels;
-    let targets = o.targets;
-    results::store_all(image, labels, value, targets.left());
+    let value = act::result_value(o.act, o.held);
+    results::store_all(image, o.labels, value, o.targets.left());
 }
 
 // In the head unit, the first operation that a step looks for: its place, and where the unit ends.

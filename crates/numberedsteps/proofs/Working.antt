@@ -1,16 +1,12 @@
 -- The steps on an image that holds a valid session: the operations that stand at a station, and the answers that are given.
 -- Assumes nothing.
 use mathlib.Core.Path.{◌≡◌, sym, ◌∙◌, ap, subst}
-use Prim.Native.Nat.{ℕ, ◌≤◌, ◌<◌}
-use mathlib.Core.Bool.{Bool, true, cond, ◌&&◌}
-use mathlib.Core.List.{List, ◌++◌}
+use Prim.Native.Nat.{ℕ, ◌<◌}
+use mathlib.Core.Bool.{Bool, true, cond}
+use mathlib.Core.List.{List}
 use lib.ListN.{length, get_or, set}
-use borrow.Author.Tests.{leb-true}
 use Rattle.graph.specs.Refusals.{Answer, refused, done, map_done}
-use Rattle.graph.specs.Acts.{is_map}
-use Rattle.graph.specs.Targets.{same_targets}
 use Rattle.graph.specs.Steps.{swap, fuse, may_swap, may_fuse, fused}
-use Rattle.graph.proofs.Answers.{and_right}
 use Rattle.graph.specs.OneAtATime.{op_of, is_op}
 use Rattle.graph.specs.Nodes.{Op}
 use Rattle.flat.specs.Flat.{Tagged, Flat}
@@ -67,9 +63,6 @@ module _ (k i : ℕ) (f : Flat) (u : Span) (e : locate_two k i f ≡ done u) whe
         two_yes k i f fuse_flat e
         ∙ ap (map_done (with_queue f)) (both_ops (λ c d. cond (may_fuse c d) (done (remove_at u.end (set f.queue u.start (with_op x (fused c d))))) (refused 22)))
         ∙ (λ j. map_done (with_queue f) (cond (sym d j) (done (remove_at u.end (set f.queue u.start (with_op x (made j))))) (refused 22)))
-
-pub few_labels : (a b : Op) → may_fuse a b ≡ true → length (a.labels ++ b.labels) ≤ 4
-few_labels a b t = leb-true _ 4 (and_right (same_targets a.targets b.targets) _ (and_right (is_map a.act && is_map b.act) _ t))
 
 -- the queue q is shown by t, and without the element at e by u
 pub removed_after : (f : Flat) (q : List Tagged) (t u : List ℕ) (e : ℕ) → Shows (with_queue f q) t → Shows (with_queue (flat_in t) (remove_at e (flat_in t).queue)) u → Shows (with_queue f (remove_at e q)) u

@@ -52,9 +52,6 @@ module _ (q : List Tagged) where
     names_next : (l : ℕ) → contains l (queued (drop i q)) ≡ (contains l (labels_in (call_at i)) || contains l (queued (drop (i + 1) q)))
     names_next l = ap (λ (r : List Tagged). contains l (queued r)) here ∙ contains_append l (labels_in (call_at i)) (queued (drop (i + 1) q))
 
-  pub labels_end : (i : ℕ) → length q ≤ i → length (queued (drop i q)) ≡ 0
-  labels_end i h = ap (λ (r : List Tagged). length (queued r)) (drop_of_length-le q h)
-
   -- from the call at a to the last
   adds_from : (a n : ℕ) → a + n ≡ length q → length (filter (λ i. not (is_op (call_at i))) (range_with_len a n)) ≡ adds_queued (drop a q)
   adds_from a zero e = sym (ap adds_queued (drop_of_length-le q (omega arith)))
