@@ -3,7 +3,7 @@
 use Prim.Native.Nat.{ℕ, ◌+◌, ◌<◌, ◌≤◌}
 use mathlib.Core.Path.{◌≡◌, refl, sym, ap, subst, ◌∙◌}
 use mathlib.Core.Bool.{Bool, true, false}
-use mathlib.Core.List.{List, [], ◌∷◌, ◌++◌}
+use mathlib.Core.List.{List, [], ◌∷◌, ◌++◌, append-nil}
 use native.Mathlib.Omega.{arith}
 use lib.ListN.{length, drop, length-drop, drop_of_length-le}
 use Rattle.graph.specs.Targets.{To, named, whole, keys_listed}
@@ -19,6 +19,7 @@ use Rattle.lines.specs.declared.fields.TargetsRead.{TargetsRead}
 use Rattle.lines.specs.declared.fields.TargetsRead.TheVariants.{All, Listed}
 use Rattle.keylists.specs.declared.keylist.KeyList.{KeyList}
 use Rattle.keylists.specs.Inner.ListsRead.{Below, KeysRead}
+use Rattle.lines.proofs.ToTexts.{to_clean}
 
 -- ---- a number after a literal
 
@@ -51,6 +52,18 @@ module _ (s : List ℕ) (at : ℕ) where
 
     is_text : (to : To) → drop n s ≡ to_text to → drop at s ≡ targets to
     is_text to e = p.1 ∙ ap (λ (r : List ℕ). ascii " to=" ++ r) e
+
+    -- they hold no space: where the value ends before the line does, there are none
+    pub targets_parted : n + length (up_to 32 (drop n s)) < length s → TailOf true (drop at s) None
+    targets_parted h to b t e =
+        omega (arith, p.0, length-drop n s, ap length (part_is 32 (drop n s) (to_text to) [] (text_is to e ∙ sym (append-nil (to_text to))) (to_clean 32 (omega arith) to) tt), ap length (text_is to e))
+
+    pub value_within : n + length (up_to 32 (drop n s)) ≤ length s
+    value_within = (part 32 s n p.0).within
+
+    pub value_ends : length s ≤ n + length (up_to 32 (drop n s)) → up_to 32 (drop n s) ≡ drop n s
+    value_ends end =
+        sym ((part 32 s n p.0).text ∙ ap (λ (r : List ℕ). up_to 32 (drop n s) ++ r) (drop_of_length-le s end) ∙ append-nil (up_to 32 (drop n s)))
 
     pub targets_all : drop n s ≡ ascii "all" → TailOf true (drop at s) (Some All)
     targets_all e = (whole, tt, is_text whole e, tt)

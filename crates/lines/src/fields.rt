@@ -46,7 +46,10 @@ pub fn targets_field(line: &[u8], at: usize) -> Option<TargetsRead>
     ensures { TailOf true (drop at line.now) result }
 {
     let from = past(line, at, b" to=")?;
-    let value = &line[from..];
+    let value = value_at(line, from);
+    if from + value.len() < line.len() {
+        return None;
+    }
     if value == b"all".as_slice() {
         return Some(TargetsRead::All);
     }
