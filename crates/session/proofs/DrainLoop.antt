@@ -45,9 +45,6 @@ pub record Loop (first image : List ℕ) (c : Counts) : Type 0 where
   pub moves : Sums 2 first image c.moved
   pub finishes : Sums 3 first image c.finish
 
-pub loop_first : (image : List ℕ) → ValidImage image → Bytes image → Loop image image (record { admit = 0; realise = 0; moved = 0; finish = 0 })
-loop_first image l b = record { image_valid_law = l; size = refl; bytes = b; end = refl; admits = omega arith; realises = omega arith; moves = omega arith; finishes = omega arith }
-
 -- a count, by whether the step that was taken is of its own kind
 abbrev raised_if : ℕ → Step → ℕ → ℕ
 raised_if own t n = cond (eqb own (tally_place t)) (n + 1) n

@@ -43,13 +43,6 @@ finishes_last k (op_of o) op e h =
 pub drain_empty : (f : Flat) → f.queue ≡ [] → flat_drain_step f ≡ refused 21
 drain_empty f e = rw e
 
--- the first waiting call, where no operation stands at a station
-pub drain_admits : (f : Flat) (x : Tagged) (xs : List Tagged) → f.queue ≡ x ∷ xs → x.place ≡ 65 → flat_drain_step f ≡ done (taken admit (admit_call 0 x.call f))
-drain_admits f x xs e p = rw (e, p)
-
-pub admits_first : (f : Flat) (x : Tagged) (xs : List Tagged) → f.queue ≡ x ∷ xs → x.place ≡ 65 → flat_step admit f ≡ done (admit_call 0 x.call f)
-admits_first f x xs e p = rw (e, p)
-
 module _ (f : Flat) (k : ℕ) (x : Tagged) (xs : List Tagged) (stands : f.queue ≡ x ∷ xs) (place : x.place ≡ k) (station : eqb k 65 ≡ false) (node : known k f ≡ true) where
   abbrev e : ℕ
   e = end_of k 0 f.queue
