@@ -4,16 +4,14 @@ use Prim.Native.Nat.{ℕ}
 use mathlib.Core.Logic.{inl, inr}
 use mathlib.Core.Path.{◌≡◌, refl, sym, ap, subst}
 use mathlib.Core.List.{List}
-use native.Mathlib.Omega.{arith}
 use lib.IntN.{pos}
-use Rattle.std.specs.Prelude.{Option, Some, None}
+use Rattle.std.specs.Prelude.{Option, Some}
 use Rattle.graph.specs.Refusals.{Answer, refused, done}
 use Rattle.cgtool.specs.Commands.{Ended, said, load_answer, Arguments, load, page, nodes, Ends, of_command, other_arguments, Status}
-use Rattle.cgtool.specs.Inner.Outputs.{Says, SaysTo, Answers, Responds}
+use Rattle.cgtool.specs.Inner.Outputs.{Says, SaysTo, Answers}
 use Rattle.cgtool.specs.declared.commands.Asked.{Asked}
 use Rattle.cgtool.specs.declared.commands.Asked.TheVariants.{Load, Page, Nodes}
 use Rattle.cgtool.specs.declared.answers.Said.{Said}
-use Rattle.cgtool.specs.declared.answers.ExitStatus.TheVariants.{WrongArguments}
 
 -- ---- answers
 

@@ -2,6 +2,6 @@
 #![tactic(auto)]
 
 pub mod read;
-pub mod region;
+mod region;
 pub mod shift;
 pub mod write;

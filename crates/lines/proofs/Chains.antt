@@ -23,15 +23,9 @@ use Rattle.keylists.specs.Inner.ListsRead.{Below, KeysRead}
 -- ---- a number after a literal
 
 module _ (s : List ℕ) (at : ℕ) (literal : List ℕ) where
-  pub no_literal : LiteralAt s at literal None → FieldOf s at literal None
-  no_literal p v x hv g e = p (decimal v ++ x) e
-
   module _ (n : ℕ) (p : LiteralAt s at literal (Some n)) where
     value : Part 32 s n
     value = part 32 s n p.0
-
-    pub value_within : n + length (up_to 32 (drop n s)) ≤ length s
-    value_within = value.within
 
     pub no_number : DecimalOf (up_to 32 (drop n s)) None → FieldOf s at literal None
     no_number q v x hv g e =
@@ -157,10 +151,6 @@ before_if [] x v = v
 before_if (a ∷ others) x v = before x v
 
 module _ (s : List ℕ) (at : ℕ) where
-  pub within_if : (literals : List (List ℕ)) (x n : ℕ) → at ≤ length s → FieldIf s at literals (Some (x, n)) → n ≤ length s
-  within_if [] x n h f = omega arith
-  within_if (a ∷ others) x n h f = f.0
-
   module _ {R : Type 0} {ten r : R} {answer : Values → R} {listed : Bool} (more : List (List ℕ)) (gaps : Literals more) where
     pub if_not : (literals : List (List ℕ)) → One literals → FieldIf s at literals None → r ≡ ten → ReadAs (ValuesOf (literals ++ more) listed (drop at s)) answer ten r
     if_not [] o f e = absurd f

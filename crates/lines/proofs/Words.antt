@@ -2,7 +2,7 @@
 -- Assumes nothing.
 use Prim.Native.Nat.{ℕ, ◌+◌, ◌<◌}
 use mathlib.Core.Path.{◌≡◌, refl, sym, ap, subst, ◌∙◌}
-use mathlib.Core.Bool.{Bool, true, false, false≢true}
+use mathlib.Core.Bool.{Bool, true, false}
 use mathlib.Core.List.{List, [], ◌∷◌, ◌++◌}
 use native.Mathlib.Omega.{arith}
 use lib.ListN.{length, drop}
@@ -19,10 +19,6 @@ use Rattle.lines.specs.Inner.LineParts.{tail_text, Tailed, fields_text, Spare, V
 use Rattle.lines.proofs.ToTexts.{to_inj}
 use Rattle.keylists.proofs.KeyLists.{words_below, below_words}
 use Rattle.lines.proofs.Chains.{Literals, fields_gap}
-
--- a test that is not true
-pub unlike : (b : Bool) {P : Type 0} → (P → b ≡ true) → b ≡ false → P → ⊥
-unlike b t f p = false≢true (sym f ∙ t p)
 
 -- ---- the lines of several kinds: a head, a word for each kind, and the fields after it
 
@@ -168,9 +164,6 @@ module _ {K F : Type 0} {G : Grammar K} {text numbers : F → List ℕ} {form_of
   module _ {R : Type 0} (answer : F → R) (ten r : R) (line : List ℕ) where
     abbrev Read : Type 0
     Read = ReadAs (TextOf text numbers line) answer ten r
-
-    pub reads_long : 255 < length line → r ≡ ten → Read
-    reads_long l = other (λ f i. omega (arith, i.short))
 
     pub reads_no_head : LiteralAt line 0 G.head None → r ≡ ten → Read
     reads_no_head p = other (λ f i. p (G.word (parts_of f).kind ++ fields_in G (parts_of f)) (i.same ∙ text_of f))

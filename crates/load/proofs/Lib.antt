@@ -2,6 +2,5 @@ pub mod AcceptedLines
 pub mod Cases
 pub mod Drawing
 pub mod Lengths
-pub mod Loading
 pub mod Sorting
 pub mod Writing

@@ -1,5 +1,5 @@
 // A list of keys, parted by commas.
-ghost use Rattle.std.specs.Prelude.{◌≡◌, ◌+◌, ◌≤◌, length};
+ghost use Rattle.std.specs.Prelude.{◌+◌, ◌≤◌, length};
 ghost use Rattle.graph.specs.Packed.{listed};
 ghost use Rattle.text.specs.Text.{commas};
 ghost use Rattle.text.specs.Inner.Put.{TextPut};

@@ -95,6 +95,7 @@ pub fn put_refusal(out: &mut [u8], at: usize, line: u64, refusal: u32) -> usize
 }
 
 // The lengths: the names and the newline, the digits, the keys.
+// Twins: one function for a result's and a node's line would need a contract of its own, and so be no shorter than these sums.
 
 #[tactic(auto, unfolding(text::specs::Text::ascii))]
 pub fn result_len(label: u32, value: u32, left: Keys) -> usize

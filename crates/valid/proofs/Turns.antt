@@ -156,7 +156,7 @@ module _ (n : ℕ) (s : List ℕ) (p : Padded n s) (k : ℕ) (h : k ≤ n) where
 
 -- 64 zeros put after n labels
 module _ (n : ℕ) (before after : List ℕ) where
-  pub kept : n ≤ length before → Gathers (replicate 64 0) n before after (n + 64) → take n after ≡ take n before
+  kept : n ≤ length before → Gathers (replicate 64 0) n before after (n + 64) → take n after ≡ take n before
   kept h g = sym (take-take n (n + 64) after (omega arith)) ∙ ap (take n) g.front ∙ take_at (take n before) (replicate 64 0) n (length-take-le n before h)
 
   pub padded : n ≤ 64 → n + 64 ≤ length before → Gathers (replicate 64 0) n before after (n + 64) → Padded n after

@@ -2,23 +2,15 @@
 -- Assumes nothing.
 use mathlib.Core.Path.{refl}
 use borrow.Author.Rules.{rules}
-use Rattle.lines.proofs.Chains.{within_if}
 use Rattle.lines.proofs.Calls.{no_first, no_second, no_targets, with_targets}
 use Rattle.lines.proofs.call.call_after.Goals as goal
 
 pub returns-in_default : goal.returns-in_default
 returns-in_default c = no_first c.args.kind c.args.line.now c.args.at _ c.in_default.ensures refl
 
-pub second_field-requires : goal.second_field-requires
-second_field-requires c = within_if c.args.line.now c.args.at _ _ _ c.requires c.in-Some.ensures
-
 pub returns-in_default-second_field : goal.returns-in_default-second_field
 returns-in_default-second_field c =
     no_second c.args.kind c.args.line.now c.args.at _ c.in-Some.x c.in-Some.n c.in-Some.ensures (search rules) c.in_default-second_field.ensures refl
-
-pub call_targets-requires : goal.call_targets-requires
-call_targets-requires c =
-    within_if c.args.line.now _ _ _ _ (within_if c.args.line.now c.args.at _ _ _ c.requires c.in-Some.ensures) c.in-Some-second_field.ensures
 
 pub returns-in_default-call_targets : goal.returns-in_default-call_targets
 returns-in_default-call_targets c =

@@ -36,9 +36,6 @@ unfolding calls
 returns-in_default-call_word c =
     reads_no_word call_forms call_answer (refused 10) _ _ (short (goal.at.returns-in_default-call_word c).Else-too_long) _ (head_at (goal.at.returns-in_default-call_word c).In-Some) _ c.value_at-word.ensures c.in_default-call_word.ensures refl
 
-pub overflow_add-from : goal.overflow_add-from
-overflow_add-from c = omega (arith, within (goal.at.overflow_add-from c).After-value_at-word)
-
 pub call_after-requires : goal.call_after-requires
 call_after-requires c = within (goal.at.call_after-requires c).After-value_at-word
 

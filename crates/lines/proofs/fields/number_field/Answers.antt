@@ -1,11 +1,8 @@
 -- `lines::fields::number_field` meets its contract: the literal, then the value's part, then its number.
 -- Assumes nothing.
-use Prim.Native.Nat.{◌+◌, ◌≤◌}
-use native.Mathlib.Omega.{arith}
-use lib.ListN.{length}
 use Rattle.text.specs.Inner.PartsRead.{LiteralAt}
 use Rattle.std.proofs.Common.{Some}
-use Rattle.lines.proofs.Chains.{no_number, is_field, value_within}
+use Rattle.lines.proofs.Chains.{no_number, is_field}
 use Rattle.lines.proofs.fields.number_field.Goals as goal
 use Rattle.lines.proofs.fields.number_field.Goals.{In_ok-from}
 
@@ -18,13 +15,6 @@ returns-in_err-v c =
     let a = c.args in
     rw c.from_residual-in_err-v.ensures
     (no_number a.line.now a.at a.literal.now _ (place_at (goal.at.returns-in_err-v c).In_ok-from) (rw c.value_at-value.ensures at c.in_err-v.ensures))
-
-pub overflow_add-result : goal.overflow_add-result
-overflow_add-result c =
-    let a = c.args in
-    let p = place_at (goal.at.overflow_add-result c).In_ok-from in
-    let w : c.in_ok-from.from + length c.value_at-value.result.now ≤ length a.line.now = rw c.value_at-value.ensures (value_within a.line.now a.at a.literal.now _ p) in
-    omega arith
 
 pub returns : goal.returns
 returns c =

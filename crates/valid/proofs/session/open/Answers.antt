@@ -2,16 +2,10 @@
 -- Assumes nothing.
 use mathlib.Core.Path.{ap, ◌∙◌}
 use lib.ListN.{length}
-use borrow.Author.Tests.{eq-eqb, ne_eqb}
+use borrow.Author.Tests.{eq-eqb}
 use Rattle.text.specs.Text.{pasted}
 use Rattle.valid.proofs.Unused.{opened}
 use Rattle.valid.proofs.session.open.Goals as goal
-
-pub returns-then-image-ne4112 : goal.returns-then-image-ne4112
-returns-then-image-ne4112 c =
-    let s = c.args.image.now in
-    let e = ne_eqb (length s) 4112 c.if-image-ne4112.true in
-    record { right = rw e; written = rw e }
 
 pub returns : goal.returns
 returns c =
