@@ -1,14 +1,9 @@
 -- A call line of each kind is accepted as the call that it holds.
 -- Assumes nothing.
-use mathlib.Core.Path.{◌≡◌, sym, ◌∙◌, ap, subst}
-use Prim.Native.Nat.{ℕ, suc, ◌≤◌, ◌<◌}
-use native.Mathlib.Omega.{arith}
-use mathlib.Core.Bool.{true}
-use mathlib.Core.List.{List, ◌∷◌, ◌++◌}
-use lib.Dec.{leb}
-use borrow.Author.Tests.{leb-true}
-use Rattle.graph.specs.Calls.{Call, operands_of, listed_of, form_tests}
-use Rattle.graph.specs.KeyLists.{is_key, are_keys}
+use mathlib.Core.Path.{◌≡◌, sym, ◌∙◌, ap}
+use Prim.Native.Nat.{ℕ, suc}
+use mathlib.Core.List.{List}
+use Rattle.graph.specs.Calls.{Call, form_tests}
 use Rattle.graph.specs.Targets.{To}
 use Rattle.graph.specs.declared.act.Act.TheVariants.{Map}
 use Rattle.graph.specs.declared.affine.Affine.{Affine}
@@ -16,8 +11,6 @@ use Rattle.graph.specs.Affine.{inverse}
 use Rattle.graph.specs.OneAtATime.{Labelled, operation, labelled}
 use Rattle.graph.specs.RefusalOrder.{first_of}
 use Rattle.graph.specs.Acceptance.{accept}
-use Rattle.graph.proofs.Answers.{and_left, and_right}
-use Rattle.graph.proofs.Sequences.{form_fits}
 use Rattle.records.proofs.Codecs.{Bytes}
 use Rattle.valid.specs.Inner.Decoded.{session_of}
 use Rattle.state.specs.Inner.State.{flat_in}

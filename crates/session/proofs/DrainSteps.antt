@@ -12,7 +12,7 @@ use borrow.Author.Tests.{le-leb}
 use Rattle.graph.specs.declared.task.Sought.TheVariants.{Acts, Finishes}
 use Rattle.graph.specs.Refusals.{Answer, refused, done}
 use Rattle.graph.specs.Sessions.{Session}
-use Rattle.graph.specs.Steps.{admit, realise, move, finish}
+use Rattle.graph.specs.Steps.{realise, move, finish}
 use Rattle.graph.specs.Valid.{Valid}
 use Rattle.graph.proofs.Answers.{eqb_same}
 use Rattle.graph.proofs.Limits.{each_at}
@@ -21,10 +21,10 @@ use Rattle.flat.specs.Inner.Nested.{nest}
 use Rattle.graph.specs.OneAtATime.{is_op}
 use Rattle.flat.specs.Inner.Queues.{end_of}
 use Rattle.flat.proofs.Elements.{each_queued}
-use Rattle.flat.specs.Inner.FlatSteps.{map_from, first_in, no_op, no_node, move_on, with_queue, sought_at, act_at, finish_place, admit_call, known, flat_step}
+use Rattle.flat.specs.Inner.FlatSteps.{map_from, first_in, no_op, no_node, move_on, with_queue, sought_at, act_at, finish_place, known}
 use Rattle.flat.specs.Inner.FlatEvents.{FlatTaken, flat_drain_step}
 use Rattle.state.specs.Inner.State.{flat_in, Shows}
-use Rattle.state.specs.Inner.ValidImage.{ValidImage, Leaves, Works}
+use Rattle.state.specs.Inner.ValidImage.{ValidImage}
 use Rattle.units.proofs.Standing.{op_at_law, unit_place}
 use Rattle.session.specs.declared.drain.StepTaken.{StepTaken}
 use Rattle.session.specs.Inner.DrainStep.{IsKind, DrainsOne, Begins}

@@ -18,13 +18,13 @@ use Rattle.graph.specs.Nodes.{Node}
 use Rattle.graph.specs.Tasks.{rule_for, rule_acts, rule_finishes}
 use Rattle.graph.proofs.Tasks.{acts_exactly, finishes_exactly}
 use Rattle.graph.specs.OneAtATime.{Labelled, add_of, op_of, is_op}
-use Rattle.graph.specs.Steps.{Step, admit, realise, move, finish, any}
+use Rattle.graph.specs.Steps.{Step, realise, move, finish, any}
 use Rattle.graph.specs.Drain.{or_else}
 use Rattle.graph.proofs.Answers.{eqb_same, by_bool}
 use Rattle.flat.specs.Flat.{Tagged, Flat}
 use Rattle.flat.specs.Inner.Nested.{of_op, at_place}
 use Rattle.flat.specs.Inner.Queues.{first_index, is_at, end_of}
-use Rattle.flat.specs.Inner.FlatSteps.{map_from, first_in, no_op, no_node, move_on, with_queue, sought_at, head_unit, on_place, move_flat, act_at, act_flat, realise_flat, finish_place, leave_flat, finish_flat, admit_call, known, flat_step}
+use Rattle.flat.specs.Inner.FlatSteps.{map_from, first_in, no_op, no_node, move_on, with_queue, sought_at, head_unit, on_place, move_flat, act_at, act_flat, realise_flat, finish_place, leave_flat, finish_flat, known, flat_step}
 use Rattle.flat.specs.Inner.FlatEvents.{first_place, FlatTaken, flat_taking, flat_drain_step_at, flat_drain_step}
 use Rattle.flat.proofs.Turns.{any_first, first_stop}
 
