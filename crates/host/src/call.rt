@@ -1,5 +1,5 @@
 // A call line, accepted with its label or refused.
-ghost use Rattle.std.specs.Prelude.{◌≡◌, List, ℕ};
+ghost use Rattle.std.specs.Prelude.{List, ℕ};
 ghost use Rattle.lines.specs.Forms.{line_at};
 ghost use Rattle.lines.specs.Inner.Answers.{CallRead};
 ghost use Rattle.panel.specs.Returned.{returned_number};

@@ -19,7 +19,6 @@ use Rattle.valid.specs.Values.{encode}
 use Rattle.program.specs.Lines.{Line}
 use Rattle.program.specs.Transcript.{lines_of, LineRun, none, next, Transcript}
 use Rattle.program.specs.Inner.Frames.{Served, Ended}
-use Rattle.pieces.specs.Inner.Serving.{LongOfSome}
 use Rattle.pieces.specs.Inner.Frames.{LinesTaken, LinesServed}
 use Rattle.pieces.specs.Inner.Feeding.{KeptOf, bytes, long, InputTaken, SomeTaken, piece_in, BytesFed, AllServed}
 use Rattle.program.specs.declared.frame.FramePlace.{FramePlace}
@@ -133,9 +132,6 @@ is_long (long e z o) f = (z, o)
 pub is_short_law : {s : State} {buffer part : List ℕ} → KeptOf s buffer part → s.full ≡ false → (s.kept < 64) × (take s.kept buffer ≡ part)
 is_short_law (bytes e h q) f = (h, q)
 is_short_law (long e z o) f = absurd (true≢false (sym e ∙ f))
-
-pub some_long : {image buffer : List ℕ} {s : State} → SomeTaken image buffer s → s.full ≡ true → LongOfSome s.long
-some_long t f = (t.taken.part, (is_long t.taken.kept f).1)
 
 -- the piece goes on with a line that filled the buffer
 pub long_input : {input text image buffer : List ℕ} {s : State} {after left written : List ℕ} {r : State} (got : ℕ) (t : InputTaken input text image buffer s) → s.full ≡ true

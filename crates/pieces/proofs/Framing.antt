@@ -1,7 +1,6 @@
 -- The lines of the line buffer, one after the other.
 -- Assumes nothing.
 use mathlib.Core.Path.{◌≡◌, sym, ap, subst, ◌∙◌}
-use mathlib.Core.Bool.{true}
 use mathlib.Core.List.{List, [], ◌∷◌, ◌++◌, append_assoc, append-nil}
 use Prim.Native.Nat.{ℕ, suc, ◌+◌, ◌*◌, ◌-◌, ◌≤◌, ◌<◌}
 use native.Mathlib.Omega.{arith}
@@ -9,7 +8,7 @@ use native.Mathlib.Numerals.{add-one}
 use lib.ListN.{length, take, drop}
 use Rattle.lines.specs.Forms.{line_at}
 use Rattle.program.specs.Transcript.{lines_of, LineRun, none, next}
-use Rattle.program.specs.Inner.Frames.{Ready, Next}
+use Rattle.program.specs.Inner.Frames.{Next}
 use Rattle.program.specs.declared.frame.FramePlace.{FramePlace}
 use Rattle.pieces.specs.Inner.Frames.{LinesServed}
 use Rattle.pieces.proofs.InputLines.{lines_at, run_append, taken_none}
@@ -26,10 +25,6 @@ served_none image frame p out h room =
       inside = h;
       fewer = omega arith;
     }
-
--- there is room for the next line
-pub served_ready : {image frame between out written : List ℕ} {p q : FramePlace} → LinesServed image frame p out between written q → q.at + length (line_at frame q.at) < length frame → Ready frame q written true
-served_ready w h = (h, omega (arith, h, w.room))
 
 pub served_next : {image frame between out half after written : List ℕ} {p q r : FramePlace} → LinesServed image frame p out between half q → q.at + length (line_at frame q.at) < length frame → length written ≡ length half
     → Next between frame q half after written r → LinesServed image frame p out after written r

@@ -1,5 +1,5 @@
 // The whole lines of the line buffer, one after the other.
-ghost use Rattle.std.specs.Prelude.{◌≡◌, ◌+◌, ◌*◌, ◌-◌, ◌≤◌, ◌<◌, ◌^◌, length};
+ghost use Rattle.std.specs.Prelude.{◌+◌, ◌*◌, ◌-◌, ◌≤◌, ◌<◌, ◌^◌, length};
 ghost use Rattle.lines.specs.Forms.{line_at};
 ghost use Rattle.pieces.specs.Inner.Frames.{LinesServed};
 

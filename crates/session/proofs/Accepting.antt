@@ -1,14 +1,9 @@
 -- A call line of each kind is accepted as the call that it holds.
 -- Assumes nothing.
-use mathlib.Core.Path.{◌≡◌, sym, ◌∙◌, ap, subst}
-use Prim.Native.Nat.{ℕ, suc, ◌≤◌, ◌<◌}
-use native.Mathlib.Omega.{arith}
-use mathlib.Core.Bool.{true}
-use mathlib.Core.List.{List, ◌∷◌, ◌++◌}
-use lib.Dec.{leb}
-use borrow.Author.Tests.{leb-true}
-use Rattle.graph.specs.Calls.{Call, operands_of, listed_of, form_tests}
-use Rattle.graph.specs.KeyLists.{is_key, are_keys}
+use mathlib.Core.Path.{◌≡◌, sym, ◌∙◌, ap}
+use Prim.Native.Nat.{ℕ, suc}
+use mathlib.Core.List.{List}
+use Rattle.graph.specs.Calls.{Call, form_tests}
 use Rattle.graph.specs.Targets.{To}
 use Rattle.graph.specs.declared.act.Act.TheVariants.{Map}
 use Rattle.graph.specs.declared.affine.Affine.{Affine}
@@ -16,8 +11,6 @@ use Rattle.graph.specs.Affine.{inverse}
 use Rattle.graph.specs.OneAtATime.{Labelled, operation, labelled}
 use Rattle.graph.specs.RefusalOrder.{first_of}
 use Rattle.graph.specs.Acceptance.{accept}
-use Rattle.graph.proofs.Answers.{and_left, and_right}
-use Rattle.graph.proofs.Sequences.{form_fits}
 use Rattle.records.proofs.Codecs.{Bytes}
 use Rattle.valid.specs.Inner.Decoded.{session_of}
 use Rattle.state.specs.Inner.State.{flat_in}
@@ -41,10 +34,3 @@ labelled_as k kind x y to e l = ap (λ (j : CallKind). labelled (call_form j x y
 -- an unmap is the map that undoes
 pub unmap_as : (k : CallKind) (x y : ℕ) (to : To) → k ≡ Unmap → (m : Affine) → m ≡ inverse (record { a = x; b = y }) → (l : ℕ) → labelled (call_form k x y to) l ≡ operation (Map m) 0 to l
 unmap_as k x y to e m i l = labelled_as k Unmap x y to e l ∙ ap (λ (f : Affine). operation (Map f) 0 to l) (sym i)
-
--- a good call's key is at most 64
-pub key_small : (c kind : CallKind) (x y : ℕ) (to : To) (k : ℕ) (ts : List ℕ) → c ≡ kind → first_of (form_tests (call_form c x y to)) ≡ 0 → operands_of (call_form kind x y to) ++ listed_of (call_form kind x y to) ≡ k ∷ ts → k < 256
-key_small c kind x y to k ts e g q =
-    let all : are_keys (k ∷ ts) ≡ true = subst (λ (xs : List ℕ). are_keys xs ≡ true) (ap (λ (j : CallKind). operands_of (call_form j x y to) ++ listed_of (call_form j x y to)) e ∙ q) (form_fits (call_form c x y to) g).keys in
-    let high : k ≤ 64 = leb-true k 64 (and_right (leb 1 k) (leb k 64) (and_left (is_key k) (are_keys ts) all)) in
-    omega arith

@@ -1,6 +1,6 @@
 -- Drain's loop: what is counted, with what is still to be taken, is what the whole drain takes.
 -- Assumes nothing.
-use mathlib.Core.Path.{◌≡◌, refl, sym, ◌∙◌, ap, subst}
+use mathlib.Core.Path.{◌≡◌, sym, ◌∙◌, ap, subst}
 use Prim.Native.Nat.{ℕ, ◌+◌, ◌*◌, ◌≤◌, ◌<◌}
 use native.Mathlib.Omega.{arith}
 use mathlib.Core.Bool.{Bool, true, false, cond}
@@ -44,9 +44,6 @@ pub record Loop (first image : List ℕ) (c : Counts) : Type 0 where
   pub realises : Sums 1 first image c.realise
   pub moves : Sums 2 first image c.moved
   pub finishes : Sums 3 first image c.finish
-
-pub loop_first : (image : List ℕ) → ValidImage image → Bytes image → Loop image image (record { admit = 0; realise = 0; moved = 0; finish = 0 })
-loop_first image l b = record { image_valid_law = l; size = refl; bytes = b; end = refl; admits = omega arith; realises = omega arith; moves = omega arith; finishes = omega arith }
 
 -- a count, by whether the step that was taken is of its own kind
 abbrev raised_if : ℕ → Step → ℕ → ℕ

@@ -12,7 +12,7 @@ use borrow.Author.Tests.{le-leb}
 use Rattle.graph.specs.declared.task.Sought.TheVariants.{Acts, Finishes}
 use Rattle.graph.specs.Refusals.{Answer, refused, done}
 use Rattle.graph.specs.Sessions.{Session}
-use Rattle.graph.specs.Steps.{admit, realise, move, finish}
+use Rattle.graph.specs.Steps.{realise, move, finish}
 use Rattle.graph.specs.Valid.{Valid}
 use Rattle.graph.proofs.Answers.{eqb_same}
 use Rattle.graph.proofs.Limits.{each_at}
@@ -21,14 +21,14 @@ use Rattle.flat.specs.Inner.Nested.{nest}
 use Rattle.graph.specs.OneAtATime.{is_op}
 use Rattle.flat.specs.Inner.Queues.{end_of}
 use Rattle.flat.proofs.Elements.{each_queued}
-use Rattle.flat.specs.Inner.FlatSteps.{map_from, first_in, no_op, no_node, move_on, with_queue, sought_at, act_at, finish_place, admit_call, known, flat_step}
+use Rattle.flat.specs.Inner.FlatSteps.{map_from, first_in, no_op, no_node, move_on, with_queue, sought_at, act_at, finish_place, known}
 use Rattle.flat.specs.Inner.FlatEvents.{FlatTaken, flat_drain_step}
 use Rattle.state.specs.Inner.State.{flat_in, Shows}
-use Rattle.state.specs.Inner.ValidImage.{ValidImage, Leaves, Works}
+use Rattle.state.specs.Inner.ValidImage.{ValidImage}
 use Rattle.units.proofs.Standing.{op_at_law, unit_place}
 use Rattle.session.specs.declared.drain.StepTaken.{StepTaken}
 use Rattle.session.specs.Inner.DrainStep.{IsKind, DrainsOne, Begins}
-use Rattle.session.proofs.Draining.{taken, drain_empty, drain_admits, admits_first, drain_realises, drain_finishes, drain_moves}
+use Rattle.session.proofs.Draining.{taken, drain_empty, drain_realises, drain_finishes, drain_moves}
 
 -- ANSWERS
 pub drains_done : {x : Answer FlatTaken} {after : List ℕ} {t : FlatTaken} {r : StepTaken} → x ≡ done t → IsKind t.what r → Shows t.to after → DrainsOne x after r
@@ -103,16 +103,6 @@ module _ (image : List ℕ) (l : ValidImage image) (k : ℕ) (b : Begins image k
         let hit = s ∙ canon (sought_at Acts k) in
         drain_moves (flat_in image) k x (drop 1 (flat_in image).queue) begins b.place b.station node_known (begins_op (omega (arith, at.ends))) (omega (arith, at.ends, at.fits)) (omega arith) (omega (arith, hit, at.ends, h)) (omega (arith, is, at.ends, j))
         ∙ (λ i. done (taken (move k) (with_queue (flat_in image) (map_from (move_on (k - 1)) 0 (sym at.ends i) (flat_in image).queue))))
-
--- the first waiting call begins the queue
-pub takes_admit : (image : List ℕ) → 0 < length (flat_in image).queue → (get_or (flat_in image).queue 0 no_op).place ≡ 65 → flat_drain_step (flat_in image) ≡ done (taken admit (admit_call 0 (get_or (flat_in image).queue 0 no_op).call (flat_in image)))
-takes_admit image h e = drain_admits (flat_in image) (get_or (flat_in image).queue 0 no_op) (drop 1 (flat_in image).queue) (drop-cons (flat_in image).queue 0 no_op h) e
-
-pub admit_shows : (image : List ℕ) → 0 < length (flat_in image).queue → (get_or (flat_in image).queue 0 no_op).place ≡ 65 → {after : List ℕ} {r : ℕ} → Works (flat_step admit (flat_in image)) image after r → Shows (admit_call 0 (get_or (flat_in image).queue 0 no_op).call (flat_in image)) after
-admit_shows image h e {after} {r} w =
-    let did : flat_step admit (flat_in image) ≡ done (admit_call 0 (get_or (flat_in image).queue 0 no_op).call (flat_in image)) =
-    admits_first (flat_in image) (get_or (flat_in image).queue 0 no_op) (drop 1 (flat_in image).queue) (drop-cons (flat_in image).queue 0 no_op h) e in
-    subst (λ (y : Answer Flat). Leaves y image after) did w.leaves
 
 pub none_waits : (image : List ℕ) → length (flat_in image).queue ≡ 0 → flat_drain_step (flat_in image) ≡ refused 21
 none_waits image e = drain_empty (flat_in image) (nil (flat_in image).queue e)

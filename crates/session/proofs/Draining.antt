@@ -18,13 +18,13 @@ use Rattle.graph.specs.Nodes.{Node}
 use Rattle.graph.specs.Tasks.{rule_for, rule_acts, rule_finishes}
 use Rattle.graph.proofs.Tasks.{acts_exactly, finishes_exactly}
 use Rattle.graph.specs.OneAtATime.{Labelled, add_of, op_of, is_op}
-use Rattle.graph.specs.Steps.{Step, admit, realise, move, finish, any}
+use Rattle.graph.specs.Steps.{Step, realise, move, finish, any}
 use Rattle.graph.specs.Drain.{or_else}
 use Rattle.graph.proofs.Answers.{eqb_same, by_bool}
 use Rattle.flat.specs.Flat.{Tagged, Flat}
 use Rattle.flat.specs.Inner.Nested.{of_op, at_place}
 use Rattle.flat.specs.Inner.Queues.{first_index, is_at, end_of}
-use Rattle.flat.specs.Inner.FlatSteps.{map_from, first_in, no_op, no_node, move_on, with_queue, sought_at, head_unit, on_place, move_flat, act_at, act_flat, realise_flat, finish_place, leave_flat, finish_flat, admit_call, known, flat_step}
+use Rattle.flat.specs.Inner.FlatSteps.{map_from, first_in, no_op, no_node, move_on, with_queue, sought_at, head_unit, on_place, move_flat, act_at, act_flat, realise_flat, finish_place, leave_flat, finish_flat, known, flat_step}
 use Rattle.flat.specs.Inner.FlatEvents.{first_place, FlatTaken, flat_taking, flat_drain_step_at, flat_drain_step}
 use Rattle.flat.proofs.Turns.{any_first, first_stop}
 
@@ -42,13 +42,6 @@ finishes_last k (op_of o) op e h =
 -- nothing waits
 pub drain_empty : (f : Flat) → f.queue ≡ [] → flat_drain_step f ≡ refused 21
 drain_empty f e = rw e
-
--- the first waiting call, where no operation stands at a station
-pub drain_admits : (f : Flat) (x : Tagged) (xs : List Tagged) → f.queue ≡ x ∷ xs → x.place ≡ 65 → flat_drain_step f ≡ done (taken admit (admit_call 0 x.call f))
-drain_admits f x xs e p = rw (e, p)
-
-pub admits_first : (f : Flat) (x : Tagged) (xs : List Tagged) → f.queue ≡ x ∷ xs → x.place ≡ 65 → flat_step admit f ≡ done (admit_call 0 x.call f)
-admits_first f x xs e p = rw (e, p)
 
 module _ (f : Flat) (k : ℕ) (x : Tagged) (xs : List Tagged) (stands : f.queue ≡ x ∷ xs) (place : x.place ≡ k) (station : eqb k 65 ≡ false) (node : known k f ≡ true) where
   abbrev e : ℕ
