@@ -3,25 +3,25 @@
 // The head's byte that counts the records, where the first begins, and the size of each.
 #[derive(Clone, Copy)]
 pub struct Region {
-    pub slot: usize,
+    pub counter: usize,
     pub base: usize,
     pub size: usize,
 }
 
 pub const NODES: Region = Region {
-    slot: 1,
+    counter: 1,
     base: 16,
     size: 16,
 };
 
 pub const OPS: Region = Region {
-    slot: 2,
+    counter: 2,
     base: 1040,
     size: 32,
 };
 
 pub const RESULTS: Region = Region {
-    slot: 3,
+    counter: 3,
     base: 3088,
     size: 16,
 };

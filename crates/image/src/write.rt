@@ -23,24 +23,24 @@ fn put(image: &mut [u8], region: Region, i: usize, bytes: &[u8])
 
 // A record after the others.
 fn append(image: &mut [u8], region: Region, bytes: &[u8])
-    requires { (region.slot < length image.old) × (get_or image.old region.slot 0 < 64) × (region.base + region.size * get_or image.old region.slot 0 + length bytes.now ≤ length image.old) }
-    ensures { image.new ≡ set (pasted image.old (region.base + region.size * get_or image.old region.slot 0) bytes.now) region.slot (get_or image.old region.slot 0 + 1) }
+    requires { (region.counter < length image.old) × (get_or image.old region.counter 0 < 64) × (region.base + region.size * get_or image.old region.counter 0 + length bytes.now ≤ length image.old) }
+    ensures { image.new ≡ set (pasted image.old (region.base + region.size * get_or image.old region.counter 0) bytes.now) region.counter (get_or image.old region.counter 0 + 1) }
 {
-    let m = image[region.slot];
+    let m = image[region.counter];
     put(image, region, usize::from(m), bytes);
-    image[region.slot] = m + 1;
+    image[region.counter] = m + 1;
 }
 
 // The record at p goes; those after it stand one place earlier.
 fn remove(image: &mut [u8], region: Region, p: usize)
-    requires { (region.slot < length image.old) × (p < get_or image.old region.slot 0) × (region.base + region.size * get_or image.old region.slot 0 ≤ length image.old) }
-    ensures { Removed region.slot region.base region.size p image.old image.new }
+    requires { (region.counter < length image.old) × (p < get_or image.old region.counter 0) × (region.base + region.size * get_or image.old region.counter 0 ≤ length image.old) }
+    ensures { Removed region.counter region.base region.size p image.old image.new }
 {
-    let m = image[region.slot];
+    let m = image[region.counter];
     let end = region.base + region.size * usize::from(m);
     move_down(image, region.base + region.size * p, end, region.size);
     clear(image, end - region.size, end);
-    image[region.slot] = m - 1;
+    image[region.counter] = m - 1;
 }
 
 pub fn put_node(image: &mut [u8], i: usize, n: NodeRecord)
@@ -79,10 +79,11 @@ pub fn insert_result(image: &mut [u8], p: usize, r: ResultRecord)
     ensures { ViewWritten (view_with_results (view image.old) (insert_at p r (view image.old).results)) image.old image.new }
 {
     let m = result_count(image);
-    let bs = result_bytes(r);
-    move_up(image, 3088 + 16 * p, 3088 + 16 * m, 16);
-    put_bytes(image, 3088 + 16 * p, &bs);
-    image[3] = (m + 1) as u8;
+    let at = RESULTS.base + RESULTS.size * p;
+    let end = RESULTS.base + RESULTS.size * m;
+    move_up(image, at, end, RESULTS.size);
+    put(image, RESULTS, p, &result_bytes(r));
+    image[RESULTS.counter] = (m + 1) as u8;
 }
 
 // The operation at p goes; those after it stand one place earlier.

@@ -1,5 +1,5 @@
 // Numbers and key lists in bytes, least significant byte first.
-ghost use Rattle.std.specs.Prelude.{◌≡◌, ◌&&◌, eqb, ◌+◌, ◌≤◌, ◌<◌, length};
+ghost use Rattle.std.specs.Prelude.{◌≡◌, ◌+◌, ◌≤◌, length};
 ghost use Rattle.records.specs.Inner.Numbers.{le16, le32, le64, keys_at, all_zero};
 ghost use Rattle.records.specs.Bytes.{bytes8, encode_keys};
 

@@ -1,5 +1,5 @@
 // The live labels, gathered: each was given, and stands in one place.
-ghost use Rattle.std.specs.Prelude.{◌≡◌, ◌&&◌, ◌+◌, ◌≤◌, leb, length, take, drop, replicate};
+ghost use Rattle.std.specs.Prelude.{◌≡◌, ◌&&◌, ◌+◌, ◌≤◌, leb, length, take, drop};
 ghost use Rattle.graph.specs.KeyLists.{contains};
 ghost use Rattle.image.specs.Inner.Regions.{Sound, view};
 ghost use Rattle.valid.specs.Inner.Decoded.{labels_of};

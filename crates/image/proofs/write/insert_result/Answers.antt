@@ -8,13 +8,13 @@ use Rattle.image.proofs.Writers.{insert_change, results_fit, results_written}
 use Rattle.image.proofs.write.insert_result.Goals as goal
 
 pub shape_of-image : goal.shape_of-image
-shape_of-image c = simp length-set (c.put_bytes.auto.out ∙ c.move_up.ensures.size)
+shape_of-image c = simp length-set (c.put.auto.image ∙ c.move_up.ensures.size)
 
 pub returns : goal.returns
 returns c =
-    let e = c.put_bytes.ensures.bytes in
+    let e = c.put.ensures in
     let m = c.result_count-m in
-    let b = c.result_bytes-bs in
+    let b = c.result_bytes in
     let up = c.move_up.ensures in
     let a = c.args in
     let sound = c.requires.0 in
