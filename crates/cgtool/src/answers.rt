@@ -71,6 +71,7 @@ fn load_said(seed: u32, count: u32, out: &mut [u8]) -> Said
     returned_said(returned, out)
 }
 
+// `nodes_said` is the same of another function: each contract names its own definition of what is said.
 fn page_said(image: &[u8], out: &mut [u8]) -> Said
     requires { 3584 ≤ length out.old }
     ensures { SaysTo page image.now out.new result }

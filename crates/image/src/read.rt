@@ -10,6 +10,7 @@ use records::node::{NodeRecord, read_node};
 use records::op::{OpRecord, read_op};
 use records::result::{ResultRecord, read_result};
 
+// A function for each kind of record here and in write.rt: each contract names another field of the view, and what they do is one function.
 #[tactic(auto, using(crate::proofs::Regions::count_of))]
 pub fn node_count(image: &[u8]) -> usize
     requires { Sound image.now }

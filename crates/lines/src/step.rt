@@ -42,7 +42,7 @@ pub enum StepRequest {
     Drain,
 }
 
-// The place of a step's kind in the rules' list of kinds, which is the tally's order.
+// The place of a step's kind in the rules' list of kinds, which is the tally's order: a number, since `Tally::raised` takes any.
 pub fn tally_place(w: WorkStep) -> u8
     ensures { result ≡ tally_place (step_named w) }
 {
@@ -58,7 +58,7 @@ pub fn tally_place(w: WorkStep) -> u8
     }
 }
 
-// The kind that the word after `step=` names.
+// The kind that the word after `step=` names. `call_word` is the same of other words: a table of both would be no shorter.
 #[tactic(auto, unfolding(text::specs::Text::ascii))]
 fn step_word(word: &[u8]) -> Option<StepKind>
     ensures { StepWordOf word.now result }
@@ -152,7 +152,7 @@ fn step_after(kind: StepKind, line: &[u8], at: usize) -> Result<StepRequest, Ref
     step_made(kind, place, unit, after)
 }
 
-// The kind is decided once, by the word after `step=`.
+// The kind is decided once, by the word after `step=`. Calls are read so too: another type, and other definitions, which closures would have to name.
 pub fn parse_step(line: &[u8]) -> Result<StepRequest, Refusal>
     ensures { StepRead line.now result }
 {

@@ -11,6 +11,7 @@ use graph::keys::Keys;
 pub struct OpRecord {
     pub station: u8,
     pub opens: u8,
+    // As the image has it, whatever the byte.
     pub kind: u8,
     pub key: u8,
     pub a: u32,

@@ -28,7 +28,7 @@ pub struct Added {
     pub value: u32,
 }
 
-// The part of a record that an act and what it holds fill.
+// The part of a record that an act and what it holds fill. The kind is the image's byte.
 #[derive(Clone, Copy)]
 pub struct ActFields {
     pub kind: u8,

@@ -119,6 +119,7 @@ fn put_record(image: &mut [u8], i: usize, r: OpRecord)
     put_op(image, i, r);
 }
 
+// One field of a record changes in each of the next three: a function over a closure would need a law for each, and be no shorter.
 pub fn set_place(image: &mut [u8], i: usize, k: u8)
     requires { (Proper image.old) × (i < length (flat_in image.old).queue) }
     ensures { Shows (with_queue (flat_in image.old) (alter i (move_to k) (flat_in image.old).queue)) image.new }
