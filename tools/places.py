@@ -169,7 +169,7 @@ def switches(top):
 
 
 def proof_files(top):
-    for path in sorted(Path(top).glob("crates/*/proofs/*/*.antt")) + sorted(Path(top).glob("crates/*/proofs/*.antt")):
+    for path in sorted(Path(top).glob("crates/*/proofs/**/*.antt")):
         yield path, str(len(path.read_text().splitlines()))
 
 
