@@ -302,8 +302,8 @@ fn main(rt: HostRuntime) {
     // 68 and 64 live labels
     tell(&rt, 77, &crowd(17));
     tell(&rt, 78, &crowd(16));
-    // the opened image
-    tell(&rt, 79, &opened());
+    // no operation, and a last label of 255
+    tell(&rt, 79, &crowd(0));
     // 65 and 64 nodes and waiting adds
     tell(&rt, 80, &nodes_and_add(64));
     tell(&rt, 81, &nodes_and_add(63));
