@@ -8,16 +8,18 @@ use Rattle.text.proofs.CommaLists.{texts_append}
 use Rattle.program.specs.Transcript.{Transcript}
 use Rattle.program.proofs.Determined.{transcript_same}
 use Rattle.pieces.specs.Pieces.{Fed, starts, feeds, Printed, joined, EveryCut}
-use Rattle.pieces.specs.Inner.Feeding.{KeptOf, bytes, long, InputTaken, piece_in}
+use Rattle.pieces.specs.Inner.Feeding.{bytes_kept, KeptOf, InputTaken, piece_in}
+use Rattle.pieces.specs.declared.between.Kept.{Kept}
+use Rattle.pieces.specs.declared.between.Kept.TheVariants.{Bytes, Long}
 use Rattle.pieces.specs.declared.between.State.{State}
 
 -- a read leaves what is kept
-still_kept : {s : State} {buffer filled part : List ℕ} → take s.kept filled ≡ take s.kept buffer → KeptOf s buffer part → KeptOf s filled part
-still_kept e (bytes f h q) = bytes f h (e ∙ q)
-still_kept e (long f z o) = long f z o
+still_kept : (k : Kept) (buffer filled part : List ℕ) → take (bytes_kept k) filled ≡ take (bytes_kept k) buffer → KeptOf k buffer part → KeptOf k filled part
+still_kept (Bytes n) buffer filled part e h = (h.0, e ∙ h.1)
+still_kept (Long l) buffer filled part e o = o
 
-pub still_taken : {input text image buffer filled : List ℕ} {s : State} → take s.kept filled ≡ take s.kept buffer → InputTaken input text image buffer s → InputTaken input text image filled s
-still_taken e t = record { part = t.part; taken = t.taken; unended = t.unended; kept = still_kept e t.kept }
+pub still_taken : {input text image buffer filled : List ℕ} {s : State} → take (bytes_kept s.kept) filled ≡ take (bytes_kept s.kept) buffer → InputTaken input text image buffer s → InputTaken input text image filled s
+still_taken {s = s} e t = record { part = t.part; taken = t.taken; unended = t.unended; kept = still_kept s.kept _ _ _ e t.kept }
 
 joined_more : (pieces : List (List ℕ)) (piece : List ℕ) → joined pieces ++ piece ≡ joined (pieces ++ piece ∷ [])
 joined_more pieces piece = ap (λ (x : List ℕ). joined pieces ++ x) (sym (append-nil piece)) ∙ sym (texts_append (λ (x : List ℕ). x) pieces (piece ∷ []))

@@ -1,13 +1,12 @@
 -- A piece fed, and the end of the input.
 -- Assumes nothing.
 use mathlib.Core.Path.{◌≡◌, refl, sym, ap, subst, ◌∙◌}
-use mathlib.Core.Bool.{true, false, true≢false}
 use mathlib.Core.List.{List, [], ◌∷◌, ◌++◌, append_assoc, append-nil}
 use Prim.Native.Nat.{ℕ, suc, ◌+◌, ◌-◌, ◌≤◌, ◌<◌}
 use native.Mathlib.Omega.{arith}
 use native.Mathlib.Numerals.{add-one}
 use lib.ListN.{length, take, drop, length-drop, length-append}
-use lib.Seq.{length-take-le, take-take, take-add, take_all, take-append_seam, take-append-le, drop_at}
+use lib.Seq.{length-take-le, take-take, take-add, take-append_seam, take-append-le, drop_at}
 use borrow.Rule.Slice.PartMut.{put_mid}
 use Rattle.graph.specs.Sessions.{fresh}
 use Rattle.text.specs.Text.{up_to}
@@ -20,19 +19,15 @@ use Rattle.program.specs.Lines.{Line}
 use Rattle.program.specs.Transcript.{lines_of, LineRun, none, next, Transcript}
 use Rattle.program.specs.Inner.Frames.{Served, Ended}
 use Rattle.pieces.specs.Inner.Frames.{LinesTaken, LinesServed}
-use Rattle.pieces.specs.Inner.Feeding.{KeptOf, bytes, long, InputTaken, SomeTaken, piece_in, BytesFed, AllServed}
+use Rattle.pieces.specs.Inner.Feeding.{bytes_kept, KeptOf, InputTaken, piece_in, BytesFed, AllServed}
 use Rattle.program.specs.declared.frame.FramePlace.{FramePlace}
+use Rattle.pieces.specs.declared.between.Kept.{Kept}
+use Rattle.pieces.specs.declared.between.Kept.TheVariants.{Bytes, Long}
 use Rattle.pieces.specs.declared.between.State.{State}
 use Rattle.pieces.proofs.InputLines.{up_to_on, no_newline, last_line, run_append, taken_none, taken_more, taken_line}
 use Rattle.program.proofs.Framing.{behind}
 
 -- ---- parts of the line buffer
-
-pub whole_buffer : (buffer : List ℕ) (at filled : ℕ) → filled - at ≡ 64 → filled ≤ 64 → length buffer ≡ 64 → drop at (take filled buffer) ≡ buffer
-whole_buffer buffer at filled e h size =
-    let a : at ≡ 0 = omega arith in
-    let f : filled ≡ 64 = omega arith in
-    (λ i. drop (a i) (take (f i) buffer)) ∙ take_all 64 buffer (omega arith)
 
 pub rest_moved : (buffer : List ℕ) (at filled : ℕ) → at ≤ filled → filled ≤ length buffer → take (filled - at) (drop at buffer) ≡ drop at (take filled buffer)
 rest_moved buffer at filled h k =
@@ -53,7 +48,7 @@ line_within got buffer h =
 -- ---- the rest of a frame is kept
 
 pub lines_fed : {image frame out after written left : List ℕ} {p q : FramePlace} {r : State} → LinesServed image frame p out after written q → length frame ≤ q.at + length (line_at frame q.at)
-    → KeptOf r left (drop q.at frame) → r.line ≡ q.line → r.printed ≡ q.used
+    → KeptOf r.kept left (drop q.at frame) → r.line ≡ q.line → r.printed ≡ q.used
     → BytesFed image p.line (drop p.at frame) (take p.used out) after left written r
 lines_fed {image} {frame} {out} {after} {written} {left} {p} {q} {r} w end kept line used =
     record {
@@ -70,7 +65,7 @@ lines_fed {image} {frame} {out} {after} {written} {left} {p} {q} {r} w end kept 
 
 -- the piece has no newline
 pub long_more : {image out : List ℕ} {n : ℕ} {l : LongLine} (part buffer : List ℕ) (got k : ℕ) → got ≤ length buffer → k ≡ length (up_to 10 (take got buffer)) → k ≡ got → up_to 10 part ≡ part → LongOf (part ++ take k buffer) l
-    → BytesFed image n (part ++ take got buffer) [] image buffer out (record { line = n; kept = 0; full = true; long = l; printed = 0 })
+    → BytesFed image n (part ++ take got buffer) [] image buffer out (record { line = n; kept = Long l; printed = 0 })
 long_more {image} {out} {n} {l} part buffer got k h size all clean o =
     let frame : List ℕ = take got buffer in
     let whole : up_to 10 frame ≡ frame = no_newline frame (omega (arith, size, all, length-take-le got buffer h)) in
@@ -81,7 +76,7 @@ long_more {image} {out} {n} {l} part buffer got k h size all clean o =
       printed = refl;
       within = omega arith;
       unended = up_to_on part frame clean ∙ ap (λ (x : List ℕ). part ++ x) whole;
-      kept = long refl refl (subst (λ (m : ℕ). LongOf (part ++ take m buffer) l) all o);
+      kept = subst (λ (m : ℕ). LongOf (part ++ take m buffer) l) all o;
     }
 
 -- the piece ends the line: it is served, and then the lines that follow
@@ -123,36 +118,26 @@ fed_input {input} {text} {after = after} {r = r} piece t fed =
       kept = fed.kept;
     }
 
--- a line that filled the buffer
-pub is_long : {s : State} {buffer part : List ℕ} → KeptOf s buffer part → s.full ≡ true → (s.kept ≡ 0) × LongOf part s.long
-is_long (bytes e h q) f = absurd (true≢false (sym f ∙ e))
-is_long (long e z o) f = (z, o)
-
--- one that did not
-pub is_short_law : {s : State} {buffer part : List ℕ} → KeptOf s buffer part → s.full ≡ false → (s.kept < 64) × (take s.kept buffer ≡ part)
-is_short_law (bytes e h q) f = (h, q)
-is_short_law (long e z o) f = absurd (true≢false (sym e ∙ f))
+-- what is kept, by its case
+pub kept_as : {k m : Kept} (buffer part : List ℕ) → k ≡ m → KeptOf k buffer part → KeptOf m buffer part
+kept_as buffer part e h = subst (λ (k : Kept). KeptOf k buffer part) e h
 
 -- the piece goes on with a line that filled the buffer
-pub long_input : {input text image buffer : List ℕ} {s : State} {after left written : List ℕ} {r : State} (got : ℕ) (t : InputTaken input text image buffer s) → s.full ≡ true
-    → (LongOf t.part s.long → BytesFed image s.line (t.part ++ take got buffer) [] after left written r)
+pub long_input : {input text image buffer : List ℕ} {s : State} {l : LongLine} {after left written : List ℕ} {r : State} (got : ℕ) (t : InputTaken input text image buffer s) → s.kept ≡ Long l
+    → (LongOf t.part l → BytesFed image s.line (t.part ++ take got buffer) [] after left written r)
     → InputTaken (input ++ piece_in buffer s got) (text ++ take r.printed written) after left r
-long_input {input} {text} {image} {buffer} {s} {after} {left} {written} {r} got t full fed =
-    let k = is_long t.kept full in
-    let piece : take got buffer ≡ piece_in buffer s got = ap (λ (n : ℕ). take got (drop n buffer)) (sym k.0) in
-    fed_input (piece_in buffer s got) t (subst (λ (x : List ℕ). BytesFed image s.line (t.part ++ x) [] after left written r) piece (fed k.1))
-
-pub long_within : {image buffer : List ℕ} {s : State} {after left written : List ℕ} {r : State} (got : ℕ) → SomeTaken image buffer s → s.full ≡ true
-    → ((part : List ℕ) → up_to 10 part ≡ part → LongOf part s.long → BytesFed image s.line (part ++ take got buffer) [] after left written r)
-    → r.printed ≤ length written
-long_within got t full fed = (fed t.taken.part t.taken.unended (is_long t.taken.kept full).1).within
+long_input {input} {text} {image} {buffer} {s} {l} {after} {left} {written} {r} got t is fed =
+    let piece : take got buffer ≡ piece_in buffer s got = ap (λ (k : Kept). take got (drop (bytes_kept k) buffer)) (sym is) in
+    fed_input (piece_in buffer s got) t (subst (λ (x : List ℕ). BytesFed image s.line (t.part ++ x) [] after left written r) piece (fed (kept_as _ _ is t.kept)))
 
 -- the piece stands behind bytes that are kept
-pub short_input : {input text image buffer : List ℕ} {s : State} {after left written : List ℕ} {r : State} (got : ℕ) (t : InputTaken input text image buffer s) → s.full ≡ false
-    → BytesFed image s.line (take (s.kept + got) buffer) [] after left written r
+pub short_input : {input text image buffer : List ℕ} {s : State} {n : ℕ} {after left written : List ℕ} {r : State} (got : ℕ) (t : InputTaken input text image buffer s) → s.kept ≡ Bytes n
+    → BytesFed image s.line (take (n + got) buffer) [] after left written r
     → InputTaken (input ++ piece_in buffer s got) (text ++ take r.printed written) after left r
-short_input {input} {text} {image} {buffer} {s} {after} {left} {written} {r} got t full fed =
-    let whole : take (s.kept + got) buffer ≡ t.part ++ piece_in buffer s got = take-add s.kept got buffer ∙ ap (λ (x : List ℕ). x ++ piece_in buffer s got) (is_short_law t.kept full).1 in
+short_input {input} {text} {image} {buffer} {s} {n} {after} {left} {written} {r} got t is fed =
+    let some = kept_as _ _ is t.kept in
+    let piece : take got (drop n buffer) ≡ piece_in buffer s got = ap (λ (k : Kept). take got (drop (bytes_kept k) buffer)) (sym is) in
+    let whole : take (n + got) buffer ≡ t.part ++ piece_in buffer s got = take-add n got buffer ∙ (λ i. some.1 i ++ piece i) in
     fed_input (piece_in buffer s got) t (subst (λ (x : List ℕ). BytesFed image s.line x [] after left written r) whole fed)
 
 -- ---- the end
@@ -185,10 +170,10 @@ module _ {input text image buffer : List ℕ} {s : State} (t : InputTaken input 
       }
 
   -- the bytes of it that are kept
-  pub bytes_left : {after written : List ℕ} {r : ℕ} → s.full ≡ false → s.kept ≤ length buffer → (s.kept ≡ 0 → ⊥) → Served image (up_to 10 (take s.kept buffer)) s.line after written r → AllServed input (text ++ take r written) after
-  bytes_left {after} {written} {r} short h ne v =
-      let same : take s.kept buffer ≡ t.part = (is_short_law t.kept short).1 in
-      last_left (omega (arith, ap length same, length-take-le s.kept buffer h, ne)) (subst (λ (x : List ℕ). Served image x s.line after written r) (ap (up_to 10) same ∙ t.unended) v)
+  pub bytes_left : {n : ℕ} {after written : List ℕ} {r : ℕ} → s.kept ≡ Bytes n → n ≤ length buffer → (n ≡ 0 → ⊥) → Served image (up_to 10 (take n buffer)) s.line after written r → AllServed input (text ++ take r written) after
+  bytes_left {n} {after} {written} {r} is h ne v =
+      let same : take n buffer ≡ t.part = (kept_as _ _ is t.kept).1 in
+      last_left (omega (arith, ap length same, length-take-le n buffer h, ne)) (subst (λ (x : List ℕ). Served image x s.line after written r) (ap (up_to 10) same ∙ t.unended) v)
 
 -- and the listing
 pub all_listed : {input image listed : List ℕ} {last r : ℕ} (text out : List ℕ) (k : ℕ) → last ≤ length out → AllServed input (text ++ take last out) image → Ended image listed r

@@ -4,7 +4,7 @@
 use Rattle.std.specs.Prelude.{ℕ, ◌≡◌, List, [], ◌∷◌, ◌++◌, take}
 use Rattle.text.specs.Text.{texts}
 use Rattle.program.specs.Transcript.{Transcript}
-use Rattle.pieces.specs.Inner.Feeding.{Begins, piece_in, Feeds, Finishes}
+use Rattle.pieces.specs.Inner.Feeding.{bytes_kept, Begins, piece_in, Feeds, Finishes}
 use Rattle.pieces.specs.declared.between.State.{State}
 
 -- `start`, and then for each piece a read and `feed`: the read puts the piece behind the bytes that the line buffer keeps and leaves
@@ -14,7 +14,7 @@ pub data Fed : (pieces : List (List ℕ)) (image buffer : List ℕ) (s : State) 
   feeds :
       {pieces : List (List ℕ)} {image buffer : List ℕ} {s : State} {text filled : List ℕ} {got : ℕ} {after left written : List ℕ} {r : State}
       → Fed pieces image buffer s text
-      → take s.kept filled ≡ take s.kept buffer
+      → take (bytes_kept s.kept) filled ≡ take (bytes_kept s.kept) buffer
       → Feeds image filled s got after left written r
       → Fed (pieces ++ piece_in filled s got ∷ []) after left r (text ++ take r.printed written)
 

@@ -1,13 +1,18 @@
 // What there is between two reads.
 use longlines::longline::LongLine;
 
-// The number of the line that is being read; how many of its bytes are kept, at the start of the line buffer; `full`: the line
-// filled the buffer, and `long` is kept in place of its bytes; and how many bytes of the output the last piece printed.
+// What is kept of the line that is being read: so many bytes, at the start of the line buffer, or what stands for a line that
+// filled the buffer.
+#[derive(Clone, Copy)]
+pub enum Kept {
+    Bytes(usize),
+    Long(LongLine),
+}
+
+// The number of the line that is being read, what is kept of it, and how many bytes of the output the last piece printed.
 #[derive(Clone, Copy)]
 pub struct State {
     pub line: u64,
-    pub kept: usize,
-    pub full: bool,
-    pub long: LongLine,
+    pub kept: Kept,
     pub printed: usize,
 }

@@ -2,10 +2,9 @@
 ghost use Rattle.std.specs.Prelude.{◌≡◌, ◌≤◌, length};
 ghost use Rattle.pieces.specs.Inner.Feeding.{Begins, SomeTaken, LastServed, Finishes};
 
-use crate::between::State;
+use crate::between::{Kept, State};
 use crate::serving::serve_long;
 use host::lent::cg_open;
-use longlines::longline::LongLine;
 use program::serve::{serve_end, serve_line};
 
 // A fresh session, and no byte of the input yet.
@@ -16,9 +15,7 @@ pub fn start(image: &mut [u8]) -> State
     cg_open(image);
     State {
         line: 1,
-        kept: 0,
-        full: false,
-        long: LongLine::none(),
+        kept: Kept::Bytes(0),
         printed: 0,
     }
 }
@@ -28,14 +25,11 @@ pub fn serve_last(image: &mut [u8], buffer: &[u8], s: State, out: &mut [u8]) -> 
     requires { (length buffer.now ≡ 64) × (128 ≤ length out.old) × SomeTaken image.old buffer.now s }
     ensures { LastServed image.old buffer.now s image.new out.new result }
 {
-    if s.full {
-        return serve_long(image, s.long, s.line, out);
+    match s.kept {
+        Kept::Bytes(0) => 0,
+        Kept::Bytes(n) => serve_line(image, &buffer[..n], 0, s.line, out),
+        Kept::Long(l) => serve_long(image, l, s.line, out),
     }
-    let kept = s.kept;
-    if kept == 0 {
-        return 0;
-    }
-    serve_line(image, &buffer[..kept], 0, s.line, out)
 }
 
 // The same, and the listing after it.

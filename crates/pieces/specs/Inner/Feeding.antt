@@ -1,18 +1,25 @@
 -- What is kept between two reads, and what feeding a piece and ending give and leave.
 -- Assumes nothing.
-use Rattle.std.specs.Prelude.{ℕ, ◌+◌, ◌≤◌, ◌<◌, true, false, ◌≡◌, List, [], ◌++◌, length, take, drop}
+use Rattle.std.specs.Prelude.{ℕ, ◌+◌, ◌≤◌, ◌<◌, ◌≡◌, List, [], ◌++◌, length, take, drop}
 use Rattle.graph.specs.Sessions.{fresh}
 use Rattle.text.specs.Text.{up_to}
 use Rattle.longlines.specs.Inner.LongLines.{LongOf}
 use Rattle.valid.specs.Values.{encode}
 use Rattle.program.specs.Transcript.{lines_of, LineRun, Transcript}
 use Rattle.pieces.specs.Inner.Frames.{LinesTaken}
+use Rattle.pieces.specs.declared.between.Kept.{Kept}
+use Rattle.pieces.specs.declared.between.Kept.TheVariants.{Bytes, Long}
 use Rattle.pieces.specs.declared.between.State.{State}
 
--- what is kept of a line of which this part came: its bytes, less than 64; or what stands for 64 and more
-pub data KeptOf (s : State) (buffer part : List ℕ) : Type 0 where
-  bytes : s.full ≡ false → s.kept < 64 → take s.kept buffer ≡ part → KeptOf s buffer part
-  long : s.full ≡ true → s.kept ≡ 0 → LongOf part s.long → KeptOf s buffer part
+-- how many bytes are kept at the buffer's start
+abbrev pub bytes_kept : Kept → ℕ
+bytes_kept (Bytes n) = n
+bytes_kept (Long l) = 0
+
+-- this is kept of a line of which this part came: its bytes, less than 64; or what stands for 64 and more
+abbrev pub KeptOf : Kept → (buffer part : List ℕ) → Type 0
+KeptOf (Bytes n) buffer part = (n < 64) × (take n buffer ≡ part)
+KeptOf (Long l) buffer part = LongOf part l
 
 -- the lines of the input so far were served, from the image that opening writes on, and text is printed of them. Of the last line, a
 -- part without a newline, enough is kept
@@ -20,7 +27,7 @@ pub record InputTaken (input text image buffer : List ℕ) (s : State) : Type 0 
   pub part : List ℕ
   pub taken : LinesTaken (encode fresh) 1 input image s.line text part
   pub unended : up_to 10 part ≡ part
-  pub kept : KeptOf s buffer part
+  pub kept : KeptOf s.kept buffer part
 
 -- so of some input
 pub record SomeTaken (image buffer : List ℕ) (s : State) : Type 0 where
@@ -36,7 +43,7 @@ pub record Begins (image : List ℕ) (s : State) : Type 0 where
 
 -- the piece: so many bytes of the buffer behind what is kept
 abbrev pub piece_in : (buffer : List ℕ) → State → (got : ℕ) → List ℕ
-piece_in buffer s got = take got (drop s.kept buffer)
+piece_in buffer s got = take got (drop (bytes_kept s.kept) buffer)
 
 -- the bytes were served, the first line with the number n: what is printed of them stands behind `before` in the output, and of their
 -- last line, which has no newline, enough is kept
@@ -47,7 +54,7 @@ pub record BytesFed (image : List ℕ) (n : ℕ) (bytes before after left writte
   pub printed : take r.printed written ≡ before ++ text
   pub within : r.printed ≤ length written
   pub unended : up_to 10 part ≡ part
-  pub kept : KeptOf r left part
+  pub kept : KeptOf r.kept left part
 
 pub record Feeds (image buffer : List ℕ) (s : State) (got : ℕ) (after left written : List ℕ) (r : State) : Type 0 where
   pub taken :

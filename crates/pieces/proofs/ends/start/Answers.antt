@@ -10,7 +10,6 @@ use Rattle.graph.specs.Sessions.{fresh}
 use Rattle.valid.specs.Values.{encode}
 use Rattle.host.specs.Entries.{Called}
 use Rattle.pieces.specs.Inner.Frames.{LinesTaken}
-use Rattle.pieces.specs.Inner.Feeding.{bytes}
 use Rattle.pieces.proofs.InputLines.{taken_none}
 use Rattle.pieces.proofs.ends.start.Goals as goal
 
@@ -23,7 +22,7 @@ returns c =
         part = [];
         taken = subst (λ (x : List ℕ). LinesTaken (encode fresh) 1 [] x 1 [] []) new (taken_none (encode fresh) 1 []);
         unended = refl;
-        kept = bytes refl (omega arith) refl;
+        kept = (omega arith, refl);
       };
       first = refl;
     }

@@ -51,9 +51,6 @@ returns-then-n-got c =
     let a = (goal.at.returns-then-n-got c).After-part_to-n in
     (λ part clean o. long_more part c.args.buffer.now c.args.got _ (omega (arith, c.requires.0, c.requires.1)) (size a) c.if-n-got.true clean (c.go_on-l.ensures part o), omega arith)
 
-pub slice_bounds-serve_long-end : goal.slice_bounds-serve_long-end
-slice_bounds-serve_long-end c = omega (arith, c.requires.2)
-
 pub slice_bounds-serve_long-end-2 : goal.slice_bounds-serve_long-end-2
 slice_bounds-serve_long-end-2 c = sym (length-take-le 128 c.args.out.now (omega (arith, c.requires.2)))
 
