@@ -3,7 +3,7 @@ ghost use Rattle.std.specs.Prelude.{◌≡◌, ◌≤◌, length};
 ghost use Rattle.graph.specs.Refusals.{refused};
 ghost use Rattle.graph.specs.Refused.{refusal_number, answered};
 ghost use Rattle.cgtool.specs.Commands.{said, load_answer, page, nodes};
-ghost use Rattle.cgtool.specs.Inner.Outputs.{Within, answer_in, Says, SaysTo, Answers};
+ghost use Rattle.cgtool.specs.Inner.Outputs.{Within, status_number, answer_in, Says, SaysTo, Answers};
 
 use crate::commands::Asked;
 use graph::refusal::Refusal;
@@ -19,6 +19,15 @@ pub enum ExitStatus {
     Done = 0,
     Failed = 1,
     WrongArguments = 2,
+}
+
+impl ExitStatus {
+    // As the system gets it.
+    pub fn number(self) -> u8
+        ensures { result ≡ status_number self }
+    {
+        self as u8
+    }
 }
 
 // The first `length` bytes of the output are printed.

@@ -93,7 +93,7 @@ pub fn cgtool(rt: &(impl Env + Input + Print + Eprint)) -> i32
     let asked = asked_for(given, &verb[..v], &first[..f], &second[..s]);
     let said = answered(rt, asked, &mut out);
     if !write(rt, &out, said) {
-        return ExitStatus::Failed as i32;
+        return i32::from(ExitStatus::Failed.number());
     }
-    said.status as i32
+    i32::from(said.status.number())
 }

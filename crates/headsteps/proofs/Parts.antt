@@ -20,17 +20,32 @@ use Rattle.graph.proofs.KeyLaws.{listed_packed}
 use Rattle.flat.specs.Flat.{Tagged, Flat, flat}
 use Rattle.flat.specs.Inner.Nested.{nest, of_op}
 use Rattle.flat.specs.Inner.Queues.{labels_in}
-use Rattle.flat.specs.Inner.FlatSteps.{alter, map_from, no_op, no_node, open_as, with_op, with_queue, act_at, take_out, finish_place, hand_on}
-use Rattle.flat.proofs.Turns.{alter_length, map_from_next}
+use Rattle.flat.specs.Inner.FlatSteps.{alter, map_from, no_op, no_node, open_as, with_op, with_queue, act_at, take_out, finish_place, hand_on, first_in}
+use Rattle.flat.proofs.Turns.{alter_length, map_from_next, first_stop, first_next, first_end}
 use Rattle.flat.proofs.Facts.{labels_room}
 use Rattle.valid.specs.Inner.Decoded.{labels_of}
 use Rattle.state.specs.declared.nodes.Body.{Body}
 use Rattle.state.specs.declared.operation.Operation.{Operation}
-use Rattle.state.specs.Inner.Operations.{op_value, Carries}
+use Rattle.state.specs.Inner.Operations.{op_value, Carries, Bounded}
 use Rattle.state.specs.Inner.Results.{IsBody, node_with}
 use Rattle.state.specs.Inner.State.{flat_in, Shows, with_nodes, with_results}
 use Rattle.state.specs.Inner.ValidImage.{ValidImage}
 use Rattle.headsteps.specs.Inner.Heads.{body_value}
+use native.Mathlib.Omega.{arith}
+
+-- A SEARCH from h, which is at i
+abbrev pub Searched : (Tagged → Bool) → List Tagged → ℕ → ℕ → ℕ → Type 0
+Searched p q h e i = first_in p i e q ≡ first_in p h e q
+
+module _ (p : Tagged → Bool) (q : List Tagged) (h e : ℕ) (fits : e ≤ length q) (i : ℕ) (so : Searched p q h e i) where
+  pub found : i < e → p (get_or q i no_op) ≡ true → Bounded (first_in p h e q) e i
+  found l t = record { is = sym (first_stop p q e fits i no_op l t) ∙ so; within = omega arith }
+
+  pub passed : i < e → p (get_or q i no_op) ≡ false → Searched p q h e (i + 1)
+  passed l t = ap (λ (m : ℕ). first_in p m e q) (add-one i) ∙ sym (first_next p q e fits i no_op l t) ∙ so
+
+  pub ended : i ≡ e → Bounded (first_in p h e q) e e
+  ended z = record { is = sym (first_end p q e fits) ∙ ap (λ (m : ℕ). first_in p m e q) (sym z) ∙ so; within = omega arith }
 
 -- AN ACT
 -- a map holds what it held

@@ -31,14 +31,20 @@ fn rule_at(image: &[u8], k: u8, i: usize) -> TaskRule
     rule_of(is_fold, targets, k, k == 1)
 }
 
-// The first operation from h up to e that a step looks for, by its task rule at the station with key k; e where there is none.
+// The first operation from h up to e that a step looks for, by its task rule at the station with key k; e where there is none. It is
+// inlined, since what is sought is known where it is called.
+#[inline(always)]
 pub fn first_for(image: &[u8], sought: Sought, k: u8, h: usize, e: usize) -> usize
     requires { (Proper image.now) × (h ≤ e) × (e ≤ length (flat_in image.now).queue) × (NoAdds h e (flat_in image.now).queue) }
     ensures { Bounded (first_in (sought_at sought k) h e (flat_in image.now).queue) e result }
 {
-    (h..e)
-        .find(|&i| sought.includes(rule_at(image, k, i)))
-        .unwrap_or(e)
+    for i in h..e {
+        let rule = rule_at(image, k, i);
+        if sought.includes(rule) {
+            return i;
+        }
+    }
+    e
 }
 
 // The operation after it acted at a node: the node's key is struck, an all-call is marked.

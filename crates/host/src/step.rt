@@ -46,7 +46,7 @@ pub fn step_at(image: &mut [u8], frame: &[u8], at: usize) -> Result<LineTaken, R
 }
 
 // What a step line is answered.
-pub fn step_answer(s: Result<LineTaken, Refusal>) -> Result<u32, Refusal>
+pub fn step_answer<E>(s: Result<LineTaken, E>) -> Result<u32, E>
     ensures { result ≡ taken_answer s }
 {
     s.map(|_| 0)

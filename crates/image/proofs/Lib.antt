@@ -3,3 +3,4 @@ pub mod Regions
 pub mod Writers
 pub mod Whole
 pub mod Bytewise
+pub mod Moves

@@ -1,4 +1,5 @@
-// Bytes moved and cleared within a slice.
+// Bytes moved and cleared within a slice. They are moved by loops: what a host in C links calls no function for them, and at the end
+// of the records there are few.
 ghost use Rattle.std.specs.Prelude.{◌+◌, ◌≤◌, length};
 ghost use Rattle.image.specs.Inner.Moves.{MovedDown, MovedUp, Zeroed};
 
@@ -7,15 +8,19 @@ pub fn move_down(s: &mut [u8], at: usize, end: usize, by: usize)
     requires { (at + by ≤ end) × (end ≤ length s.old) }
     ensures { MovedDown at end by s.old s.new }
 {
-    s.copy_within(at + by..end, at);
+    for i in at..end - by {
+        s[i] = s[i + by];
+    }
 }
 
-// The bytes from at up to end move up to at + by.
+// The bytes from at up to end move up to at + by, the last first.
 pub fn move_up(s: &mut [u8], at: usize, end: usize, by: usize)
     requires { (at ≤ end) × (end + by ≤ length s.old) }
     ensures { MovedUp at end by s.old s.new }
 {
-    s.copy_within(at..end, at + by);
+    for i in (at..end).rev() {
+        s[i + by] = s[i];
+    }
 }
 
 pub fn clear(s: &mut [u8], from: usize, to: usize)

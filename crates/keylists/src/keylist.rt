@@ -26,7 +26,7 @@ pub fn is_key(v: u32) -> bool
 }
 
 // The array with `v` at `n`, where there is such a place and `v` may be a key.
-fn stored(mut key: [u8; 8], n: u8, v: u32) -> [u8; 8]
+pub fn store(mut key: [u8; 8], n: u8, v: u32) -> [u8; 8]
     ensures { n < 8 → v ≤ 64 → result ≡ set key n v }
 {
     if n < 8 && v <= 64 {
@@ -54,7 +54,7 @@ impl KeyList {
         ensures { (ts : List ℕ) → KeysOf ts self → KeysOf (ts ++ v ∷ []) result }
     {
         let key = self.key;
-        let key = stored(key, self.count, v);
+        let key = store(key, self.count, v);
         KeyList {
             count: self.count.saturating_add(1).min(9),
             latest: v,

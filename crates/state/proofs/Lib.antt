@@ -4,5 +4,4 @@ pub mod QueueRecords
 pub mod QueueHeld
 pub mod ResultLaws
 pub mod Serving
-pub mod Searching
 pub mod Working

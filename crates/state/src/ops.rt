@@ -92,7 +92,12 @@ pub fn first_at(image: &[u8], k: u8) -> usize
     ensures { result ≡ first_index (at_place k) (flat_in image.now).queue }
 {
     let n = total(image);
-    (0..n).find(|&i| place_at(image, i) == k).unwrap_or(n)
+    for i in 0..n {
+        if place_at(image, i) == k {
+            return i;
+        }
+    }
+    n
 }
 
 // The operation at i does not go on with a unit of station k.
@@ -109,7 +114,12 @@ pub fn unit_end(image: &[u8], k: u8, p: usize) -> usize
     ensures { Bounded (end_of k p (flat_in image.now).queue) (length (flat_in image.now).queue) result }
 {
     let n = total(image);
-    (p + 1..n).find(|&i| breaks_at(image, k, i)).unwrap_or(n)
+    for i in p + 1..n {
+        if breaks_at(image, k, i) {
+            return i;
+        }
+    }
+    n
 }
 
 fn put_record(image: &mut [u8], i: usize, r: OpRecord)

@@ -70,7 +70,12 @@ pub fn place_of(image: &[u8], label: u16) -> usize
     ensures { result ≡ place_of label (flat_in image.now).results }
 {
     let n = total(image);
-    (0..n).find(|&i| label < label_at(image, i)).unwrap_or(n)
+    for i in 0..n {
+        if label < label_at(image, i) {
+            return i;
+        }
+    }
+    n
 }
 
 // A result at its place by label.

@@ -7,7 +7,7 @@ use native.Mathlib.Omega.{arith}
 use native.Mathlib.Nat.{add_assoc, add-zero}
 use native.Mathlib.Numerals.{add-one}
 use lib.ListN.{length, take, drop, set, get_or, length-append, length-take, length-drop, take-append-drop, get_or-append}
-use lib.Seq.{set_split, get_or-take, get_or-drop, get_or-append-add, take_at, length-take-le, drop-append-add, drop-drop}
+use lib.Seq.{set_split, get_or-take, get_or-drop, get_or-append-add, take_at, length-take-le, drop-append-add, take-suc, drop-drop, take_all}
 use borrow.Rule.Slice.PartMut.{put_mid}
 use Rattle.text.specs.Text.{pasted, decimal}
 use Rattle.text.specs.Inner.Put.{TextPut}
@@ -108,6 +108,19 @@ unfolding pasted
 copied s at literal part e =
     let k : at + length literal - at ≡ length literal = omega arith in
     record { place = refl; bytes = rw (e, k) (ap (λ (r : List ℕ). take at s ++ (literal ++ r)) (drop-drop (length literal) at s)) }
+
+-- ---- a copy: the first i bytes of the literal are written
+
+module _ (s : List ℕ) (at : ℕ) (literal out : List ℕ) (i : ℕ) (fits : at + length literal ≤ length s) (w : TextPut s at (take i literal) out (at + i)) where
+  pub copy_more : i < length literal → length out ≡ length s → TextPut s at (take (i + 1) literal) (set out (at + i) (get_or literal i 0)) (at + (i + 1))
+  copy_more h e =
+      let t : take (i + 1) literal ≡ take i literal ++ (get_or literal i 0 ∷ []) = rw add-one (take-suc literal i 0 h) in
+      let l : length (take i literal) ≡ i = length-take-le i literal (omega arith) in
+      let r = written_then w (written_one out (at + i) (get_or literal i 0) (omega arith)) (omega (arith, length-append (take i literal) (get_or literal i 0 ∷ []))) in
+      rw t (record { place = omega (arith, r.place); bytes = r.bytes })
+
+  pub copy_all : length literal ≤ i → TextPut s at literal out (at + i)
+  copy_all h = rw (take_all i literal h) at w
 
 -- ---- a decimal, digit by digit
 

@@ -21,9 +21,10 @@ pub record DrainCounted (c : Counts) (ts : List Step) : Type 0 where
   pub works : quoted_steps ts ≡ length ts
 
 -- the host's answer: the refusal, or 0
-abbrev pub taken_answer : Result LineTaken Refusal → Result ℕ Refusal
-taken_answer (Err r) = Err r
-taken_answer (Ok t) = Ok 0
+module _ {E : Type 0} where
+  abbrev pub taken_answer : Result LineTaken E → Result ℕ E
+  taken_answer (Err r) = Err r
+  taken_answer (Ok t) = Ok 0
 
 -- r is taken of the line, with this image after it
 abbrev pub Takes : (image line : List ℕ) → Result LineTaken Refusal → (after : List ℕ) → Type 0

@@ -9,4 +9,4 @@ use Rattle.keylists.proofs.keylist.KeyList.with.Goals as goal
 pub returns : goal.returns
 returns c = λ ts p.
     let k = c.args.self in
-    keys_more ts c.args.v k _ p (omega (arith, p.count)) refl (ap (λ (b : Bool). k.keys && b) c.is_key.ensures) refl c.stored-key.ensures
+    keys_more ts c.args.v k _ p (omega (arith, p.count)) refl (ap (λ (b : Bool). k.keys && b) c.is_key.ensures) refl c.store-key.ensures
