@@ -1,7 +1,7 @@
 // What an operation has yet to act at: listed keys, or all nodes (`to=all`).
 ghost use Rattle.std.specs.Prelude.{◌≡◌, cond};
 ghost use Rattle.graph.specs.Targets.{these, all, reaches, struck, none_left, left_of, disjoint_targets, same_targets};
-ghost use Rattle.graph.specs.Packed.{listed, packed, told, targets_in, packed_targets};
+ghost use Rattle.graph.specs.Packed.{listed, packed, from_fields, targets_in, packed_targets};
 
 use crate::keys::Keys;
 
@@ -14,8 +14,8 @@ pub enum Remaining {
 
 impl Remaining {
     // What three fields say: all nodes, where the first says so, done or not; else the keys, and then nothing is done.
-    pub fn told(over_all: bool, done: bool, keys: Keys) -> Self
-        ensures fields { result ≡ told over_all done keys }
+    pub fn from_fields(over_all: bool, done: bool, keys: Keys) -> Self
+        ensures fields { result ≡ from_fields over_all done keys }
         ensures targets { targets_in result ≡ cond over_all (all done) (these (listed keys)) }
     {
         if over_all {

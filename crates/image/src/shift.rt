@@ -1,5 +1,4 @@
-// Bytes moved and cleared within a slice. They are moved by loops: what a host in C links calls no function for them, and at the end
-// of the records there are few.
+// Bytes moved and cleared within a slice.
 ghost use Rattle.std.specs.Prelude.{◌+◌, ◌≤◌, length};
 ghost use Rattle.image.specs.Inner.Moves.{MovedDown, MovedUp, Zeroed};
 

@@ -12,9 +12,9 @@ answer_number (done n) = pos n
 answer_number (refused n) = neg_ℤ (pos n)
 
 -- a number as it is, or a refusal's, whichever number that is
-abbrev pub either : Result ℕ ℕ → Answer ℕ
-either (Ok n) = done n
-either (Err n) = refused n
+abbrev pub answer_in_numbers : Result ℕ ℕ → Answer ℕ
+answer_in_numbers (Ok n) = done n
+answer_in_numbers (Err n) = refused n
 
 abbrev pub returned_number : Result ℕ Refusal → ℤ
 returned_number a = answer_number (answered (λ n. n) a)

@@ -93,7 +93,7 @@ pub fn fields_of(act: Act, held: u32) -> ActFields
 pub fn remaining_of(r: OpRecord) -> Remaining
     ensures { result ≡ remaining_of r }
 {
-    Remaining::told(r.all == 1, r.mark == 1, r.targets)
+    Remaining::from_fields(r.all == 1, r.mark == 1, r.targets)
 }
 
 // What is written of the targets that remain: the keys listed, and a byte each for all and for the mark.

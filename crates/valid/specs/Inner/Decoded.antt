@@ -5,8 +5,7 @@ use Rattle.graph.specs.declared.act.Act.{Act}
 use Rattle.graph.specs.declared.act.Act.TheVariants.{Map, Link, Unlink, Sum, Top, Pick, Near}
 use Rattle.graph.specs.declared.keys.Keys.{Keys}
 use Rattle.graph.specs.declared.remaining.Remaining.{Remaining}
-use Rattle.graph.specs.declared.remaining.Remaining.TheVariants.{All, Listed}
-use Rattle.graph.specs.Packed.{listed, targets_in}
+use Rattle.graph.specs.Packed.{listed, from_fields, targets_in}
 use Rattle.graph.specs.Nodes.{Node, Result}
 use Rattle.graph.specs.OneAtATime.{Labelled, add_of, op_of}
 use Rattle.graph.specs.Sessions.{Session}
@@ -39,7 +38,7 @@ held_of kind b = cond (eqb kind 1) 0 b
 
 -- the targets that remain, as the enum of graph/src/remaining.rt holds them
 abbrev pub read_targets : Keys → ℕ → ℕ → Remaining
-read_targets keys all mark = cond (eqb all 1) (All (eqb mark 1)) (Listed keys)
+read_targets keys all mark = from_fields (eqb all 1) (eqb mark 1) keys
 
 abbrev pub remaining_of : OpRecord → Remaining
 remaining_of o = read_targets o.targets o.all o.mark
