@@ -70,8 +70,9 @@ pub fn act_at(image: &mut [u8], k: u8, p: usize)
     let n = nodes::body_at(image, i);
     let value = act::value_after(o.act, n.value);
     let links = act::links_after(o.act, n.links);
+    let after = acted(o, n);
     nodes::put_body(image, i, value, links);
-    ops::put_operation(image, p, acted(o, n));
+    ops::put_operation(image, p, after);
 }
 
 // The unit from h up to e goes to the next station's tail: in the queue only its place changes, and marks are cleared.

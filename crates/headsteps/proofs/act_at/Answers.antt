@@ -15,4 +15,4 @@ returns c =
     let o = c.operation_at-o in
     let n = c.body_at-n in
     act_shown (flat_in c.args.image.now) c.args.k c.args.p o.result n.result o.ensures (rw c.from-i.ensures at n.ensures)
-    _ _ _ _ _ c.value_after-value.ensures c.links_after-links.ensures (rw c.from-i.ensures at c.put_body.ensures) c.acted.ensures c.put_operation.ensures
+    _ _ _ _ _ c.value_after-value.ensures c.links_after-links.ensures (rw c.from-i.ensures at c.put_body.ensures) c.acted-after.ensures c.put_operation.ensures
