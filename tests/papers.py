@@ -62,11 +62,13 @@ def outside():
 
 
 def paths():
-    """The paths that a page names, from the repository's top, from crates/ or from the page's own place. docs/PORT.md tells of files that are gone."""
+    """The paths that a page names, from the repository's top, from crates/ or from the page's own place; at a line's start, after a
+    crate and a comma, from that crate. docs/PORT.md tells of files that are gone."""
     for page in pages():
         if page == TOP / "docs/PORT.md":
             continue
         text = re.sub(r"https?://\S+", "", page.read_text())
+        text = re.sub(r"^(\w+), (src/\S+), ", r"crates/\1/\2, ", text, flags=re.M)
         for path in sorted(set(PATH.findall(text)) | set(re.findall(r"\]\(([\w./-]+)\)", text))):
             if not any((place / path).exists() for place in (TOP, TOP / "crates", page.parent)):
                 yield f"{page.relative_to(TOP)}: {path}"
